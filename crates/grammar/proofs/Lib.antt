@@ -1,0 +1,9 @@
+pub mod Theorems
+pub mod Equations
+pub mod Levels
+pub mod Examples
+pub mod Computed
+pub mod Specimens
+pub mod WorkedExample
+pub mod Decided
+pub mod Printed

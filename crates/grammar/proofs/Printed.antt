@@ -1,0 +1,48 @@
+-- Expressions as the resolved text prints them (document 01, Resolved text; docs/DECISIONS.md, D54): the fewest parentheses, by computation.
+-- Assumes nothing.
+use mathlib.Core.Path.{_≡_, refl}
+use mathlib.Core.List.{List, [], _∷_, _++_, map}
+use Prim.Native.Nat.{ℕ}
+use Prim.Native.String.{String}
+use Rattle.lex.specs.Lexemes.{bytes}
+use Rattle.grammar.proofs.Computed.{textRead}
+use Rattle.grammar.proofs.Decided.{framed-bytes}
+
+-- an expression as a source writes it, and as its resolved text does
+pub record Printing : Type 0 where
+  pub written : String
+  pub printed : String
+
+infix 68 _becomes_
+abbrev _becomes_ : String → String → Printing
+a becomes b = record { written = a; printed = b }
+
+unfoldable pub printings : List Printing
+printings =
+    "1-(2-3)" becomes "1 - ( 2 - 3 )"
+    ∷ "(1-2)-3" becomes "1 - 2 - 3"
+    ∷ "(1==2)!=3" becomes "1 == 2 != 3"
+    ∷ "1<(2<=3)" becomes "1 < ( 2 <= 3 )"
+    ∷ "(1 OR 2)AND 3" becomes "( 1 OR 2 ) AND 3"
+    ∷ "1+(NOT 2)" becomes "1 + NOT 2"
+    ∷ "NOT(NOT 1)" becomes "NOT NOT 1"
+    ∷ "NOT((1))" becomes "NOT 1"
+    ∷ "NOT(1|2)" becomes "NOT ( 1 | 2 )"
+    ∷ "((1*2))+3" becomes "1 * 2 + 3"
+    ∷ "1*(2%3)" becomes "1 * ( 2 % 3 )"
+    ∷ "1 AND(2 AND 3)" becomes "1 AND ( 2 AND 3 )"
+    ∷ "ruleref(A)<<0x10>>(ZERO&ONES)" becomes "ruleref ( R1 ) << 16 >> ( ZERO & ONES )"
+    ∷ []
+
+-- the expression of the only rule
+abbrev source : String → List ℕ
+source e = framed-bytes (bytes "rule A," ++ (bytes e ++ bytes " endrule;"))
+
+abbrev resolved : String → List ℕ
+resolved e =
+    bytes "formset guid = { 0x00000001 , 0x0002 , 0x0003 , { 0x04 , 0x05 , 0x06 , 0x07 , 0x08 , 0x09 , 0x0a , 0x0b } } , title = STRING_TOKEN ( 2 ) , help = STRING_TOKEN ( 3 ) , form formid = 1 , title = STRING_TOKEN ( 4 ) ;\n"
+    ++ (bytes "rule R1 , " ++ (bytes e ++ bytes " endrule ;\nendform ;\nendformset ;\n"))
+
+pub printed-as-decided : map (λ x. textRead (source (x .written))) printings ≡ map (λ x. resolved (x .printed)) printings
+unfolding printings textRead
+printed-as-decided = refl

@@ -1,0 +1,17 @@
+pub mod Rules
+pub mod Notation
+pub mod Grammar
+pub mod Lookahead
+pub mod Levels
+pub mod Derivation
+pub mod Reading
+pub mod Source
+pub mod Parts
+pub mod Expression
+pub mod Rows
+pub mod Ranges
+pub mod Stages
+pub mod Drafts
+pub mod Answer
+pub mod Text
+pub mod Resolution

@@ -1,0 +1,11 @@
+pub mod Lists
+pub mod Steps
+pub mod Comments
+pub mod WordTable
+pub mod Missed
+pub mod WordParts
+pub mod ValueLaws
+pub mod Equality
+pub mod Cases
+pub mod Progress
+pub mod TokenList

@@ -1,0 +1,106 @@
+-- The tokens of a source are the token at a place and, where it has bytes, the tokens from its end on.
+-- Assumes nothing.
+use mathlib.Core.Path.{_≡_, refl, sym, ap, _∙_}
+use mathlib.Core.Bool.{Bool, true, false, cond}
+use mathlib.Core.List.{List, [], _∷_}
+use Prim.Native.Nat.{ℕ, zero, suc, _+_, _-_, _≤_, _<_, zero-le, suc-le-suc}
+use native.Mathlib.Nat.{add-zero, le-of-suc-le-suc}
+use native.Mathlib.Omega.{arith}
+use lib.Dec.{eqb, ltb}
+use lib.ListN.{length, drop, length-drop}
+use lib.Seq.{drop-drop}
+use borrow.Author.Tests.{eq-eqb, ne-eqb, lt-ltb, le-ltb, ltb-true, ltb-false}
+use Rattle.lex.specs.declared.Token.{Token}
+use Rattle.lex.specs.declared.Found.{Found}
+use Rattle.lex.specs.declared.Found.the-variants.{At, Nothing}
+use Rattle.lex.specs.Classes.{BAD, END}
+use Rattle.lex.specs.Tokens.{gap, tokenFrom, tokenAfterGap, tokenAt, tokensWithin, tokensFrom, tokens, badAmong, firstBad}
+use Rattle.lex.proofs.Lists.{either, from-end}
+use Rattle.lex.proofs.Progress.{Moves, moves, past, after-moves}
+
+-- any number of tokens above the number of bytes is enough
+enough : (n m : ℕ) (s : List ℕ) (at : ℕ) → length s < n → length s < m → tokensWithin n s at ≡ tokensWithin m s at
+unfolding tokensWithin
+enough zero m s at h l = absurd (omega arith)
+enough (suc n) zero s at h l = absurd (omega arith)
+enough (suc n) (suc m) s at h l =
+    let t = tokenAfterGap s at in
+    either (ltb (t .class) BAD)
+    (λ e.
+    let k = t .end - at in
+    let moved = after-moves s at (ltb-true (t .class) BAD e) in
+    let size = length-drop k s in
+    rw e (ap (_∷_ t) (enough n m (drop k s) (t .end) (omega arith) (omega arith))))
+    (λ e. rw e)
+
+after-gap : (s : List ℕ) (at : ℕ) → at ≤ length s → tokenAfterGap (drop at s) at ≡ tokenAt s at
+unfolding tokenAt tokenAfterGap tokenFrom gap
+after-gap s at h =
+    either (ltb at (length s))
+    (λ e. rw e)
+    (λ e.
+    let h′ = ltb-false at (length s) e in
+    let is-end : at ≡ length s = omega arith in
+    rw (e, from-end s at h′, add-zero, is-end))
+
+within-step : (n : ℕ) (s : List ℕ) (at : ℕ) → let t = tokenAfterGap s at in tokensWithin (suc n) s at ≡ t ∷ cond (ltb (t .class) BAD) (tokensWithin n (drop (t .end - at) s) (t .end)) []
+unfolding tokensWithin
+within-step n s at = either (ltb (tokenAfterGap s at .class) BAD) (λ e. rw e) (λ e. rw e)
+
+module _ (s : List ℕ) (at : ℕ) (inside : at ≤ length s) where
+  abbrev t : Token
+  t = tokenAt s at
+
+  from-step : tokensFrom s at ≡ t ∷ cond (ltb (t .class) BAD) (tokensWithin (length s) (drop (t .end - at) (drop at s)) (t .end)) []
+  unfolding tokensFrom
+  from-step = rw (after-gap s at inside) at (within-step (length s) (drop at s) at)
+
+  rest : t .class < BAD → tokensWithin (length s) (drop (t .end - at) (drop at s)) (t .end) ≡ tokensFrom s (t .end)
+  unfolding tokensFrom
+  rest h =
+      let moved = moves s at h in
+      let place : at + (t .end - at) ≡ t .end = omega arith in
+      let size = length-drop (t .end) s in
+      rw (drop-drop, place) (enough (length s) (suc (length s)) (drop (t .end) s) (t .end) (omega arith) (omega arith))
+
+  pub unfolded : tokensFrom s at ≡ t ∷ cond (ltb (t .class) BAD) (tokensFrom s (t .end)) []
+  unfolded =
+      either (ltb (t .class) BAD)
+      (λ e. rw (from-step, e) (ap (_∷_ t) (rest (ltb-true (t .class) BAD e))))
+      (λ e. rw (from-step, e))
+
+  -- the place of the first bad token from here on
+  pub bad-here : t .class ≡ BAD → badAmong (tokensFrom s at) ≡ At (t .start)
+  unfolding badAmong
+  bad-here h = rw (unfolded, eq-eqb (t .class) BAD h)
+
+  pub bad-none : t .class ≡ END → badAmong (tokensFrom s at) ≡ Nothing
+  unfolding badAmong
+  bad-none h = rw (unfolded, h)
+
+  pub bad-later : t .class < BAD → badAmong (tokensFrom s at) ≡ badAmong (tokensFrom s (t .end))
+  unfolding badAmong
+  bad-later h = rw (unfolded, lt-ltb (t .class) BAD h, ne-eqb (t .class) BAD (λ e. omega arith))
+
+-- there are at most as many tokens as bytes, and the end
+within-count : (n : ℕ) (s : List ℕ) (at : ℕ) → length (tokensWithin n s at) ≤ n
+unfolding tokensWithin
+within-count zero s at = zero-le
+within-count (suc n) s at =
+    let t = tokenAfterGap s at in
+    either (ltb (t .class) BAD)
+    (λ e. rw e (suc-le-suc (within-count n (drop (t .end - at) s) (t .end))))
+    (λ e. rw e (omega arith))
+
+pub count : (s : List ℕ) (at : ℕ) → length (tokensFrom s at) ≤ length s + 1
+unfolding tokensFrom
+count s at = omega (arith, within-count (suc (length s)) (drop at s) at)
+
+-- the tokens of the whole source
+pub tokens-from : (s : List ℕ) → tokens s ≡ tokensFrom s 0
+unfolding tokens
+tokens-from s = refl
+
+pub first-bad-from : (s : List ℕ) → firstBad s ≡ badAmong (tokensFrom s 0)
+unfolding firstBad tokens
+first-bad-from s = refl

@@ -1,0 +1,26 @@
+-- `lex::gaps::starts_comment` meets its contract.
+use mathlib.Core.Path.{_≡_}
+use Prim.Native.Nat.{ℕ}
+use lib.ListN.{List·getD-eq-default}
+use borrow.Author.Needs.{needs}
+use Rattle.lex.proofs.gaps.starts_comment.Statement.{statement}
+use Rattle.lex.proofs.gaps.starts_comment.Tie as tie
+
+shared-slice-read-result : tie.Need-shared-slice-read-result
+shared-slice-read-result c = search needs
+
+add-byte-at : tie.Need-add-byte-at
+add-byte-at c = search needs
+
+byte-at-requires : tie.Need-byte-at-requires
+byte-at-requires c κs = search needs
+
+returns : tie.Need-returns
+returns c = rw (c .byte-at .ensures)
+
+returns-2 : tie.Need-returns-2
+returns-2 c = rw (List·getD-eq-default (c .before .before .args .src .now) 0 (c .if1 .left))
+
+pub starts-comment-spec : {M : Type 1} → statement M
+starts-comment-spec =
+    tie.close (tie.spec shared-slice-read-result add-byte-at byte-at-requires returns returns-2)

@@ -1,0 +1,43 @@
+-- `lex::reserved::short_class` meets its contract: the table of each length is the one that the reserved words give.
+use mathlib.Core.Path.{_∙_, refl, sym, ap}
+use mathlib.Core.List.{[], _∷_}
+use Prim.Native.Nat.{ℕ, _+_}
+use lib.Dec.{ltb}
+use lib.ListN.{length}
+use borrow.Author.Tests.{le-ltb}
+use Rattle.lex.specs.Classes.{SIGNS}
+use Rattle.lex.specs.Lexemes.{reserved}
+use Rattle.lex.specs.Lookup.{tableOf, classesOf}
+use Rattle.lex.proofs.Missed.{length-missed}
+use Rattle.lex.proofs.WordTable.{reserved-place}
+use Rattle.lex.proofs.reserved.short_class.Statement.{statement}
+use Rattle.lex.proofs.reserved.short_class.Tie as tie
+
+pub short-class-spec : {M : Type 1} → statement M
+unfolding reserved tableOf classesOf
+short-class-spec =
+    tie.close
+    (tie.spec
+    (λ _. refl)
+    (λ _. refl)
+    (λ c _. rw (c .before .before .match .keys1))
+    (λ _. refl)
+    (λ _. refl)
+    (λ c _. rw (c .before .before .match .keys2))
+    (λ _. refl)
+    (λ _. refl)
+    (λ c _. rw (c .before .before .match .keys3))
+    (λ _. refl)
+    (λ _. refl)
+    (λ c _. rw (c .before .before .match .keys4))
+    (λ _. refl)
+    (λ _. refl)
+    (λ c _. rw (c .before .before .match .keys5))
+    (λ c. c .find .ensures ∙ reserved-place 2 (c .before .before .before .before .before .args .w .now) (c .before .before .before .match .keys1))
+    (λ c. c .find2 .ensures ∙ reserved-place 3 (c .before .before .before .before .before .args .w .now) (c .before .before .before .match .keys2))
+    (λ c. c .find3 .ensures ∙ reserved-place 4 (c .before .before .before .before .before .args .w .now) (c .before .before .before .match .keys3))
+    (λ c. c .find4 .ensures ∙ reserved-place 5 (c .before .before .before .before .before .args .w .now) (c .before .before .before .match .keys4))
+    (λ c. c .find5 .ensures ∙ reserved-place 6 (c .before .before .before .before .before .args .w .now) (c .before .before .before .match .keys5))
+    (λ c.
+    let w = c .before .before .args .w .now in
+    ap (λ (k : ℕ). SIGNS + k) (sym (length-missed (ltb 6) w (2 ∷ 3 ∷ 4 ∷ 5 ∷ 6 ∷ []) reserved refl (le-ltb 6 (length w) (c .before .before .pre)) (c .match .rest)))))

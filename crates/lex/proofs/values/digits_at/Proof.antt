@@ -1,0 +1,32 @@
+-- `lex::values::digits_at` meets its contract.
+use native.Mathlib.Omega.{arith}
+use lib.ListN.{drop}
+use Rattle.lex.specs.Numbers.{digitsAt}
+use Rattle.lex.proofs.WordParts.{word-length}
+use borrow.Author.Needs.{needs}
+use Rattle.lex.proofs.values.digits_at.Statement.{statement}
+use Rattle.lex.proofs.values.digits_at.Tie as tie
+
+word-end-requires : tie.Need-word-end-requires
+word-end-requires c κs = search needs
+
+sub-if1 : tie.Need-sub-if1
+sub-if1 c = search needs
+
+returns : tie.Need-returns
+unfolding digitsAt
+returns c = omega (arith, word-length (drop (c .before .before .before .args .at) (c .before .before .before .args .src .now)))
+
+sub-result : tie.Need-sub-result
+sub-result c = search needs
+
+sub-result-2 : tie.Need-sub-result-2
+sub-result-2 c = search needs
+
+returns-2 : tie.Need-returns-2
+unfolding digitsAt
+returns-2 c = omega (arith, word-length (drop (c .before .before .before .args .at) (c .before .before .before .args .src .now)))
+
+pub digits-at-spec : {M : Type 1} → statement M
+digits-at-spec =
+    tie.close (tie.spec word-end-requires sub-if1 returns sub-result sub-result-2 returns-2)

@@ -1,0 +1,94 @@
+-- `lex::values::value_in` meets its contract. The loop's invariant: the value so far fits, and with the digits from here on it is the whole value.
+use native.Mathlib.Omega.{arith}
+use mathlib.Core.Path.{_≡_, sym, ap, _∙_}
+use Prim.Native.Nat.{_+_, _-_, _*_, _^_, _≤_, _<_}
+use lib.ListN.{length, getD, drop}
+use Rattle.lex.specs.Numbers.{digitValue, valueFrom, fitted}
+use Rattle.lex.proofs.ValueLaws.{fitted-fits, fitted-large, product-fits, product-large, value-end, value-large, value-next}
+use borrow.Author.Needs.{needs}
+use Rattle.lex.proofs.values.value_in.Statement.{statement}
+use Rattle.lex.proofs.values.value_in.Tie as tie
+
+abbrev Inv-loop : tie.InvT-loop
+Inv-loop w base limit value₀ i₀ value i = (value < 2 ^ 64) × (valueFrom base 0 w ≡ valueFrom base value (drop i w))
+
+abbrev μ-loop : tie.MeasureT-loop
+μ-loop w base limit value₀ i₀ value i = length w - i
+
+loop-holds : tie.Need-loop-holds Inv-loop μ-loop
+loop-holds c = search needs
+
+shared-slice-read-digit-value : tie.Need-shared-slice-read-digit-value Inv-loop μ-loop
+shared-slice-read-digit-value c = search needs
+
+digit-value-requires : tie.Need-digit-value-requires Inv-loop μ-loop
+digit-value-requires c κs = search needs
+
+wide-requires : tie.Need-wide-requires Inv-loop μ-loop
+wide-requires c κs = search needs
+
+returns : tie.Need-returns Inv-loop μ-loop
+returns c =
+    let base = c .before .before .before .before .before .before .before .args .base in
+    let w = c .before .before .before .before .before .before .before .args .w .now in
+    let i = c .before .before .before .before .before .loop .i in
+    let v = c .before .before .before .before .before .loop .value in
+    let d = c .before .wide .result in
+    let is-d : d ≡ digitValue (getD w i 0) = c .before .wide .ensures ∙ c .before .before .digit-value .ensures in
+    let large = product-large base (c .before .before .before .before .before .before .before .args .limit) v (c .before .before .before .before .before .before .before .pre .2) (c .if1 .taken) in
+    sym (ap fitted (c .before .before .before .before .before .loop .inv .1) ∙ fitted-large _ (value-large base v w i d (c .before .before .before .before .before .before .before .pre .0) is-d (omega arith) (omega arith)))
+
+mul-product : tie.Need-mul-product Inv-loop μ-loop
+mul-product c = record { fits = product-fits (c .before .before .before .before .before .before .before .args .base) (c .before .before .before .before .before .before .before .args .limit) (c .before .before .before .before .before .loop .value) (c .before .before .before .before .before .before .before .pre .1) (c .if1 .left) }
+
+sub-if2 : tie.Need-sub-if2 Inv-loop μ-loop
+sub-if2 c = omega (arith, product-fits (c .before .before .before .before .before .before .before .args .base) (c .before .before .before .before .before .before .before .args .limit) (c .before .before .before .before .before .loop .value) (c .before .before .before .before .before .before .before .pre .1) (c .if1 .left))
+
+returns-2 : tie.Need-returns-2 Inv-loop μ-loop
+returns-2 c =
+    let base = c .before .before .before .before .before .before .before .before .args .base in
+    let w = c .before .before .before .before .before .before .before .before .args .w .now in
+    let i = c .before .before .before .before .before .before .loop .i in
+    let v = c .before .before .before .before .before .before .loop .value in
+    let d = c .before .before .wide .result in
+    let is-d : d ≡ digitValue (getD w i 0) = c .before .before .wide .ensures ∙ c .before .before .before .digit-value .ensures in
+    sym (ap fitted (c .before .before .before .before .before .before .loop .inv .1) ∙ fitted-large _ (value-large base v w i d (c .before .before .before .before .before .before .before .before .pre .0) is-d (omega arith) (omega arith)))
+
+add-value : tie.Need-add-value Inv-loop μ-loop
+add-value c = omega (arith, product-fits (c .before .before .before .before .before .before .before .before .args .base) (c .before .before .before .before .before .before .before .before .args .limit) (c .before .before .before .before .before .before .loop .value) (c .before .before .before .before .before .before .before .before .pre .1) (c .before .if1 .left))
+
+add-i : tie.Need-add-i Inv-loop μ-loop
+add-i c = search needs
+
+loop-less : tie.Need-loop-less Inv-loop μ-loop
+loop-less c = search needs
+
+loop-again : tie.Need-loop-again Inv-loop μ-loop
+loop-again c =
+    let w = c .before .before .before .before .before .before .before .before .args .w .now in
+    let is-d : c .before .before .wide .result ≡ digitValue (getD w (c .before .before .before .before .before .before .loop .i) 0) = c .before .before .wide .ensures ∙ c .before .before .before .digit-value .ensures in
+    let fits = product-fits (c .before .before .before .before .before .before .before .before .args .base) (c .before .before .before .before .before .before .before .before .args .limit) (c .before .before .before .before .before .before .loop .value) (c .before .before .before .before .before .before .before .before .pre .1) (c .before .if1 .left) in
+    (omega arith, c .before .before .before .before .before .before .loop .inv .1 ∙ value-next (c .before .before .before .before .before .before .before .before .args .base) (c .before .before .before .before .before .before .loop .value) w (c .before .before .before .before .before .before .loop .i) _ is-d (omega arith))
+
+returns-3 : tie.Need-returns-3 Inv-loop μ-loop
+returns-3 c = sym (ap fitted (c .before .loop .inv .1 ∙ value-end (c .before .before .before .args .base) (c .before .loop .value) (c .before .before .before .args .w .now) (c .before .loop .i) (omega arith)) ∙ fitted-fits (c .before .loop .value) (c .before .loop .inv .0))
+
+pub value-in-spec : {M : Type 1} → statement M
+value-in-spec =
+    tie.close
+    (tie.spec
+    Inv-loop
+    μ-loop
+    loop-holds
+    shared-slice-read-digit-value
+    digit-value-requires
+    wide-requires
+    returns
+    mul-product
+    sub-if2
+    returns-2
+    add-value
+    add-i
+    loop-less
+    loop-again
+    returns-3)

@@ -1,0 +1,56 @@
+-- `lex::words::all_hex_digits` meets its contract. The loop's invariant: the answer is the same from here as from the start.
+use native.Mathlib.Omega.{arith}
+use mathlib.Core.Path.{_≡_, sym, _∙_}
+use Prim.Native.Nat.{_-_}
+use lib.ListN.{length, drop}
+use Rattle.lex.specs.Bytes.{isHexDigit}
+use Rattle.lex.specs.Tokens.{all}
+use Rattle.lex.proofs.Steps.{all-end, all-no, all-yes}
+use borrow.Author.Needs.{needs}
+use Rattle.lex.proofs.words.all_hex_digits.Statement.{statement}
+use Rattle.lex.proofs.words.all_hex_digits.Tie as tie
+
+abbrev Inv-loop : tie.InvT-loop
+Inv-loop w i₀ i = all isHexDigit w ≡ all isHexDigit (drop i w)
+
+abbrev μ-loop : tie.MeasureT-loop
+μ-loop w i₀ i = length w - i
+
+loop-holds : tie.Need-loop-holds Inv-loop μ-loop
+loop-holds c = search needs
+
+shared-slice-read-is-hex-digit : tie.Need-shared-slice-read-is-hex-digit Inv-loop μ-loop
+shared-slice-read-is-hex-digit c = search needs
+
+is-hex-digit-requires : tie.Need-is-hex-digit-requires Inv-loop μ-loop
+is-hex-digit-requires c κs = search needs
+
+add-i : tie.Need-add-i Inv-loop μ-loop
+add-i c = search needs
+
+loop-less : tie.Need-loop-less Inv-loop μ-loop
+loop-less c = search needs
+
+loop-again : tie.Need-loop-again Inv-loop μ-loop
+loop-again c = c .before .before .before .before .loop .inv ∙ all-yes isHexDigit (c .before .before .before .before .before .before .args .w .now) (c .before .before .before .before .loop .i) (omega arith) (sym (c .before .is-hex-digit .ensures) ∙ c .if1 .taken)
+
+returns : tie.Need-returns Inv-loop μ-loop
+returns c = sym (c .before .before .before .before .loop .inv ∙ all-no isHexDigit (c .before .before .before .before .before .before .args .w .now) (c .before .before .before .before .loop .i) (omega arith) (sym (c .before .is-hex-digit .ensures) ∙ c .if1 .left))
+
+returns-2 : tie.Need-returns-2 Inv-loop μ-loop
+returns-2 c = sym (c .before .loop .inv ∙ all-end isHexDigit (c .before .before .before .args .w .now) (c .before .loop .i) (omega arith))
+
+pub all-hex-digits-spec : {M : Type 1} → statement M
+all-hex-digits-spec =
+    tie.close
+    (tie.spec
+    Inv-loop
+    μ-loop
+    loop-holds
+    shared-slice-read-is-hex-digit
+    is-hex-digit-requires
+    add-i
+    loop-less
+    loop-again
+    returns
+    returns-2)

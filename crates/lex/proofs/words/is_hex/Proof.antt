@@ -1,0 +1,60 @@
+-- `lex::words::is_hex` meets its contract.
+use mathlib.Core.Path.{_≡_, ap, _∙_}
+use borrow.Author.Tests.{lt-ltb, le-ltb, eq-eqb, ne-eqb}
+use Rattle.lex.specs.Bytes.{isHexDigit}
+use Rattle.lex.specs.Tokens.{isHex, all}
+use Rattle.lex.proofs.Lists.{rest-part}
+use borrow.Author.Needs.{needs}
+use Rattle.lex.proofs.words.is_hex.Statement.{statement}
+use Rattle.lex.proofs.words.is_hex.Tie as tie
+
+returns : tie.Need-returns
+unfolding isHex
+returns c = rw (le-ltb _ _ (c .if1 .taken))
+
+shared-slice-read-if2 : tie.Need-shared-slice-read-if2
+shared-slice-read-if2 c = search needs
+
+returns-2 : tie.Need-returns-2
+unfolding isHex
+returns-2 c = rw (lt-ltb _ _ (c .before .before .if1 .left), ne-eqb _ _ (c .if2 .taken))
+
+shared-slice-read-if3 : tie.Need-shared-slice-read-if3
+shared-slice-read-if3 c = search needs
+
+returns-3 : tie.Need-returns-3
+unfolding isHex
+returns-3 c = rw (lt-ltb _ _ (c .before .before .before .before .if1 .left), eq-eqb _ _ (c .before .before .if2 .left), ne-eqb _ _ (c .if3 .taken))
+
+sub-all-hex-digits : tie.Need-sub-all-hex-digits
+sub-all-hex-digits c = search needs
+
+part-all-hex-digits-start : tie.Need-part-all-hex-digits-start
+part-all-hex-digits-start c = search needs
+
+part-all-hex-digits-end : tie.Need-part-all-hex-digits-end
+part-all-hex-digits-end c = search needs
+
+all-hex-digits-requires : tie.Need-all-hex-digits-requires
+all-hex-digits-requires c κs = search needs
+
+returns-4 : tie.Need-returns-4
+unfolding isHex
+returns-4 c =
+    rw (lt-ltb _ _ (c .before .before .before .before .before .before .if1 .left), eq-eqb _ _ (c .before .before .before .before .if2 .left), eq-eqb _ _ (c .before .before .if3 .left))
+    (c .all-hex-digits .ensures ∙ ap (all isHexDigit) (rest-part (c .before .before .before .before .before .before .before .before .args .w .now) 2))
+
+pub is-hex-spec : {M : Type 1} → statement M
+is-hex-spec =
+    tie.close
+    (tie.spec
+    returns
+    shared-slice-read-if2
+    returns-2
+    shared-slice-read-if3
+    returns-3
+    sub-all-hex-digits
+    part-all-hex-digits-start
+    part-all-hex-digits-end
+    all-hex-digits-requires
+    returns-4)

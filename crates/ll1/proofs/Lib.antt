@@ -1,0 +1,11 @@
+pub mod Basics
+pub mod Ll1
+pub mod Tested
+pub mod Unique
+pub mod Parsed
+pub mod Leftmost
+pub mod Steps
+pub mod Verdicts
+pub mod Equations
+pub mod Lookups
+pub mod Theorems

@@ -1,0 +1,10 @@
+-- The laws of the table that layers above share; those of the codes' tests and the examples serve here alone.
+pub mod RowLaws
+pub mod CellLaws
+pub mod ClearLaws
+pub mod FlatLaws
+pub mod RunLaws
+pub mod LaidLaws
+pub mod MarkLaws
+mod CodeLaws
+mod Examples

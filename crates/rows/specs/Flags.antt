@@ -1,0 +1,20 @@
+-- The bits of a row's flags (document 01, "Grammar" and "Rows").
+use Prim.Native.Nat.{ℕ}
+
+-- the flags of a question
+abbrev pub READ-ONLY : ℕ
+READ-ONLY = 1
+
+abbrev pub INTERACTIVE : ℕ
+INTERACTIVE = 4
+
+abbrev pub RESET-REQUIRED : ℕ
+RESET-REQUIRED = 16
+
+-- a checkbox or numeric whose `default` is written
+abbrev pub HAS-DEFAULT : ℕ
+HAS-DEFAULT = 256
+
+-- an option marked `DEFAULT`
+abbrev pub OPTION-DEFAULT : ℕ
+OPTION-DEFAULT = 16

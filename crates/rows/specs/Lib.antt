@@ -1,0 +1,7 @@
+-- The definitions that the contracts of `rows` cite, and those that speak of its tables.
+pub mod Columns
+pub mod Codes
+pub mod Flags
+pub mod Draft
+pub mod Table
+pub mod Rows

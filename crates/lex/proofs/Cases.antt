@@ -3,22 +3,22 @@
 use mathlib.Core.Path.{_≡_, refl, sym, ap, _∙_}
 use mathlib.Core.Bool.{Bool, true, false, cond}
 use mathlib.Core.List.{List, [], _∷_}
-use Prim.Native.Nat.{ℕ, suc, _+_, _≤_, _<_}
+use Prim.Native.Nat.{ℕ, _+_, _≤_, _<_}
 use native.Mathlib.Nat.{add-zero}
 use native.Mathlib.Omega.{arith}
 use lib.Dec.{ltb}
-use lib.ListN.{length, getD, take, drop, length-drop}
+use lib.ListN.{length, getD, drop, length-drop}
 use lib.Seq.{drop-drop, getD-drop}
-use borrow.Author.Tests.{eq-eqb, ne-eqb, lt-ltb, le-ltb, ltb-true, ltb-false}
+use borrow.Author.Tests.{eq-eqb, ne-eqb, lt-ltb, le-ltb}
 use Rattle.lex.specs.declared.Token.{Token}
 use Rattle.lex.specs.Bytes.{isWordByte}
 use Rattle.lex.specs.Classes.{SIGNS, BAD, END}
 use Rattle.lex.specs.Lexemes.{signs}
 use Rattle.lex.specs.Tokens.{gap, same, placeOf, empty, word, wordClass, wordToken, signClass, signToken, tokenFrom, tokenAfterGap, tokenAt}
-use Rattle.lex.proofs.Lists.{either, from-end, from-next}
+use Rattle.lex.proofs.Lists.{either-less, from-end, from-next}
 use Rattle.lex.proofs.Comments.{gap-le}
-use Rattle.lex.proofs.Equality.{place-at}
 use Rattle.lex.proofs.Missed.{byte-missed}
+use Rattle.lex.proofs.Equality.{place-at}
 
 -- a word of the class k
 module _ (w : List ℕ) (at k : ℕ) (is-k : k ≡ wordClass w) where
@@ -41,12 +41,16 @@ unfolding signClass signs same
 sign-class b [] = rw (byte-missed b (0 ∷ []) signs tt, cond-same)
 sign-class b (next ∷ s) = refl
 
-pub sign-size : (w : List ℕ) (k : ℕ) → k ≡ placeOf w signs → k < SIGNS → length (getD signs k []) ≡ length w
+sign-size : (w : List ℕ) (k : ℕ) → k ≡ placeOf w signs → k < SIGNS → length (getD signs k []) ≡ length w
 unfolding signs
 sign-size w k is-k h = rw is-k (ap length (place-at w signs (rw is-k at h)))
 
+-- the class of the two bytes that stand at a place, of which the second is `next`
+abbrev pub two-class : List ℕ → ℕ → ℕ → ℕ
+two-class s at next = placeOf (getD s at 0 ∷ next ∷ []) signs
+
 -- the sign at a place, where two bytes have the class `two` and one has the class `one`
-module _ (s : List ℕ) (at two : ℕ) (inside : at < length s) (is-two : two ≡ placeOf (getD s at 0 ∷ getD s (at + 1) 0 ∷ []) signs) where
+module _ (s : List ℕ) (at two : ℕ) (inside : at < length s) (is-two : two ≡ two-class s at (getD s (at + 1) 0)) where
   class-at : signClass (drop at s) ≡ cond (ltb two SIGNS) two (placeOf (getD s at 0 ∷ []) signs)
   class-at = rw (from-next s at 0 inside, is-two) (rw (getD-drop, add-zero) at (sign-class (getD s at 0) (drop (at + 1) s)))
 
@@ -82,12 +86,11 @@ module _ (s : List ℕ) (at start : ℕ) (is-start : start ≡ at + gap false (d
   pub token-end : length s ≤ start → empty END (length s) ≡ tokenAt s at
   unfolding tokenAt
   token-end h =
-      either (ltb at (length s))
-      (λ e.
-      let within = ltb-true at (length s) e in
+      either-less at (length s)
+      (λ l.
       let is-end : length s ≡ start = omega (arith, start-le (omega arith)) in
-      ap (empty END) is-end ∙ sym (token-from within ∙ from-past h))
-      (λ e. rw e)
+      ap (empty END) is-end ∙ sym (token-from l ∙ from-past h))
+      (λ l. rw (le-ltb at (length s) l))
 
   pub token-word : start < length s → isWordByte (getD s start 0) ≡ true → wordToken (word (drop start s)) start ≡ tokenAt s at
   unfolding tokenFrom

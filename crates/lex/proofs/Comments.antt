@@ -1,6 +1,6 @@
 -- Blanks and comments: what stands between tokens is blanks, then any number of times a comment and blanks.
 -- Assumes nothing.
-use mathlib.Core.Path.{_≡_, refl, sym, ap, _∙_}
+use mathlib.Core.Path.{_≡_, refl}
 use mathlib.Core.Bool.{Bool, true, false, not, _||_, false≢true}
 use mathlib.Core.List.{List, [], _∷_}
 use Prim.Native.Nat.{ℕ, suc, _+_, _≤_, _<_, zero-le, suc-le-suc}
@@ -70,7 +70,7 @@ module _ (s : List ℕ) (i e : ℕ) (is-e : e ≡ i + run isBlank (drop i s)) wh
 -- the end of the line of a comment at i
 module _ (s : List ℕ) (i : ℕ) (opens : opensComment (getD s i 0) (getD s (i + 1) 0) ≡ true) where
   both : (getD (drop i s) 0 0 ≡ 47) × (getD (drop i s) 1 0 ≡ 47)
-  both = rw (getD-drop, getD-drop, add-zero) (slashes _ _ opens)
+  both = simp (getD-drop, add-zero) (slashes (getD s i 0) (getD s (i + 1) 0) opens)
 
   pub after-comment : (e : ℕ) → e ≡ i + run inLine (drop i s) → i + gap false (drop i s) ≡ e + gap false (drop e s)
   after-comment e is-e = rw is-e (omega (arith, rw drop-drop at (gap-slashes (drop i s) both)))
@@ -88,4 +88,4 @@ gap-other [] h o = refl
 gap-other (b ∷ s) h o = either (isBlank b) (λ e. let never : suc (run isBlank s) ≡ 0 = rw e at h in absurd (omega arith)) (λ e. rw (e, o))
 
 pub gap-none : (s : List ℕ) (i : ℕ) → run isBlank (drop i s) ≡ 0 → opensComment (getD s i 0) (getD s (i + 1) 0) ≡ false → gap false (drop i s) ≡ 0
-gap-none s i h o = gap-other (drop i s) h (rw (getD-drop, getD-drop, add-zero) o)
+gap-none s i h o = gap-other (drop i s) h (simp (getD-drop, add-zero) o)

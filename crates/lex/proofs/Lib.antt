@@ -1,11 +1,18 @@
-pub mod Lists
-pub mod Steps
-pub mod Comments
-pub mod WordTable
-pub mod Missed
-pub mod WordParts
-pub mod ValueLaws
-pub mod Equality
-pub mod Cases
+-- Laws for whoever reads tokens: where a token lies, the list of all tokens, a token's own bytes, equal words, values of numbers.
 pub mod Progress
 pub mod TokenList
+pub mod OwnWord
+pub mod Equality
+pub mod ValueLaws
+-- Theorems by computation: the classes' names, and the specimens.
+pub mod Named
+pub mod Specimens
+-- What the proofs of the functions and of the laws lean on.
+pub mod Shape
+mod Lists
+mod Steps
+mod Comments
+mod WordTable
+mod Missed
+mod WordParts
+mod Cases

@@ -1,10 +1,9 @@
 -- Facts about lists and tests that have nothing to do with tokens.
 -- Assumes nothing.
-use mathlib.Core.Path.{_≡_, refl}
+use mathlib.Core.Path.{_≡_, refl, ap}
 use mathlib.Core.Bool.{Bool, true, false, _&&_, false≢true}
 use mathlib.Core.List.{List, [], _∷_}
-use Prim.Native.Nat.{ℕ, _+_, _-_, _≤_, _<_}
-use native.Mathlib.Nat.{add-sub-cancel-left}
+use Prim.Native.Nat.{ℕ, zero, suc, _+_, _-_, _≤_, _<_}
 use native.Mathlib.Numerals.{add-one}
 use native.Mathlib.Omega.{arith}
 use lib.Dec.{ltb}
@@ -16,6 +15,10 @@ use borrow.Author.Tests.{ltb-true, ltb-false}
 pub either : {A : Type 0} (t : Bool) → (t ≡ true → A) → (t ≡ false → A) → A
 either true yes-case no-case = yes-case refl
 either false yes-case no-case = no-case refl
+
+-- and one that holds whether a is below b or not
+pub either-less : {A : Type 0} (a b : ℕ) → (a < b → A) → (b ≤ a → A) → A
+either-less a b less not-less = either (ltb a b) (λ e. less (ltb-true a b e)) (λ e. not-less (ltb-false a b e))
 
 -- both parts of a conjunction that is true, and one whose second part is false
 pub and-true : (a b : Bool) → a && b ≡ true → (a ≡ true) × (b ≡ true)
@@ -36,9 +39,14 @@ module _ {A : Type 0} (s : List A) (i : ℕ) where
 
 -- past the end there is nothing but the default
 pub inside : (s : List ℕ) (i : ℕ) → (getD s i 0 ≡ 0 → ⊥) → i < length s
-inside s i h =
-    either (ltb i (length s)) (λ e. ltb-true i (length s) e) (λ e. absurd (h (List·getD-eq-default s 0 (ltb-false i (length s) e))))
+inside s i h = either-less i (length s) (λ l. l) (λ l. absurd (h (List·getD-eq-default s 0 l)))
 
 -- the part of a slice from k to its end
 pub rest-part : (s : List ℕ) (k : ℕ) → take (length s - k) (drop k s) ≡ drop k s
 rest-part s k = take-all (length s - k) (drop k s) (omega (arith, length-drop k s))
+
+-- the first bytes of a list, as many as there are up to n
+pub take-own : (n : ℕ) (s : List ℕ) → take (length (take n s)) s ≡ take n s
+take-own zero s = refl
+take-own (suc n) [] = refl
+take-own (suc n) (b ∷ s) = ap (_∷_ b) (take-own n s)

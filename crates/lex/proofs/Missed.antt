@@ -6,7 +6,7 @@ use mathlib.Core.List.{List, [], _∷_}
 use Prim.Native.Nat.{ℕ, suc}
 use lib.Dec.{eqb}
 use lib.ListN.{length}
-use borrow.Author.Tests.{eqb-true, ne-eqb}
+use borrow.Author.Tests.{ne-eqb}
 use Rattle.lex.specs.Tokens.{same, placeOf}
 use Rattle.lex.proofs.Lists.{either, and-true, and-false}
 use Rattle.lex.proofs.Steps.{same-length}

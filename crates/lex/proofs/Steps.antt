@@ -5,9 +5,9 @@ use mathlib.Core.Bool.{Bool, true, false}
 use mathlib.Core.List.{List, [], _∷_}
 use Prim.Native.Nat.{ℕ, suc, _+_, _≤_, _<_, zero-le, suc-le-suc}
 use lib.Dec.{eqb}
-use lib.ListN.{length, getD, take, drop, length-drop}
+use lib.ListN.{length, getD, drop}
 use borrow.Author.Tests.{eq-eqb, ne-eqb}
-use Rattle.lex.specs.Tokens.{run, all, same, placeOf}
+use Rattle.lex.specs.Tokens.{run, all, same}
 use Rattle.lex.proofs.Lists.{either, and-false, from-end, from-next}
 
 module _ (p : ℕ → Bool) where

@@ -8,8 +8,9 @@ use native.Mathlib.Omega.{arith}
 use lib.ListN.{length, getD, drop}
 use borrow.Author.Tests.{lt-ltb, le-ltb}
 use Rattle.lex.specs.declared.Value.the-variants.{Fits, TooLarge}
-use Rattle.lex.specs.Numbers.{digitValue, valueFrom, fitted}
-use Rattle.lex.proofs.Lists.{from-end, from-next}
+use Rattle.lex.specs.Tokens.{word}
+use Rattle.lex.specs.Numbers.{digitValue, valueFrom, numeral, fitted, valueAt}
+use Rattle.lex.proofs.Lists.{either-less, from-end, from-next}
 
 pub fitted-fits : (v : ℕ) → v < 2 ^ 64 → fitted v ≡ Fits v
 fitted-fits v h = rw (lt-ltb v (2 ^ 64) h)
@@ -41,6 +42,34 @@ value-ge base pos [] v = le-refl v
 value-ge base pos (b ∷ s) v = le-trans (omega (arith, le-mul-of-pos-right v pos)) (value-ge base pos s (v * base + digitValue b))
 
 -- a number that is too large after the digit at i is too large as a whole
-pub value-large : (base v : ℕ) (s : List ℕ) (i d : ℕ) → 0 < base → d ≡ digitValue (getD s i 0) → i < length s → 2 ^ 64 ≤ v * base + d → 2 ^ 64 ≤ valueFrom base v (drop i s)
+pub value-large : (base v : ℕ) (s : List ℕ) (i d : ℕ) →
+    0 < base → d ≡ digitValue (getD s i 0) → i < length s → 2 ^ 64 ≤ v * base + d → 2 ^ 64 ≤ valueFrom base v (drop i s)
 value-large base v s i d pos is-d h large =
     omega (arith, value-next base v s i d is-d h, value-ge base pos (drop (i + 1) s) (v * base + d))
+
+-- ---- the number at a place
+
+-- its value fits exactly where its numeral is below 2^64, and is then the numeral
+module _ (s : List ℕ) (at : ℕ) where
+  abbrev n : ℕ
+  n = numeral (word (drop at s))
+
+  pub value-fits : n < 2 ^ 64 → valueAt s at ≡ Fits n
+  unfolding valueAt
+  value-fits h = fitted-fits n h
+
+  pub value-too-large : 2 ^ 64 ≤ n → valueAt s at ≡ TooLarge
+  unfolding valueAt
+  value-too-large h = fitted-large n h
+
+  pub fits-value : (v : ℕ) → valueAt s at ≡ Fits v → (n < 2 ^ 64) × (v ≡ n)
+  fits-value v e =
+      either-less n (2 ^ 64)
+      (λ h. let fits = value-fits h in (h, cc))
+      (λ h. let large = value-too-large h in absurd (let z : _≡_ {A = ℕ} 0 1 = cc in omega arith))
+
+  pub too-large-value : valueAt s at ≡ TooLarge → 2 ^ 64 ≤ n
+  too-large-value e =
+      either-less n (2 ^ 64)
+      (λ h. let fits = value-fits h in absurd (let z : _≡_ {A = ℕ} 0 1 = cc in omega arith))
+      (λ h. h)

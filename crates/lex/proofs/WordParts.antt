@@ -1,17 +1,17 @@
 -- The word at a place of a source: its part of the slice, its length, and its bytes one by one.
 -- Assumes nothing.
-use mathlib.Core.Path.{_≡_, refl, sym, ap, _∙_}
+use mathlib.Core.Path.{_≡_, sym, _∙_}
 use mathlib.Core.Bool.{true, false, false≢true}
 use mathlib.Core.List.{List, [], _∷_}
-use Prim.Native.Nat.{ℕ, suc, _+_, _-_, _≤_, _<_}
+use Prim.Native.Nat.{ℕ, _+_, _-_, _≤_, _<_}
 use native.Mathlib.Omega.{arith}
-use lib.Dec.{eqb, ltb}
+use lib.Dec.{eqb}
 use lib.ListN.{length, getD, take, drop, length-drop, List·getD-eq-default}
 use lib.Seq.{length-take-le}
-use borrow.Author.Tests.{eq-eqb, eqb-true, eqb-false, ltb-true, ltb-false}
+use borrow.Author.Tests.{eq-eqb, eqb-true, eqb-false}
 use Rattle.lex.specs.Bytes.{isWordByte}
 use Rattle.lex.specs.Tokens.{run, same, word, sameWord}
-use Rattle.lex.proofs.Lists.{either, inside, from-end, from-next}
+use Rattle.lex.proofs.Lists.{either, either-less, inside, from-end, from-next}
 use Rattle.lex.proofs.Steps.{run-le, same-first}
 
 pub word-length : (s : List ℕ) → length (word s) ≡ run isWordByte s
@@ -46,8 +46,7 @@ module _ (s : List ℕ) (i : ℕ) where
 
   word-empty : isWordByte (getD s i 0) ≡ false → word (drop i s) ≡ []
   unfolding run
-  word-empty e =
-      either (ltb i (length s)) (λ t. rw (from-next s i 0 (ltb-true i (length s) t), e)) (λ t. rw (from-end s i (ltb-false i (length s) t)))
+  word-empty e = either-less i (length s) (λ h. rw (from-next s i 0 h, e)) (λ h. rw (from-end s i h))
 
   pub first-byte : isWordByte (getD s i 0) ≡ true → first ≡ getD s i 0
   first-byte e = rw (word-next e)
@@ -65,8 +64,8 @@ module _ (s : List ℕ) (i : ℕ) where
       (λ e. let never : false ≡ true = rw (sym (first-byte e) ∙ h) at e in absurd (false≢true never))
       (λ e. word-empty e)
 
-  pub word-inside-first : (first ≡ 0 → ⊥) → i < length s
-  word-inside-first h = byte-inside (word-byte h)
+  pub first-inside : (first ≡ 0 → ⊥) → i < length s
+  first-inside h = byte-inside (word-byte h)
 
   pub word-goes-on : (first ≡ 0 → ⊥) → word (drop i s) ≡ first ∷ word (drop (i + 1) s)
   word-goes-on h = rw (first-byte (word-byte h)) (word-next (word-byte h))

@@ -1,8 +1,8 @@
 -- The search of a word in a table of the reserved words of its length finds the word's place among all reserved words.
 -- Assumes nothing.
-use mathlib.Core.Path.{_≡_, refl, sym, ap, _∙_}
-use mathlib.Core.Bool.{Bool, true, false, cond}
-use mathlib.Core.List.{List, [], _∷_, _++_}
+use mathlib.Core.Path.{_≡_, refl, sym}
+use mathlib.Core.Bool.{true, false}
+use mathlib.Core.List.{List, [], _∷_}
 use Prim.Native.Nat.{ℕ, suc, _+_, _*_, _≤_, _<_}
 use native.Mathlib.Nat.{add-zero, suc-mul, mul-le-mul-right}
 use native.Mathlib.Numerals.{add-one}
@@ -13,8 +13,8 @@ use lib.Seq.{length-take-le, getD-take, getD-drop, take-at, drop-at, drop-drop}
 use borrow.Author.Tests.{eqb-true, eqb-false}
 use Rattle.lex.specs.Classes.{SIGNS, NAME}
 use Rattle.lex.specs.Lexemes.{reserved}
-use Rattle.lex.specs.Lookup.{lookup, tableOf, classesOf}
 use Rattle.lex.specs.Tokens.{same, placeOf}
+use Rattle.lex.specs.Lookup.{lookup, tableOf, classesOf}
 use Rattle.lex.proofs.Lists.{either, from-end, from-next}
 use Rattle.lex.proofs.Steps.{same-length}
 
@@ -39,16 +39,21 @@ module _ (w table classes : List ℕ) (from k : ℕ) where
   unfolding lookup
   lookup-end h = rw (from-end classes k h)
 
-  pub lookup-here : k < length classes → same w (take (length w) (drop from table)) ≡ true → lookup w (drop from table) (drop k classes) ≡ getD classes k 0
+  pub lookup-here : k < length classes →
+      same w (take (length w) (drop from table)) ≡ true →
+      lookup w (drop from table) (drop k classes) ≡ getD classes k 0
   unfolding lookup
   lookup-here h e = rw (from-next classes k 0 h, e)
 
-  pub lookup-later : k < length classes → same w (take (length w) (drop from table)) ≡ false → lookup w (drop from table) (drop k classes) ≡ lookup w (drop (from + length w) table) (drop (k + 1) classes)
+  pub lookup-later : k < length classes →
+      same w (take (length w) (drop from table)) ≡ false →
+      lookup w (drop from table) (drop k classes) ≡ lookup w (drop (from + length w) table) (drop (k + 1) classes)
   unfolding lookup
   lookup-later h e = rw (from-next classes k 0 h, e, drop-drop)
 
 -- the words of w's length, with their places from k on, are as good as all the words
-pub lookup-place : (w : List ℕ) (ws : List (List ℕ)) (k : ℕ) → k + length ws ≡ NAME → lookup w (tableOf (length w) ws) (classesOf (length w) k ws) ≡ k + placeOf w ws
+pub lookup-place : (w : List ℕ) (ws : List (List ℕ)) (k : ℕ) → k + length ws ≡ NAME →
+    lookup w (tableOf (length w) ws) (classesOf (length w) k ws) ≡ k + placeOf w ws
 unfolding lookup tableOf classesOf placeOf
 lookup-place w [] k h = sym h
 lookup-place w (v ∷ vs) k h =

@@ -1,13 +1,12 @@
 -- `lex::first_bad` meets its contract. The loop's invariant: the first bad token is the first from here on.
+use mathlib.Core.Path.{_≡_, sym, _∙_}
+use Prim.Native.Nat.{_-_, _≤_}
 use native.Mathlib.Omega.{arith}
-use mathlib.Core.Path.{_≡_, sym, ap, _∙_}
-use Prim.Native.Nat.{_-_, _≤_, _<_}
 use lib.ListN.{length}
-use Rattle.lex.specs.Classes.{BAD}
-use Rattle.lex.specs.Tokens.{tokenAt, tokensFrom, badAmong, firstBad}
-use Rattle.lex.proofs.Progress.{class-le, moves}
-use Rattle.lex.proofs.TokenList.{first-bad-from, bad-here, bad-none, bad-later}
 use borrow.Author.Needs.{needs}
+use Rattle.lex.specs.Tokens.{tokensFrom, badAmong, firstBad}
+use Rattle.lex.proofs.Progress.{class-some, token-moves}
+use Rattle.lex.proofs.TokenList.{first-bad-from, bad-here, bad-none, bad-later}
 use Rattle.lex.proofs.first_bad.Statement.{statement}
 use Rattle.lex.proofs.first_bad.Tie as tie
 
@@ -25,31 +24,33 @@ token-at-requires c κs = search needs
 
 returns : tie.Need-returns Inv-loop μ-loop
 returns c =
-    let s = c .before .before .before .before .before .args .src .now in
-    let is-bad = rw (c .before .before .token-at .ensures) at (c .if1 .taken) in
-    rw (c .before .before .token-at .ensures) (sym (c .before .before .before .loop .inv .1 ∙ bad-here s (c .before .before .before .loop .at) (c .before .before .before .loop .inv .0) is-bad))
+    let args = c .before .before .before .before .before .args in
+    let loop = c .before .before .before .loop in
+    let is-token = c .before .before .token-at .ensures in
+    rw is-token (sym (loop .inv .1 ∙ bad-here (args .src .now) (loop .at) (loop .inv .0) (rw is-token at (c .if1 .taken))))
 
 returns-2 : tie.Need-returns-2 Inv-loop μ-loop
 returns-2 c =
-    let s = c .before .before .before .before .before .before .before .args .src .now in
-    let is-end = rw (c .before .before .before .before .token-at .ensures) at (c .if2 .taken) in
-    sym (c .before .before .before .before .before .loop .inv .1 ∙ bad-none s (c .before .before .before .before .before .loop .at) (c .before .before .before .before .before .loop .inv .0) is-end)
+    let args = c .before .before .before .before .before .before .before .args in
+    let loop = c .before .before .before .before .before .loop in
+    let is-token = c .before .before .before .before .token-at .ensures in
+    sym (loop .inv .1 ∙ bad-none (args .src .now) (loop .at) (loop .inv .0) (rw is-token at (c .if2 .taken)))
 
 loop-less : tie.Need-loop-less Inv-loop μ-loop
 loop-less c =
-    let s = c .before .before .before .before .before .before .before .args .src .now in
-    let at = c .before .before .before .before .before .loop .at in
-    let known = class-le s at in
-    let some : tokenAt s at .class < BAD = omega (arith, rw (c .before .before .before .before .token-at .ensures) at (c .before .before .if1 .left), rw (c .before .before .before .before .token-at .ensures) at (c .if2 .left)) in
-    rw (c .before .before .before .before .token-at .ensures) (omega (arith, moves s at some))
+    let args = c .before .before .before .before .before .before .before .args in
+    let loop = c .before .before .before .before .before .loop in
+    let is-token = c .before .before .before .before .token-at .ensures in
+    let some = class-some (args .src .now) (loop .at) (rw is-token at (c .before .before .if1 .left)) (rw is-token at (c .if2 .left)) in
+    rw is-token (omega (arith, token-moves (args .src .now) (loop .at) some))
 
 loop-again : tie.Need-loop-again Inv-loop μ-loop
 loop-again c =
-    let s = c .before .before .before .before .before .before .before .args .src .now in
-    let at = c .before .before .before .before .before .loop .at in
-    let known = class-le s at in
-    let some : tokenAt s at .class < BAD = omega (arith, rw (c .before .before .before .before .token-at .ensures) at (c .before .before .if1 .left), rw (c .before .before .before .before .token-at .ensures) at (c .if2 .left)) in
-    rw (c .before .before .before .before .token-at .ensures) (moves s at some .within, c .before .before .before .before .before .loop .inv .1 ∙ bad-later s at (c .before .before .before .before .before .loop .inv .0) some)
+    let args = c .before .before .before .before .before .before .before .args in
+    let loop = c .before .before .before .before .before .loop in
+    let is-token = c .before .before .before .before .token-at .ensures in
+    let some = class-some (args .src .now) (loop .at) (rw is-token at (c .before .before .if1 .left)) (rw is-token at (c .if2 .left)) in
+    rw is-token (token-moves (args .src .now) (loop .at) some .within, loop .inv .1 ∙ bad-later (args .src .now) (loop .at) (loop .inv .0) some)
 
 pub first-bad-spec : {M : Type 1} → statement M
 first-bad-spec =

@@ -1,12 +1,7 @@
 -- `lex::sign_token` meets its contract.
-use mathlib.Core.Path.{_≡_, ap, _∙_}
-use mathlib.Core.List.{[], _∷_}
-use Prim.Native.Nat.{ℕ, _+_}
-use lib.ListN.{getD}
-use Rattle.lex.specs.Lexemes.{signs}
-use Rattle.lex.specs.Tokens.{placeOf}
-use Rattle.lex.proofs.Cases.{sign-two, sign-one, sign-bad}
+use mathlib.Core.Path.{ap, _∙_}
 use borrow.Author.Needs.{needs}
+use Rattle.lex.proofs.Cases.{two-class, sign-two, sign-one, sign-bad}
 use Rattle.lex.proofs.sign_token.Statement.{statement}
 use Rattle.lex.proofs.sign_token.Tie as tie
 
@@ -27,10 +22,11 @@ add-t10 c = search needs
 
 returns : tie.Need-returns
 returns c =
-    let s = c .before .before .before .before .before .args .src .now in
-    let at = c .before .before .before .before .before .args .at in
-    let is-two = c .before .two-bytes .ensures ∙ ap (λ (next : ℕ). placeOf (getD s at 0 ∷ next ∷ []) signs) (c .before .before .byte-at .ensures) in
-    sign-two s at _ (c .before .before .before .before .before .pre) is-two (c .if1 .taken)
+    let args = c .before .before .before .before .before .args in
+    let pre = c .before .before .before .before .before .pre in
+    let next = ap (two-class (args .src .now) (args .at)) (c .before .before .byte-at .ensures) in
+    let is-two = c .before .two-bytes .ensures ∙ next in
+    sign-two (args .src .now) (args .at) _ pre is-two (c .if1 .taken)
 
 shared-slice-read-one-byte : tie.Need-shared-slice-read-one-byte
 shared-slice-read-one-byte c = search needs
@@ -43,20 +39,25 @@ add-t12 c = search needs
 
 returns-2 : tie.Need-returns-2
 returns-2 c =
-    let s = c .before .before .before .before .before .before .before .before .args .src .now in
-    let at = c .before .before .before .before .before .before .before .before .args .at in
-    let is-two = c .before .before .before .before .two-bytes .ensures ∙ ap (λ (next : ℕ). placeOf (getD s at 0 ∷ next ∷ []) signs) (c .before .before .before .before .before .byte-at .ensures) in
-    sign-one s at _ (c .before .before .before .before .before .before .before .before .pre) is-two _ (c .before .before .before .if1 .left) (c .before .one-byte .ensures) (c .if2 .taken)
+    let args = c .before .before .before .before .before .before .before .before .args in
+    let pre = c .before .before .before .before .before .before .before .before .pre in
+    let next = ap (two-class (args .src .now) (args .at)) (c .before .before .before .before .before .byte-at .ensures) in
+    let is-two = c .before .before .before .before .two-bytes .ensures ∙ next in
+    let is-one = c .before .one-byte .ensures in
+    sign-one (args .src .now) (args .at) _ pre is-two _ (c .before .before .before .if1 .left) is-one (c .if2 .taken)
 
 empty-requires : tie.Need-empty-requires
 empty-requires c κs = search needs
 
 returns-3 : tie.Need-returns-3
 returns-3 c =
-    let s = c .before .before .before .before .before .before .before .before .before .args .src .now in
-    let at = c .before .before .before .before .before .before .before .before .before .args .at in
-    let is-two = c .before .before .before .before .before .two-bytes .ensures ∙ ap (λ (next : ℕ). placeOf (getD s at 0 ∷ next ∷ []) signs) (c .before .before .before .before .before .before .byte-at .ensures) in
-    c .empty .ensures ∙ sign-bad s at _ (c .before .before .before .before .before .before .before .before .before .pre) is-two _ (c .before .before .before .before .if1 .left) (c .before .before .one-byte .ensures) (c .before .if2 .left)
+    let args = c .before .before .before .before .before .before .before .before .before .args in
+    let pre = c .before .before .before .before .before .before .before .before .before .pre in
+    let next = ap (two-class (args .src .now) (args .at)) (c .before .before .before .before .before .before .byte-at .ensures) in
+    let is-two = c .before .before .before .before .before .two-bytes .ensures ∙ next in
+    let is-one = c .before .before .one-byte .ensures in
+    let none = c .before .before .before .before .if1 .left in
+    c .empty .ensures ∙ sign-bad (args .src .now) (args .at) _ pre is-two _ none is-one (c .before .if2 .left)
 
 pub sign-token-spec : {M : Type 1} → statement M
 sign-token-spec =

@@ -1,8 +1,8 @@
 -- `lex::word_byte` meets its contract.
-use mathlib.Core.Path.{_≡_, sym, ap, _∙_}
+use mathlib.Core.Path.{sym, ap, _∙_}
+use borrow.Author.Needs.{needs}
 use Rattle.lex.specs.Bytes.{isWordByte}
 use Rattle.lex.proofs.WordParts.{first-byte, first-none}
-use borrow.Author.Needs.{needs}
 use Rattle.lex.proofs.word_byte.Statement.{statement}
 use Rattle.lex.proofs.word_byte.Tie as tie
 
@@ -14,13 +14,15 @@ is-word-byte-requires c κs = search needs
 
 returns : tie.Need-returns
 returns c =
+    let args = c .before .before .before .before .args in
     let is-word = sym (c .before .is-word-byte .ensures ∙ ap isWordByte (c .before .before .byte-at .ensures)) ∙ c .if1 .taken in
-    c .before .before .byte-at .ensures ∙ sym (first-byte (c .before .before .before .before .args .src .now) (c .before .before .before .before .args .i) is-word)
+    c .before .before .byte-at .ensures ∙ sym (first-byte (args .src .now) (args .i) is-word)
 
 returns-2 : tie.Need-returns-2
 returns-2 c =
+    let args = c .before .before .before .before .args in
     let no-word = sym (c .before .is-word-byte .ensures ∙ ap isWordByte (c .before .before .byte-at .ensures)) ∙ c .if1 .left in
-    sym (first-none (c .before .before .before .before .args .src .now) (c .before .before .before .before .args .i) no-word)
+    sym (first-none (args .src .now) (args .i) no-word)
 
 pub word-byte-spec : {M : Type 1} → statement M
 word-byte-spec = tie.close (tie.spec byte-at-requires is-word-byte-requires returns returns-2)

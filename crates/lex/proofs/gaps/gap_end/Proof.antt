@@ -1,13 +1,13 @@
 -- `lex::gaps::gap_end` meets its contract. The loop's invariant: no blank stands here, and the end is the same from here as from the start.
-use native.Mathlib.Omega.{arith}
 use mathlib.Core.Path.{_≡_, sym, _∙_}
 use mathlib.Core.Bool.{false}
-use Prim.Native.Nat.{_+_, _-_, _<_}
+use Prim.Native.Nat.{_+_, _-_}
+use native.Mathlib.Omega.{arith}
 use lib.ListN.{length, drop}
+use borrow.Author.Needs.{needs}
 use Rattle.lex.specs.Bytes.{isBlank}
 use Rattle.lex.specs.Tokens.{run, gap}
 use Rattle.lex.proofs.Comments.{after-blanks, no-blank, after-comment, comment-inside, comment-moves, gap-none}
-use borrow.Author.Needs.{needs}
 use Rattle.lex.proofs.gaps.gap_end.Statement.{statement}
 use Rattle.lex.proofs.gaps.gap_end.Tie as tie
 
@@ -22,8 +22,9 @@ blanks-end-requires c κs = search needs
 
 loop-holds : tie.Need-loop-holds Inv-loop μ-loop
 loop-holds c =
-    let s = c .before .before .args .src .now in
-    (after-blanks s (c .before .before .args .at) _ (c .blanks-end .ensures), no-blank s (c .before .before .args .at) _ (c .blanks-end .ensures))
+    let args = c .before .before .args in
+    let is-end = c .blanks-end .ensures in
+    (after-blanks (args .src .now) (args .at) _ is-end, no-blank (args .src .now) (args .at) _ is-end)
 
 starts-comment-requires : tie.Need-starts-comment-requires Inv-loop μ-loop
 starts-comment-requires c κs = search needs
@@ -36,21 +37,27 @@ blanks-end-requires-2 c κs = search needs
 
 loop-less : tie.Need-loop-less Inv-loop μ-loop
 loop-less c =
-    let s = c .before .before .before .before .before .before .before .args .src .now in
-    let i = c .before .before .before .before .loop .i in
+    let args = c .before .before .before .before .before .before .before .args in
+    let loop = c .before .before .before .before .loop in
     let opens = sym (c .before .before .before .starts-comment .ensures) ∙ c .before .before .if1 .taken in
-    omega (arith, comment-inside s i opens, comment-moves s i opens)
+    omega (arith, comment-inside (args .src .now) (loop .i) opens, comment-moves (args .src .now) (loop .i) opens)
 
 loop-again : tie.Need-loop-again Inv-loop μ-loop
 loop-again c =
-    let s = c .before .before .before .before .before .before .before .args .src .now in
-    let opens = sym (c .before .before .before .starts-comment .ensures) ∙ c .before .before .if1 .taken in (
-      c .before .before .before .before .loop .inv .0 ∙ after-comment s (c .before .before .before .before .loop .i) opens _ (c .before .line-end .ensures) ∙ after-blanks s (c .before .line-end .result) _ (c .blanks-end2 .ensures),
-      no-blank s (c .before .line-end .result) _ (c .blanks-end2 .ensures),
-    )
+    let args = c .before .before .before .before .before .before .before .args in
+    let loop = c .before .before .before .before .loop in
+    let opens = sym (c .before .before .before .starts-comment .ensures) ∙ c .before .before .if1 .taken in
+    let is-line = c .before .line-end .ensures in
+    let is-end = c .blanks-end2 .ensures in
+    let passed = after-comment (args .src .now) (loop .i) opens _ is-line ∙ after-blanks (args .src .now) _ _ is-end in
+    (loop .inv .0 ∙ passed, no-blank (args .src .now) _ _ is-end)
 
 returns : tie.Need-returns Inv-loop μ-loop
-returns c = omega (arith, gap-none (c .before .before .before .before .before .args .src .now) (c .before .before .loop .i) (c .before .before .loop .inv .1) (sym (c .before .starts-comment .ensures) ∙ c .if1 .left))
+returns c =
+    let args = c .before .before .before .before .before .args in
+    let loop = c .before .before .loop in
+    let none = sym (c .before .starts-comment .ensures) ∙ c .if1 .left in
+    omega (arith, gap-none (args .src .now) (loop .i) (loop .inv .1) none)
 
 pub gap-end-spec : {M : Type 1} → statement M
 gap-end-spec =

@@ -1,14 +1,14 @@
 -- `lex::gaps::line_end` meets its contract. The loop's invariant: the end is the same from here as from the start.
-use native.Mathlib.Omega.{arith}
 use mathlib.Core.Path.{_≡_, ap}
 use mathlib.Core.Bool.{not}
 use Prim.Native.Nat.{_+_, _-_}
+use native.Mathlib.Omega.{arith}
 use lib.ListN.{length, drop}
+use borrow.Author.Needs.{needs}
 use borrow.Author.Tests.{eq-eqb, ne-eqb}
 use Rattle.lex.specs.Tokens.{run}
-use Rattle.lex.proofs.Comments.{inLine}
 use Rattle.lex.proofs.Steps.{run-end, run-no, run-yes}
-use borrow.Author.Needs.{needs}
+use Rattle.lex.proofs.Comments.{inLine}
 use Rattle.lex.proofs.gaps.line_end.Statement.{statement}
 use Rattle.lex.proofs.gaps.line_end.Tie as tie
 
@@ -25,7 +25,10 @@ shared-slice-read-if1 : tie.Need-shared-slice-read-if1 Inv-loop μ-loop
 shared-slice-read-if1 c = search needs
 
 returns : tie.Need-returns Inv-loop μ-loop
-returns c = omega (arith, run-no inLine (c .before .before .before .before .args .src .now) (c .before .before .before .loop .i) (omega arith) (ap not (eq-eqb _ 10 (c .if1 .taken))))
+returns c =
+    let args = c .before .before .before .before .args in
+    let loop = c .before .before .before .loop in
+    omega (arith, run-no inLine (args .src .now) (loop .i) (omega arith) (ap not (eq-eqb _ 10 (c .if1 .taken))))
 
 add-i : tie.Need-add-i Inv-loop μ-loop
 add-i c = search needs
@@ -34,7 +37,10 @@ loop-less : tie.Need-loop-less Inv-loop μ-loop
 loop-less c = search needs
 
 loop-again : tie.Need-loop-again Inv-loop μ-loop
-loop-again c = omega (arith, run-yes inLine (c .before .before .before .before .args .src .now) (c .before .before .before .loop .i) (omega arith) (ap not (ne-eqb _ 10 (c .if1 .left))))
+loop-again c =
+    let args = c .before .before .before .before .args in
+    let loop = c .before .before .before .loop in
+    omega (arith, run-yes inLine (args .src .now) (loop .i) (omega arith) (ap not (ne-eqb _ 10 (c .if1 .left))))
 
 returns-2 : tie.Need-returns-2 Inv-loop μ-loop
 returns-2 c = omega (arith, run-end inLine (c .before .before .args .src .now) (c .before .loop .i) (omega arith))

@@ -1,6 +1,4 @@
 -- `lex::gaps::starts_comment` meets its contract.
-use mathlib.Core.Path.{_≡_}
-use Prim.Native.Nat.{ℕ}
 use lib.ListN.{List·getD-eq-default}
 use borrow.Author.Needs.{needs}
 use Rattle.lex.proofs.gaps.starts_comment.Statement.{statement}

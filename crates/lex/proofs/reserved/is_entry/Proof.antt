@@ -1,12 +1,12 @@
 -- `lex::reserved::is_entry` meets its contract. The loop's invariant: the answer is the same from here as from the start.
-use native.Mathlib.Omega.{arith}
 use mathlib.Core.Path.{_≡_, sym, _∙_}
 use Prim.Native.Nat.{_-_}
+use native.Mathlib.Omega.{arith}
 use lib.ListN.{length, take, drop}
+use borrow.Author.Needs.{needs}
 use Rattle.lex.specs.Tokens.{same}
 use Rattle.lex.proofs.Steps.{same-end, same-no, same-yes}
 use Rattle.lex.proofs.WordTable.{entry-length, entry-at}
-use borrow.Author.Needs.{needs}
 use Rattle.lex.proofs.reserved.is_entry.Statement.{statement}
 use Rattle.lex.proofs.reserved.is_entry.Tie as tie
 
@@ -36,24 +36,31 @@ loop-less c = search needs
 
 loop-again : tie.Need-loop-again Inv-loop μ-loop
 loop-again c =
-    let w = c .before .before .before .before .before .args .w .now in
-    let table = c .before .before .before .before .before .args .table .now in
-    let size = entry-length (length w) (c .before .before .before .before .before .args .from) table (c .before .before .before .before .before .pre) in
-    c .before .before .before .before .loop .inv ∙ same-yes w (take (length w) (drop (c .before .before .before .before .before .args .from) table)) (c .before .before .before .before .loop .j) (omega arith) (omega arith) (c .if1 .taken ∙ sym (entry-at (length w) (c .before .before .before .before .before .args .from) table (c .before .before .before .before .loop .j) (omega arith)))
+    let args = c .before .before .before .before .before .args in
+    let pre = c .before .before .before .before .before .pre in
+    let loop = c .before .before .before .before .loop in
+    let entry = take (length (args .w .now)) (drop (args .from) (args .table .now)) in
+    let size = entry-length (length (args .w .now)) (args .from) (args .table .now) pre in
+    let here = entry-at (length (args .w .now)) (args .from) (args .table .now) (loop .j) (omega arith) in
+    loop .inv ∙ same-yes (args .w .now) entry (loop .j) (omega arith) (omega arith) (c .if1 .taken ∙ sym here)
 
 returns : tie.Need-returns Inv-loop μ-loop
 returns c =
-    let w = c .before .before .before .before .before .args .w .now in
-    let table = c .before .before .before .before .before .args .table .now in
-    let size = entry-length (length w) (c .before .before .before .before .before .args .from) table (c .before .before .before .before .before .pre) in
-    sym (c .before .before .before .before .loop .inv ∙ same-no w (take (length w) (drop (c .before .before .before .before .before .args .from) table)) (c .before .before .before .before .loop .j) (omega arith) (omega arith) (λ e. c .if1 .left (e ∙ entry-at (length w) (c .before .before .before .before .before .args .from) table (c .before .before .before .before .loop .j) (omega arith))))
+    let args = c .before .before .before .before .before .args in
+    let pre = c .before .before .before .before .before .pre in
+    let loop = c .before .before .before .before .loop in
+    let entry = take (length (args .w .now)) (drop (args .from) (args .table .now)) in
+    let size = entry-length (length (args .w .now)) (args .from) (args .table .now) pre in
+    let here = entry-at (length (args .w .now)) (args .from) (args .table .now) (loop .j) (omega arith) in
+    sym (loop .inv ∙ same-no (args .w .now) entry (loop .j) (omega arith) (omega arith) (λ e. c .if1 .left (e ∙ here)))
 
 returns-2 : tie.Need-returns-2 Inv-loop μ-loop
 returns-2 c =
-    let w = c .before .before .args .w .now in
-    let table = c .before .before .args .table .now in
-    let size = entry-length (length w) (c .before .before .args .from) table (c .before .before .pre) in
-    sym (c .before .loop .inv ∙ same-end w (take (length w) (drop (c .before .before .args .from) table)) (c .before .loop .j) (omega arith) (omega arith))
+    let args = c .before .before .args in
+    let loop = c .before .loop in
+    let entry = take (length (args .w .now)) (drop (args .from) (args .table .now)) in
+    let size = entry-length (length (args .w .now)) (args .from) (args .table .now) (c .before .before .pre) in
+    sym (loop .inv ∙ same-end (args .w .now) entry (loop .j) (omega arith) (omega arith))
 
 pub is-entry-spec : {M : Type 1} → statement M
 is-entry-spec =

@@ -1,15 +1,16 @@
 -- `lex::reserved::long_class` meets its contract: the table of each length is the one that the reserved words give.
+-- For each length: how long the table and its classes are, and that it has a word for each class; then what is found; then every other length.
 use mathlib.Core.Path.{_∙_, refl, sym, ap}
 use mathlib.Core.List.{[], _∷_}
-use Prim.Native.Nat.{ℕ, _+_}
+use Prim.Native.Nat.{_+_}
 use lib.Dec.{ltb}
 use lib.ListN.{length}
 use borrow.Author.Tests.{le-ltb}
 use Rattle.lex.specs.Classes.{SIGNS}
 use Rattle.lex.specs.Lexemes.{reserved}
 use Rattle.lex.specs.Lookup.{tableOf, classesOf}
-use Rattle.lex.proofs.Missed.{length-missed}
 use Rattle.lex.proofs.WordTable.{reserved-place}
+use Rattle.lex.proofs.Missed.{length-missed}
 use Rattle.lex.proofs.reserved.long_class.Statement.{statement}
 use Rattle.lex.proofs.reserved.long_class.Tie as tie
 
@@ -48,4 +49,6 @@ long-class-spec =
     (λ c. c .find7 .ensures ∙ reserved-place 14 (c .before .before .before .before .before .args .w .now) (c .before .before .before .match .keys7))
     (λ c.
     let w = c .before .before .args .w .now in
-    ap (λ (k : ℕ). SIGNS + k) (sym (length-missed (λ n. ltb n 7) w (7 ∷ 8 ∷ 9 ∷ 10 ∷ 11 ∷ 12 ∷ 14 ∷ []) reserved refl (le-ltb (length w) 7 (c .before .before .pre)) (c .match .rest)))))
+    let outside = le-ltb (length w) 7 (c .before .before .pre) in
+    let none = length-missed (λ n. ltb n 7) w (7 ∷ 8 ∷ 9 ∷ 10 ∷ 11 ∷ 12 ∷ 14 ∷ []) reserved refl outside (c .match .rest) in
+    sym (ap (_+_ SIGNS) none)))

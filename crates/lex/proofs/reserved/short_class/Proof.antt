@@ -1,15 +1,16 @@
 -- `lex::reserved::short_class` meets its contract: the table of each length is the one that the reserved words give.
+-- For each length: how long the table and its classes are, and that it has a word for each class; then what is found; then every other length.
 use mathlib.Core.Path.{_∙_, refl, sym, ap}
 use mathlib.Core.List.{[], _∷_}
-use Prim.Native.Nat.{ℕ, _+_}
+use Prim.Native.Nat.{_+_}
 use lib.Dec.{ltb}
 use lib.ListN.{length}
 use borrow.Author.Tests.{le-ltb}
 use Rattle.lex.specs.Classes.{SIGNS}
 use Rattle.lex.specs.Lexemes.{reserved}
 use Rattle.lex.specs.Lookup.{tableOf, classesOf}
-use Rattle.lex.proofs.Missed.{length-missed}
 use Rattle.lex.proofs.WordTable.{reserved-place}
+use Rattle.lex.proofs.Missed.{length-missed}
 use Rattle.lex.proofs.reserved.short_class.Statement.{statement}
 use Rattle.lex.proofs.reserved.short_class.Tie as tie
 
@@ -40,4 +41,6 @@ short-class-spec =
     (λ c. c .find5 .ensures ∙ reserved-place 6 (c .before .before .before .before .before .args .w .now) (c .before .before .before .match .keys5))
     (λ c.
     let w = c .before .before .args .w .now in
-    ap (λ (k : ℕ). SIGNS + k) (sym (length-missed (ltb 6) w (2 ∷ 3 ∷ 4 ∷ 5 ∷ 6 ∷ []) reserved refl (le-ltb 6 (length w) (c .before .before .pre)) (c .match .rest)))))
+    let outside = le-ltb 6 (length w) (c .before .before .pre) in
+    let none = length-missed (ltb 6) w (2 ∷ 3 ∷ 4 ∷ 5 ∷ 6 ∷ []) reserved refl outside (c .match .rest) in
+    sym (ap (_+_ SIGNS) none)))

@@ -1,7 +1,6 @@
 -- `lex::signs::before_equals` meets its contract: each arm by computation.
-use mathlib.Core.Path.{_≡_, sym}
+use mathlib.Core.Path.{sym}
 use mathlib.Core.List.{[], _∷_}
-use Prim.Native.Nat.{ℕ}
 use Rattle.lex.specs.Lexemes.{signs}
 use Rattle.lex.specs.Tokens.{same, placeOf}
 use Rattle.lex.proofs.Missed.{byte-missed}

@@ -1,13 +1,11 @@
 -- `lex::signs::two_bytes` meets its contract.
-use mathlib.Core.Path.{_≡_, sym}
+use mathlib.Core.Path.{sym}
 use mathlib.Core.List.{[], _∷_}
-use Prim.Native.Nat.{ℕ}
-use lib.Dec.{eqb}
+use borrow.Author.Needs.{needs}
 use borrow.Author.Tests.{ne-eqb}
 use Rattle.lex.specs.Lexemes.{signs}
 use Rattle.lex.specs.Tokens.{same, placeOf}
-use Rattle.lex.proofs.Missed.{Missed, firstBytes, byte-missed}
-use borrow.Author.Needs.{needs}
+use Rattle.lex.proofs.Missed.{byte-missed}
 use Rattle.lex.proofs.signs.two_bytes.Statement.{statement}
 use Rattle.lex.proofs.signs.two_bytes.Tie as tie
 
@@ -23,7 +21,9 @@ returns-2 c = rw (c .before .if2 .taken, c .if3 .taken)
 
 returns-3 : tie.Need-returns-3
 unfolding signs same
-returns-3 c = rw (c .before .if2 .taken) (sym (byte-missed (c .before .before .before .args .b) (60 ∷ []) signs (tt, c .if3 .left)))
+returns-3 c =
+    let args = c .before .before .before .args in
+    rw (c .before .if2 .taken) (sym (byte-missed (args .b) (60 ∷ []) signs (tt, c .if3 .left)))
 
 returns-4 : tie.Need-returns-4
 unfolding signs same placeOf
@@ -31,15 +31,18 @@ returns-4 c = rw (c .before .if4 .taken, c .if5 .taken)
 
 returns-5 : tie.Need-returns-5
 unfolding signs same
-returns-5 c = rw (c .before .if4 .taken) (sym (byte-missed (c .before .before .before .before .args .b) (62 ∷ []) signs (tt, c .if5 .left)))
+returns-5 c =
+    let args = c .before .before .before .before .args in
+    rw (c .before .if4 .taken) (sym (byte-missed (args .b) (62 ∷ []) signs (tt, c .if5 .left)))
 
 returns-6 : tie.Need-returns-6
 unfolding signs same
 returns-6 c =
-    let b = c .before .before .before .args .b in
-    let next = c .before .before .before .args .next in
-    let missed : Missed Unit (firstBytes (next ∷ []) signs) b = rw (ne-eqb next 61 (c .before .before .if1 .left), ne-eqb next 60 (c .before .if2 .left), ne-eqb next 62 (c .if4 .left)) tt in
-    sym (byte-missed b (next ∷ []) signs missed)
+    let args = c .before .before .before .args in
+    let no-equals = ne-eqb (args .next) 61 (c .before .before .if1 .left) in
+    let no-less = ne-eqb (args .next) 60 (c .before .if2 .left) in
+    let no-greater = ne-eqb (args .next) 62 (c .if4 .left) in
+    sym (byte-missed (args .b) ((args .next) ∷ []) signs (rw (no-equals, no-less, no-greater) tt))
 
 pub two-bytes-spec : {M : Type 1} → statement M
 two-bytes-spec =

@@ -1,9 +1,9 @@
 -- `lex::values::digits_at` meets its contract.
 use native.Mathlib.Omega.{arith}
 use lib.ListN.{drop}
+use borrow.Author.Needs.{needs}
 use Rattle.lex.specs.Numbers.{digitsAt}
 use Rattle.lex.proofs.WordParts.{word-length}
-use borrow.Author.Needs.{needs}
 use Rattle.lex.proofs.values.digits_at.Statement.{statement}
 use Rattle.lex.proofs.values.digits_at.Tie as tie
 
@@ -15,7 +15,9 @@ sub-if1 c = search needs
 
 returns : tie.Need-returns
 unfolding digitsAt
-returns c = omega (arith, word-length (drop (c .before .before .before .args .at) (c .before .before .before .args .src .now)))
+returns c =
+    let args = c .before .before .before .args in
+    omega (arith, word-length (drop (args .at) (args .src .now)))
 
 sub-result : tie.Need-sub-result
 sub-result c = search needs
@@ -25,7 +27,9 @@ sub-result-2 c = search needs
 
 returns-2 : tie.Need-returns-2
 unfolding digitsAt
-returns-2 c = omega (arith, word-length (drop (c .before .before .before .args .at) (c .before .before .before .args .src .now)))
+returns-2 c =
+    let args = c .before .before .before .args in
+    omega (arith, word-length (drop (args .at) (args .src .now)))
 
 pub digits-at-spec : {M : Type 1} → statement M
 digits-at-spec =

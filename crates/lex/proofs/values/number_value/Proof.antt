@@ -1,12 +1,12 @@
 -- `lex::values::number_value` meets its contract.
-use native.Mathlib.Omega.{arith}
-use mathlib.Core.Path.{_≡_, sym, ap, _∙_}
+use mathlib.Core.Path.{sym, ap, _∙_}
 use mathlib.Core.List.{List}
 use Prim.Native.Nat.{ℕ}
+use native.Mathlib.Omega.{arith}
+use borrow.Author.Needs.{needs}
 use borrow.Author.Tests.{eq-eqb, ne-eqb}
 use Rattle.lex.specs.Numbers.{valueFrom, numeral, fitted}
 use Rattle.lex.proofs.Lists.{inside, rest-part}
-use borrow.Author.Needs.{needs}
 use Rattle.lex.proofs.values.number_value.Statement.{statement}
 use Rattle.lex.proofs.values.number_value.Tie as tie
 
@@ -14,10 +14,14 @@ byte-at-requires : tie.Need-byte-at-requires
 byte-at-requires c κs = search needs
 
 sub-value-in : tie.Need-sub-value-in
-sub-value-in c = omega (arith, inside (c .before .before .before .args .w .now) 1 (λ e. omega (arith, c .before .byte-at .ensures)))
+sub-value-in c =
+    let args = c .before .before .before .args in
+    omega (arith, inside (args .w .now) 1 (λ e. omega (arith, c .before .byte-at .ensures)))
 
 part-value-in-start : tie.Need-part-value-in-start
-part-value-in-start c = omega (arith, inside (c .before .before .before .args .w .now) 1 (λ e. omega (arith, c .before .byte-at .ensures)))
+part-value-in-start c =
+    let args = c .before .before .before .args in
+    omega (arith, inside (args .w .now) 1 (λ e. omega (arith, c .before .byte-at .ensures)))
 
 part-value-in-end : tie.Need-part-value-in-end
 part-value-in-end c = search needs
@@ -28,8 +32,9 @@ value-in-requires c κs = search needs
 returns : tie.Need-returns
 unfolding numeral
 returns c =
+    let args = c .before .before .before .before .before .args in
     let hex = sym (c .before .before .before .byte-at .ensures) ∙ c .before .before .if1 .taken in
-    rw (eq-eqb _ 120 hex) (c .value-in .ensures ∙ ap (λ (s : List ℕ). fitted (valueFrom 16 0 s)) (rest-part (c .before .before .before .before .before .args .w .now) 2))
+    rw (eq-eqb _ 120 hex) (c .value-in .ensures ∙ ap (λ (s : List ℕ). fitted (valueFrom 16 0 s)) (rest-part (args .w .now) 2))
 
 value-in-requires-2 : tie.Need-value-in-requires-2
 value-in-requires-2 c κs = search needs

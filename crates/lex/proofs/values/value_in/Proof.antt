@@ -1,11 +1,11 @@
 -- `lex::values::value_in` meets its contract. The loop's invariant: the value so far fits, and with the digits from here on it is the whole value.
-use native.Mathlib.Omega.{arith}
 use mathlib.Core.Path.{_≡_, sym, ap, _∙_}
-use Prim.Native.Nat.{_+_, _-_, _*_, _^_, _≤_, _<_}
-use lib.ListN.{length, getD, drop}
-use Rattle.lex.specs.Numbers.{digitValue, valueFrom, fitted}
-use Rattle.lex.proofs.ValueLaws.{fitted-fits, fitted-large, product-fits, product-large, value-end, value-large, value-next}
+use Prim.Native.Nat.{_-_, _^_, _<_}
+use native.Mathlib.Omega.{arith}
+use lib.ListN.{length, drop}
 use borrow.Author.Needs.{needs}
+use Rattle.lex.specs.Numbers.{valueFrom, fitted}
+use Rattle.lex.proofs.ValueLaws.{fitted-fits, fitted-large, product-fits, product-large, value-end, value-large, value-next}
 use Rattle.lex.proofs.values.value_in.Statement.{statement}
 use Rattle.lex.proofs.values.value_in.Tie as tie
 
@@ -29,33 +29,43 @@ wide-requires c κs = search needs
 
 returns : tie.Need-returns Inv-loop μ-loop
 returns c =
-    let base = c .before .before .before .before .before .before .before .args .base in
-    let w = c .before .before .before .before .before .before .before .args .w .now in
-    let i = c .before .before .before .before .before .loop .i in
-    let v = c .before .before .before .before .before .loop .value in
-    let d = c .before .wide .result in
-    let is-d : d ≡ digitValue (getD w i 0) = c .before .wide .ensures ∙ c .before .before .digit-value .ensures in
-    let large = product-large base (c .before .before .before .before .before .before .before .args .limit) v (c .before .before .before .before .before .before .before .pre .2) (c .if1 .taken) in
-    sym (ap fitted (c .before .before .before .before .before .loop .inv .1) ∙ fitted-large _ (value-large base v w i d (c .before .before .before .before .before .before .before .pre .0) is-d (omega arith) (omega arith)))
+    let args = c .before .before .before .before .before .before .before .args in
+    let pre = c .before .before .before .before .before .before .before .pre in
+    let loop = c .before .before .before .before .before .loop in
+    let is-digit = c .before .wide .ensures ∙ c .before .before .digit-value .ensures in
+    let large = product-large (args .base) (args .limit) (loop .value) (pre .2) (c .if1 .taken) in
+    let whole = value-large (args .base) (loop .value) (args .w .now) (loop .i) _ (pre .0) is-digit (omega arith) (omega arith) in
+    sym (ap fitted (loop .inv .1) ∙ fitted-large _ whole)
 
 mul-product : tie.Need-mul-product Inv-loop μ-loop
-mul-product c = record { fits = product-fits (c .before .before .before .before .before .before .before .args .base) (c .before .before .before .before .before .before .before .args .limit) (c .before .before .before .before .before .loop .value) (c .before .before .before .before .before .before .before .pre .1) (c .if1 .left) }
+mul-product c =
+    let args = c .before .before .before .before .before .before .before .args in
+    let pre = c .before .before .before .before .before .before .before .pre in
+    let loop = c .before .before .before .before .before .loop in
+    record { fits = product-fits (args .base) (args .limit) (loop .value) (pre .1) (c .if1 .left) }
 
 sub-if2 : tie.Need-sub-if2 Inv-loop μ-loop
-sub-if2 c = omega (arith, product-fits (c .before .before .before .before .before .before .before .args .base) (c .before .before .before .before .before .before .before .args .limit) (c .before .before .before .before .before .loop .value) (c .before .before .before .before .before .before .before .pre .1) (c .if1 .left))
+sub-if2 c =
+    let args = c .before .before .before .before .before .before .before .args in
+    let pre = c .before .before .before .before .before .before .before .pre in
+    let loop = c .before .before .before .before .before .loop in
+    omega (arith, product-fits (args .base) (args .limit) (loop .value) (pre .1) (c .if1 .left))
 
 returns-2 : tie.Need-returns-2 Inv-loop μ-loop
 returns-2 c =
-    let base = c .before .before .before .before .before .before .before .before .args .base in
-    let w = c .before .before .before .before .before .before .before .before .args .w .now in
-    let i = c .before .before .before .before .before .before .loop .i in
-    let v = c .before .before .before .before .before .before .loop .value in
-    let d = c .before .before .wide .result in
-    let is-d : d ≡ digitValue (getD w i 0) = c .before .before .wide .ensures ∙ c .before .before .before .digit-value .ensures in
-    sym (ap fitted (c .before .before .before .before .before .before .loop .inv .1) ∙ fitted-large _ (value-large base v w i d (c .before .before .before .before .before .before .before .before .pre .0) is-d (omega arith) (omega arith)))
+    let args = c .before .before .before .before .before .before .before .before .args in
+    let pre = c .before .before .before .before .before .before .before .before .pre in
+    let loop = c .before .before .before .before .before .before .loop in
+    let is-digit = c .before .before .wide .ensures ∙ c .before .before .before .digit-value .ensures in
+    let whole = value-large (args .base) (loop .value) (args .w .now) (loop .i) _ (pre .0) is-digit (omega arith) (omega arith) in
+    sym (ap fitted (loop .inv .1) ∙ fitted-large _ whole)
 
 add-value : tie.Need-add-value Inv-loop μ-loop
-add-value c = omega (arith, product-fits (c .before .before .before .before .before .before .before .before .args .base) (c .before .before .before .before .before .before .before .before .args .limit) (c .before .before .before .before .before .before .loop .value) (c .before .before .before .before .before .before .before .before .pre .1) (c .before .if1 .left))
+add-value c =
+    let args = c .before .before .before .before .before .before .before .before .args in
+    let pre = c .before .before .before .before .before .before .before .before .pre in
+    let loop = c .before .before .before .before .before .before .loop in
+    omega (arith, product-fits (args .base) (args .limit) (loop .value) (pre .1) (c .before .if1 .left))
 
 add-i : tie.Need-add-i Inv-loop μ-loop
 add-i c = search needs
@@ -65,13 +75,19 @@ loop-less c = search needs
 
 loop-again : tie.Need-loop-again Inv-loop μ-loop
 loop-again c =
-    let w = c .before .before .before .before .before .before .before .before .args .w .now in
-    let is-d : c .before .before .wide .result ≡ digitValue (getD w (c .before .before .before .before .before .before .loop .i) 0) = c .before .before .wide .ensures ∙ c .before .before .before .digit-value .ensures in
-    let fits = product-fits (c .before .before .before .before .before .before .before .before .args .base) (c .before .before .before .before .before .before .before .before .args .limit) (c .before .before .before .before .before .before .loop .value) (c .before .before .before .before .before .before .before .before .pre .1) (c .before .if1 .left) in
-    (omega arith, c .before .before .before .before .before .before .loop .inv .1 ∙ value-next (c .before .before .before .before .before .before .before .before .args .base) (c .before .before .before .before .before .before .loop .value) w (c .before .before .before .before .before .before .loop .i) _ is-d (omega arith))
+    let args = c .before .before .before .before .before .before .before .before .args in
+    let pre = c .before .before .before .before .before .before .before .before .pre in
+    let loop = c .before .before .before .before .before .before .loop in
+    let is-digit = c .before .before .wide .ensures ∙ c .before .before .before .digit-value .ensures in
+    let fits = product-fits (args .base) (args .limit) (loop .value) (pre .1) (c .before .if1 .left) in
+    (omega arith, loop .inv .1 ∙ value-next (args .base) (loop .value) (args .w .now) (loop .i) _ is-digit (omega arith))
 
 returns-3 : tie.Need-returns-3 Inv-loop μ-loop
-returns-3 c = sym (ap fitted (c .before .loop .inv .1 ∙ value-end (c .before .before .before .args .base) (c .before .loop .value) (c .before .before .before .args .w .now) (c .before .loop .i) (omega arith)) ∙ fitted-fits (c .before .loop .value) (c .before .loop .inv .0))
+returns-3 c =
+    let args = c .before .before .before .args in
+    let loop = c .before .loop in
+    let whole = loop .inv .1 ∙ value-end (args .base) (loop .value) (args .w .now) (loop .i) (omega arith) in
+    sym (ap fitted whole ∙ fitted-fits (loop .value) (loop .inv .0))
 
 pub value-in-spec : {M : Type 1} → statement M
 value-in-spec =

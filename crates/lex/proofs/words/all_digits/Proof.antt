@@ -1,12 +1,12 @@
 -- `lex::words::all_digits` meets its contract. The loop's invariant: the answer is the same from here as from the start.
-use native.Mathlib.Omega.{arith}
 use mathlib.Core.Path.{_≡_, sym, _∙_}
 use Prim.Native.Nat.{_-_}
+use native.Mathlib.Omega.{arith}
 use lib.ListN.{length, drop}
+use borrow.Author.Needs.{needs}
 use Rattle.lex.specs.Bytes.{isDigit}
 use Rattle.lex.specs.Tokens.{all}
 use Rattle.lex.proofs.Steps.{all-end, all-no, all-yes}
-use borrow.Author.Needs.{needs}
 use Rattle.lex.proofs.words.all_digits.Statement.{statement}
 use Rattle.lex.proofs.words.all_digits.Tie as tie
 
@@ -32,13 +32,22 @@ loop-less : tie.Need-loop-less Inv-loop μ-loop
 loop-less c = search needs
 
 loop-again : tie.Need-loop-again Inv-loop μ-loop
-loop-again c = c .before .before .before .before .loop .inv ∙ all-yes isDigit (c .before .before .before .before .before .before .args .w .now) (c .before .before .before .before .loop .i) (omega arith) (sym (c .before .is-digit .ensures) ∙ c .if1 .taken)
+loop-again c =
+    let args = c .before .before .before .before .before .before .args in
+    let loop = c .before .before .before .before .loop in
+    loop .inv ∙ all-yes isDigit (args .w .now) (loop .i) (omega arith) (sym (c .before .is-digit .ensures) ∙ c .if1 .taken)
 
 returns : tie.Need-returns Inv-loop μ-loop
-returns c = sym (c .before .before .before .before .loop .inv ∙ all-no isDigit (c .before .before .before .before .before .before .args .w .now) (c .before .before .before .before .loop .i) (omega arith) (sym (c .before .is-digit .ensures) ∙ c .if1 .left))
+returns c =
+    let args = c .before .before .before .before .before .before .args in
+    let loop = c .before .before .before .before .loop in
+    sym (loop .inv ∙ all-no isDigit (args .w .now) (loop .i) (omega arith) (sym (c .before .is-digit .ensures) ∙ c .if1 .left))
 
 returns-2 : tie.Need-returns-2 Inv-loop μ-loop
-returns-2 c = sym (c .before .loop .inv ∙ all-end isDigit (c .before .before .before .args .w .now) (c .before .loop .i) (omega arith))
+returns-2 c =
+    let args = c .before .before .before .args in
+    let loop = c .before .loop in
+    sym (loop .inv ∙ all-end isDigit (args .w .now) (loop .i) (omega arith))
 
 pub all-digits-spec : {M : Type 1} → statement M
 all-digits-spec =

@@ -1,30 +1,36 @@
 -- `lex::words::is_hex` meets its contract.
-use mathlib.Core.Path.{_≡_, ap, _∙_}
+use mathlib.Core.Path.{ap, _∙_}
+use native.Mathlib.Omega.{arith}
+use lib.ListN.{length}
+use borrow.Author.Needs.{needs}
 use borrow.Author.Tests.{lt-ltb, le-ltb, eq-eqb, ne-eqb}
 use Rattle.lex.specs.Bytes.{isHexDigit}
 use Rattle.lex.specs.Tokens.{isHex, all}
 use Rattle.lex.proofs.Lists.{rest-part}
-use borrow.Author.Needs.{needs}
 use Rattle.lex.proofs.words.is_hex.Statement.{statement}
 use Rattle.lex.proofs.words.is_hex.Tie as tie
 
 returns : tie.Need-returns
 unfolding isHex
-returns c = rw (le-ltb _ _ (c .if1 .taken))
+returns c = rw (le-ltb 2 (length (c .before .before .args .w .now)) (omega arith))
 
 shared-slice-read-if2 : tie.Need-shared-slice-read-if2
 shared-slice-read-if2 c = search needs
 
 returns-2 : tie.Need-returns-2
 unfolding isHex
-returns-2 c = rw (lt-ltb _ _ (c .before .before .if1 .left), ne-eqb _ _ (c .if2 .taken))
+returns-2 c =
+    let args = c .before .before .before .before .args in
+    rw (lt-ltb 2 (length (args .w .now)) (omega arith), ne-eqb _ 48 (c .if2 .taken))
 
 shared-slice-read-if3 : tie.Need-shared-slice-read-if3
 shared-slice-read-if3 c = search needs
 
 returns-3 : tie.Need-returns-3
 unfolding isHex
-returns-3 c = rw (lt-ltb _ _ (c .before .before .before .before .if1 .left), eq-eqb _ _ (c .before .before .if2 .left), ne-eqb _ _ (c .if3 .taken))
+returns-3 c =
+    let args = c .before .before .before .before .before .before .args in
+    rw (lt-ltb 2 (length (args .w .now)) (omega arith), eq-eqb _ 48 (c .before .before .if2 .left), ne-eqb _ 120 (c .if3 .taken))
 
 sub-all-hex-digits : tie.Need-sub-all-hex-digits
 sub-all-hex-digits c = search needs
@@ -41,8 +47,11 @@ all-hex-digits-requires c κs = search needs
 returns-4 : tie.Need-returns-4
 unfolding isHex
 returns-4 c =
-    rw (lt-ltb _ _ (c .before .before .before .before .before .before .if1 .left), eq-eqb _ _ (c .before .before .before .before .if2 .left), eq-eqb _ _ (c .before .before .if3 .left))
-    (c .all-hex-digits .ensures ∙ ap (all isHexDigit) (rest-part (c .before .before .before .before .before .before .before .before .args .w .now) 2))
+    let args = c .before .before .before .before .before .before .before .before .args in
+    let long = lt-ltb 2 (length (args .w .now)) (omega arith) in
+    let zero = eq-eqb _ 48 (c .before .before .before .before .if2 .left) in
+    let x = eq-eqb _ 120 (c .before .before .if3 .left) in
+    rw (long, zero, x) (c .all-hex-digits .ensures ∙ ap (all isHexDigit) (rest-part (args .w .now) 2))
 
 pub is-hex-spec : {M : Type 1} → statement M
 is-hex-spec =

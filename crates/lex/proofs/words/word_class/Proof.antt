@@ -1,10 +1,8 @@
 -- `lex::words::word_class` meets its contract.
-use mathlib.Core.Path.{_≡_, sym, ap, _∙_}
-use mathlib.Core.Bool.{true, false}
-use lib.ListN.{getD}
+use mathlib.Core.Path.{sym, ap, _∙_}
+use borrow.Author.Needs.{needs}
 use Rattle.lex.specs.Bytes.{isDigit}
 use Rattle.lex.specs.Tokens.{wordClass}
-use borrow.Author.Needs.{needs}
 use Rattle.lex.proofs.words.word_class.Statement.{statement}
 use Rattle.lex.proofs.words.word_class.Tie as tie
 
@@ -19,25 +17,41 @@ all-digits-requires c κs = search needs
 
 returns : tie.Need-returns
 unfolding wordClass
-returns c = rw (sym (c .before .before .before .is-digit .ensures ∙ ap isDigit (c .before .before .before .before .byte-at .ensures)) ∙ c .before .before .if1 .taken, sym (c .before .all-digits .ensures) ∙ c .if2 .taken)
+returns c =
+    let byte = ap isDigit (c .before .before .before .before .byte-at .ensures) in
+    let is-digit = sym (c .before .before .before .is-digit .ensures ∙ byte) ∙ c .before .before .if1 .taken in
+    let decimal = sym (c .before .all-digits .ensures) ∙ c .if2 .taken in
+    rw (is-digit, decimal)
 
 is-hex-requires : tie.Need-is-hex-requires
 is-hex-requires c κs = search needs
 
 returns-2 : tie.Need-returns-2
 unfolding wordClass
-returns-2 c = rw (sym (c .before .before .before .before .before .is-digit .ensures ∙ ap isDigit (c .before .before .before .before .before .before .byte-at .ensures)) ∙ c .before .before .before .before .if1 .taken, sym (c .before .before .before .all-digits .ensures) ∙ c .before .before .if2 .left, sym (c .before .is-hex .ensures) ∙ c .if3 .taken)
+returns-2 c =
+    let byte = ap isDigit (c .before .before .before .before .before .before .byte-at .ensures) in
+    let is-digit = sym (c .before .before .before .before .before .is-digit .ensures ∙ byte) ∙ c .before .before .before .before .if1 .taken in
+    let no-decimal = sym (c .before .before .before .all-digits .ensures) ∙ c .before .before .if2 .left in
+    let hex = sym (c .before .is-hex .ensures) ∙ c .if3 .taken in
+    rw (is-digit, no-decimal, hex)
 
 returns-3 : tie.Need-returns-3
 unfolding wordClass
-returns-3 c = rw (sym (c .before .before .before .before .before .is-digit .ensures ∙ ap isDigit (c .before .before .before .before .before .before .byte-at .ensures)) ∙ c .before .before .before .before .if1 .taken, sym (c .before .before .before .all-digits .ensures) ∙ c .before .before .if2 .left, sym (c .before .is-hex .ensures) ∙ c .if3 .left)
+returns-3 c =
+    let byte = ap isDigit (c .before .before .before .before .before .before .byte-at .ensures) in
+    let is-digit = sym (c .before .before .before .before .before .is-digit .ensures ∙ byte) ∙ c .before .before .before .before .if1 .taken in
+    let no-decimal = sym (c .before .before .before .all-digits .ensures) ∙ c .before .before .if2 .left in
+    let no-hex = sym (c .before .is-hex .ensures) ∙ c .if3 .left in
+    rw (is-digit, no-decimal, no-hex)
 
 class-of-requires : tie.Need-class-of-requires
 class-of-requires c κs = search needs
 
 returns-4 : tie.Need-returns-4
 unfolding wordClass
-returns-4 c = rw (sym (c .before .before .is-digit .ensures ∙ ap isDigit (c .before .before .before .byte-at .ensures)) ∙ c .before .if1 .left) (c .class-of .ensures)
+returns-4 c =
+    let byte = ap isDigit (c .before .before .before .byte-at .ensures) in
+    rw (sym (c .before .before .is-digit .ensures ∙ byte) ∙ c .before .if1 .left) (c .class-of .ensures)
 
 pub word-class-spec : {M : Type 1} → statement M
 word-class-spec =

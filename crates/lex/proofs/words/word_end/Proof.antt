@@ -1,12 +1,12 @@
 -- `lex::words::word_end` meets its contract. The loop's invariant: the end is the same from here as from the start.
-use native.Mathlib.Omega.{arith}
 use mathlib.Core.Path.{_≡_, sym, _∙_}
 use Prim.Native.Nat.{_+_, _-_}
+use native.Mathlib.Omega.{arith}
 use lib.ListN.{length, drop}
+use borrow.Author.Needs.{needs}
 use Rattle.lex.specs.Bytes.{isWordByte}
 use Rattle.lex.specs.Tokens.{run}
 use Rattle.lex.proofs.Steps.{run-end, run-no, run-yes}
-use borrow.Author.Needs.{needs}
 use Rattle.lex.proofs.words.word_end.Statement.{statement}
 use Rattle.lex.proofs.words.word_end.Tie as tie
 
@@ -32,13 +32,21 @@ loop-less : tie.Need-loop-less Inv-loop μ-loop
 loop-less c = search needs
 
 loop-again : tie.Need-loop-again Inv-loop μ-loop
-loop-again c = omega (arith, run-yes isWordByte (c .before .before .before .before .before .before .args .src .now) (c .before .before .before .before .loop .i) (omega arith) (sym (c .before .is-word-byte .ensures) ∙ c .if1 .taken))
+loop-again c =
+    let args = c .before .before .before .before .before .before .args in
+    let loop = c .before .before .before .before .loop in
+    omega (arith, run-yes isWordByte (args .src .now) (loop .i) (omega arith) (sym (c .before .is-word-byte .ensures) ∙ c .if1 .taken))
 
 returns : tie.Need-returns Inv-loop μ-loop
-returns c = omega (arith, run-no isWordByte (c .before .before .before .before .before .before .args .src .now) (c .before .before .before .before .loop .i) (omega arith) (sym (c .before .is-word-byte .ensures) ∙ c .if1 .left))
+returns c =
+    let args = c .before .before .before .before .before .before .args in
+    let loop = c .before .before .before .before .loop in
+    omega (arith, run-no isWordByte (args .src .now) (loop .i) (omega arith) (sym (c .before .is-word-byte .ensures) ∙ c .if1 .left))
 
 returns-2 : tie.Need-returns-2 Inv-loop μ-loop
-returns-2 c = omega (arith, run-end isWordByte (c .before .before .before .args .src .now) (c .before .loop .i) (omega arith))
+returns-2 c =
+    let args = c .before .before .before .args in
+    omega (arith, run-end isWordByte (args .src .now) (c .before .loop .i) (omega arith))
 
 pub word-end-spec : {M : Type 1} → statement M
 word-end-spec =

@@ -7,3 +7,15 @@ pub mod Specimens
 pub mod WorkedExample
 pub mod Decided
 pub mod Printed
+pub mod Alternatives
+pub mod SourceTokens
+pub mod NoBadLeaf
+pub mod ExpressionRows
+pub mod RowCount
+pub mod RowShape
+pub mod Places
+pub mod Checks
+pub mod Answers
+pub mod QuickCheck
+pub mod QuestionNumbers
+pub mod Demand3

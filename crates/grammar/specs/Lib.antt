@@ -15,3 +15,4 @@ pub mod Drafts
 pub mod Answer
 pub mod Text
 pub mod Resolution
+pub mod Demand3

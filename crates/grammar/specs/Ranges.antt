@@ -68,4 +68,4 @@ module _ (s : List ℕ) where
   outOfRange (leaf t f) = outOfRange f
   outOfRange (node A i c f) =
       let here = cond (keeps (rangeOf A) (placeAt 0 c)) [] (placeAt 0 c ∷ []) in
-      here ++ outOfRange c ++ outOfRange f
+      here ++ (outOfRange c ++ outOfRange f)

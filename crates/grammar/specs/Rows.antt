@@ -174,7 +174,7 @@ module _ (number-at : ℕ → ℕ) where
   expressionRows parent (question-numbered p q) = operand parent code.QUESTION-REF (number-at q) p (mark q) ∷ []
   expressionRows parent (rule-named p q) = operand parent code.RULE-REF 0 p (mark q) ∷ []
   expressionRows parent (negation p e) = expressionRows parent e ++ operand parent code.NOT 0 p 0 ∷ []
-  expressionRows parent (binary o p l r) = expressionRows parent l ++ expressionRows parent r ++ operand parent (operatorCode o) 0 p 0 ∷ []
+  expressionRows parent (binary o p l r) = expressionRows parent l ++ (expressionRows parent r ++ operand parent (operatorCode o) 0 p 0 ∷ [])
 
   -- ---- rows of trees
 

@@ -9,7 +9,7 @@ pub mod Named
 pub mod Specimens
 -- What the proofs of the functions and of the laws lean on.
 pub mod Shape
-mod Lists
+pub mod Lists
 mod Steps
 mod Comments
 mod WordTable

@@ -14,5 +14,5 @@ mod Steps
 mod Comments
 mod WordTable
 mod Missed
-mod WordParts
+pub mod WordParts
 mod Cases

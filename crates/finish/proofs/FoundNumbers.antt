@@ -1,0 +1,128 @@
+-- The numbers that references find in the cells are those that grammar finds among the numbered drafts.
+use Prim.Native.Nat.{ℕ, _+_, _-_, _<_}
+use mathlib.Core.Path.{_≡_, refl, sym, ap, _∙_}
+use mathlib.Core.Bool.{Bool, true, false, cond, _&&_, _||_, true≢false}
+use mathlib.Core.List.{List, [], _∷_, map}
+use native.Mathlib.Omega.{arith}
+use borrow.Author.Tests.{ne-eqb, eqb-true, eqb-false, lt-ltb}
+use lib.Dec.{eqb, ltb}
+use lib.ListN.{length, set}
+use Rattle.rows.specs.Codes as code
+use Rattle.rows.specs.Columns as column
+use Rattle.rows.specs.Table.{rowAt, cellAt}
+use Rattle.rows.specs.Rows.{rowsFrom}
+use Rattle.numbers.proofs.Ranges.{and-yes}
+use Rattle.grammar.specs.Rows.{Draft}
+use Rattle.grammar.specs.Stages.{cell, is, asks, writes, any, declares, finds, refers, ownOfFirst, placeOf}
+use Rattle.grammar.specs.Drafts.{encoded}
+use Rattle.stages.specs.Fits.{Fits, AllFit, none-fit, add-fit}
+use Rattle.stages.specs.Names.{findIn, declaresMark, firstRow}
+use Rattle.stages.proofs.CodingLaws.{cell-encoded, set-decoded, decoded-encoded}
+use Rattle.stages.proofs.RepeatFaults.{bears}
+use Rattle.finish.specs.Finish.{stripped, numberFound, resolved}
+
+-- ---- the own number of the first row that passes a test
+
+-- all rows that pass it have the same
+own-same : (s : List ℕ) (p : Draft → Bool) (k : ℕ) → ((e : Draft) → p e ≡ true → cell column.OWN e ≡ k) → (ds : List Draft) → any p ds ≡ true → ownOfFirst s p ds ≡ k
+unfolding any ownOfFirst
+own-same s p k h [] y = absurd (true≢false (sym y))
+own-same s p k h (d ∷ ds) y = go (p d) refl (own-same s p k h ds) y
+  where
+    go : (b : Bool) → p d ≡ b → (any p ds ≡ true → ownOfFirst s p ds ≡ k) → (b || any p ds) ≡ true → cond b (cell column.OWN d) (ownOfFirst s p ds) ≡ k
+    go true e f z = h d e
+    go false e f z = f z
+
+-- a table's own numbers from row i on are those of the drafts
+abbrev pub Owns : List ℕ → ℕ → List Draft → Type 0
+Owns t i [] = Unit {0}
+Owns t i (d ∷ ds) = (cellAt t i column.OWN ≡ cell column.OWN d) × Owns t (i + 1) ds
+
+pub owns-held : {ds : List Draft} → AllFit ds → (t : List ℕ) (i : ℕ) → rowsFrom t i (length ds) ≡ map encoded ds → Owns t i ds
+unfolding rowsFrom
+owns-held none-fit t i e = tt
+owns-held (add-fit {d = d} {ds = ds} f r) t i e =
+    let both : rowAt t i ∷ rowsFrom t (i + 1) (length ds) ≡ encoded d ∷ map encoded ds = e in
+    let this : rowAt t i ≡ encoded d = cc in
+    let more : rowsFrom t (i + 1) (length ds) ≡ map encoded ds = cc in
+    (rw this (cell-encoded f column.OWN refl), owns-held r t (i + 1) more)
+
+-- the own number in the first row
+own-at : (s t : List ℕ) (p : Draft → Bool) (ds : List Draft) (i : ℕ) → Owns t i ds
+    → cond (eqb (firstRow p i ds) 0) 0 (cellAt t (firstRow p i ds - 1) column.OWN) ≡ ownOfFirst s p ds
+unfolding firstRow ownOfFirst
+own-at s t p [] i o = refl
+own-at s t p (d ∷ ds) i o = go (p d) (own-at s t p ds (i + 1) (o .1))
+  where
+    go : (b : Bool) → cond (eqb (firstRow p (i + 1) ds) 0) 0 (cellAt t (firstRow p (i + 1) ds - 1) column.OWN) ≡ ownOfFirst s p ds
+        → cond (eqb (cond b (i + 1) (firstRow p (i + 1) ds)) 0) 0 (cellAt t (cond b (i + 1) (firstRow p (i + 1) ds) - 1) column.OWN) ≡ cond b (cell column.OWN d) (ownOfFirst s p ds)
+    go true x = let e : i + 1 - 1 ≡ i = omega arith in rw (ne-eqb (i + 1) 0 (λ f. omega arith), e) (o .0)
+    go false x = x
+
+own-alike : (s : List ℕ) (p q : Draft → Bool) → ((e : Draft) → p e ≡ q e) → (ds : List Draft) → ownOfFirst s p ds ≡ ownOfFirst s q ds
+unfolding ownOfFirst
+own-alike s p q h [] = refl
+own-alike s p q h (d ∷ ds) = rw (h d, own-alike s p q h ds)
+
+-- ---- a reference among the numbered drafts ns: it names something, and a number that it names is written
+
+pub record Refers (s : List ℕ) (ns : List Draft) (d : Draft) : Type 0 where
+  pub fits : Fits d
+  pub rule-name : is code.RULE-REF d ≡ true → cell column.A d ≡ 0
+  pub named : refers s d ≡ true → 0 < d .ownAt
+  pub numbered : refers s d ≡ true → (cell column.A d ≡ 0 → ⊥) → any (bears writes (cell column.A d)) ns ≡ true
+
+-- what it finds, by its code and number
+finds-named : (s : List ℕ) (d : Draft) → cell column.A d ≡ 0 → (e : Draft) → declaresMark s (d .ownAt) (is code.RULE-REF d) e ≡ finds s d e
+finds-named s d z e = go (is code.RULE-REF d)
+  where
+    go : (b : Bool) → declaresMark s (d .ownAt) b e
+        ≡ cond b (is code.RULE e && declares s (placeOf (d .ownAt)) e)
+        (cond (ltb 0 (cell column.A d)) (writes e && eqb (cell column.OWN e) (cell column.A d)) (asks e && declares s (placeOf (d .ownAt)) e))
+    go true = refl
+    go false = rw z
+
+pub finds-numbered : (s : List ℕ) (d : Draft) → is code.RULE-REF d ≡ false → (cell column.A d ≡ 0 → ⊥) → (e : Draft) → bears writes (cell column.A d) e ≡ finds s d e
+finds-numbered s d r z e = rw (r, lt-ltb 0 (cell column.A d) (omega (arith, z)))
+
+module _ (s es t : List ℕ) (ns : List Draft)
+    (index : (m : ℕ) (rule : Bool) → 0 < m → findIn s es m rule ≡ firstRow (declaresMark s m rule) 0 ns) (owns : Owns t 0 ns) where
+  module _ {d : Draft} (v : Refers s ns d) where
+    -- the parts of its cells
+    number-encoded : numberFound s es t (encoded d)
+        ≡ cond (eqb (cell column.A d) 0)
+        (cond (eqb (findIn s es (d .ownAt) (is code.RULE-REF d)) 0) 0 (cellAt t (findIn s es (d .ownAt) (is code.RULE-REF d) - 1) column.OWN))
+        (cell column.A d)
+    unfolding numberFound
+    number-encoded = rw (cell-encoded (v .fits) column.A refl, cell-encoded (v .fits) column.CODE refl, decoded-encoded (v .fits))
+
+    pub number-found : refers s d ≡ true → numberFound s es t (encoded d) ≡ ownOfFirst s (finds s d) ns
+    number-found y = number-encoded ∙ go (eqb (cell column.A d) 0) refl
+      where
+        rule : Bool
+        rule = is code.RULE-REF d
+
+        at : ℕ
+        at = findIn s es (d .ownAt) rule
+
+        go : (b : Bool) → eqb (cell column.A d) 0 ≡ b → cond b (cond (eqb at 0) 0 (cellAt t (at - 1) column.OWN)) (cell column.A d) ≡ ownOfFirst s (finds s d) ns
+        go true z =
+            rw (index (d .ownAt) rule (v .named y))
+            (own-at s t (declaresMark s (d .ownAt) rule) ns 0 owns ∙ own-alike s (declaresMark s (d .ownAt) rule) (finds s d) (finds-named s d (eqb-true _ _ z)) ns)
+        go false z =
+            sym (sym (own-alike s (bears writes (cell column.A d)) (finds s d) (finds-numbered s d (no-rule rule refl) (eqb-false _ _ z)) ns)
+            ∙ own-same s (bears writes (cell column.A d)) (cell column.A d) (λ e f. eqb-true _ _ (and-yes (writes e) _ f .1)) ns (v .numbered y (eqb-false _ _ z)))
+          where
+            no-rule : (b : Bool) → rule ≡ b → rule ≡ false
+            no-rule true r = absurd (eqb-false _ _ z (v .rule-name r))
+            no-rule false r = r
+
+    -- the finished row
+    pub row-finished : stripped (resolved s es t (encoded d)) ≡ cond (refers s d) (set (d .row) column.A (ownOfFirst s (finds s d) ns)) (d .row)
+    unfolding resolved
+    row-finished = rw (cell-encoded (v .fits) column.CODE refl) (go (refers s d) refl)
+      where
+        go : (b : Bool) → refers s d ≡ b
+            → stripped (cond b (set (encoded d) column.A (numberFound s es t (encoded d))) (encoded d)) ≡ cond b (set (d .row) column.A (ownOfFirst s (finds s d) ns)) (d .row)
+        go true y = set-decoded (encoded d) column.A _ refl ∙ rw (decoded-encoded (v .fits), number-found y)
+        go false y = ap (λ (x : Draft). x .row) (decoded-encoded (v .fits))

@@ -1,0 +1,2 @@
+-- The definitions that the contracts of `finish` cite.
+pub mod Finish

@@ -1,0 +1,104 @@
+// From draft rows to finished rows (document 01, Rows).
+ghost use mathlib.Core.Path.{_≡_};
+ghost use mathlib.Core.List.{map};
+ghost use Rattle.numbers.specs.Numbers.{given, givenMap};
+ghost use Rattle.rows.specs.Table.{rowAt, withRow};
+ghost use Rattle.rows.specs.Rows.{rowsFrom, put};
+ghost use Rattle.finish.specs.Finish.{ownsIn, withOwns, halved, stripped, numberFound, resolved};
+use rows::cell;
+use rows::codes;
+use rows::codes::is_question;
+use rows::columns::A;
+use rows::columns::CODE;
+use rows::columns::FIRST;
+use rows::columns::FLAGS;
+use rows::columns::OWN;
+use rows::columns::SECOND;
+use rows::draft::low;
+use rows::set_cell;
+use stages::drafts::own_mark;
+use stages::names::find;
+
+// Gives the questions that write no number, in order, the smallest numbers that are not used, and uses these.
+pub fn number_rows(table: &mut [u64], count: usize, used: &mut [u64; 1024])
+    ensures { λ _. ⌜ now (table .exit) ≡ put (now (table .entry)) 0 (withOwns (given (now (used .entry)) 1 (ownsIn (rowsFrom (now (table .entry)) 0 count))) (rowsFrom (now (table .entry)) 0 count)) ⌝ }
+    ensures { λ _. ⌜ now (used .exit) ≡ givenMap (now (used .entry)) 1 (ownsIn (rowsFrom (now (table .entry)) 0 count)) ⌝ }
+{
+    let mut at = 1;
+    let mut row = 0;
+    while row < count {
+        if is_question(cell(table, row, CODE)) & (cell(table, row, OWN) == 0) {
+            let n = numbers::next_free(used, at);
+            if numbers::LIMIT <= n {
+                return;
+            }
+            set_cell(table, row, OWN, n);
+            numbers::mark(used, n);
+            at = n + 1;
+            row += 1;
+        } else {
+            row += 1;
+        }
+    }
+}
+
+// The number that the reference in a row finds: a written one, or that of the question or rule of the name.
+fn number_found(src: &[u8], table: &[u64], row: usize, index: &[u64]) -> u64
+    ensures { λ r. ⌜ r ≡ numberFound (now (src .entry)) (now (index .entry)) (now (table .entry)) (rowAt (now (table .entry)) row) ⌝ }
+{
+    let n = cell(table, row, A);
+    if n != 0 {
+        return n;
+    }
+    let rule = cell(table, row, CODE) == codes::RULE_REF;
+    let at = find(src, index, own_mark(table, row), rule);
+    if at == 0 {
+        return 0;
+    }
+    cell(table, (at - 1) as usize, OWN)
+}
+
+// Writes the number that each reference finds.
+pub fn resolve_references(src: &[u8], table: &mut [u64], count: usize, index: &[u64])
+    ensures { λ _. ⌜ now (table .exit) ≡ put (now (table .entry)) 0 (map (resolved (now (src .entry)) (now (index .entry)) (now (table .entry))) (rowsFrom (now (table .entry)) 0 count)) ⌝ }
+{
+    let mut row = 0;
+    while row < count {
+        let code = cell(table, row, CODE);
+        if (code == codes::QUESTION_REF) | (code == codes::RULE_REF) {
+            let n = number_found(src, table, row, index);
+            set_cell(table, row, A, n);
+            row += 1;
+        } else {
+            row += 1;
+        }
+    }
+}
+
+// Keeps the lower half of a cell.
+fn strip_cell(table: &mut [u64], row: usize, column: usize)
+    ensures { λ _. ⌜ now (table .exit) ≡ withRow (now (table .entry)) row (halved column (rowAt (now (table .entry)) row)) ⌝ }
+{
+    let kept = low(cell(table, row, column));
+    set_cell(table, row, column, kept);
+}
+
+// Takes the marks out of a draft row.
+fn strip_row(table: &mut [u64], row: usize)
+    ensures { λ _. ⌜ now (table .exit) ≡ withRow (now (table .entry)) row (stripped (rowAt (now (table .entry)) row)) ⌝ }
+{
+    strip_cell(table, row, FIRST);
+    strip_cell(table, row, SECOND);
+    strip_cell(table, row, FLAGS);
+}
+
+// Takes the marks out of the draft rows.
+pub fn strip(table: &mut [u64], count: usize)
+    ensures { λ _. ⌜ now (table .exit) ≡ put (now (table .entry)) 0 (map stripped (rowsFrom (now (table .entry)) 0 count)) ⌝ }
+{
+    let mut row = 0;
+    while row < count {
+        strip_row(table, row);
+        row += 1;
+    }
+}

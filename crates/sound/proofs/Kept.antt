@@ -1,0 +1,132 @@
+-- Trees of a source whose numbers keep their ranges: their parts, their places, and the numbers in them.
+-- Assumes nothing.
+use mathlib.Core.Path.{_≡_, refl}
+use mathlib.Core.List.{List, [], _∷_, _++_}
+use mathlib.Core.Option.{some}
+use mathlib.Core.Bool.{Bool, true, false, not, cond, _||_, or-false}
+use Prim.Native.Nat.{ℕ, zero, suc, _≤_, _<_}
+use native.Mathlib.Omega.{arith}
+use lib.Dec.{eqb, leb}
+use lib.ListN.{getD}
+use borrow.Author.Tests.{eqb-true, leb-true}
+use Rattle.lex.specs.declared.Value.{Value}
+use Rattle.lex.specs.declared.Value.the-variants.{Fits as FitsWord, TooLarge}
+use Rattle.lex.specs.Numbers.{valueAt}
+use Rattle.numbers.specs.Numbers.{limit}
+use Rattle.ll1.specs.Trees.{token, Trees, nil, leaf, node, Symbol, terminal, nonterminal, Alternative, alternativeOf, Fits, fits-nil, fits-leaf, fits-node}
+use Rattle.ll1.specs.Test.{allAt}
+use Rattle.ll1.proofs.Basics.{clash, both, same, append-empty, allAt-at}
+use Rattle.grammar.specs.Rules.{<str>, <id>, <small>}
+use Rattle.grammar.specs.Grammar.{rules}
+use Rattle.grammar.specs.Source.{held, numberAt}
+use Rattle.grammar.specs.Parts.{child, chosen, placeAt}
+use Rattle.grammar.specs.Answer.{LIMIT}
+use Rattle.grammar.specs.Rows.{mark, value, string}
+use Rattle.grammar.specs.Ranges.{between, ranges, rangeOf, within, keeps, outOfRange}
+use Rattle.sound.proofs.Places.{Bounded, place-le, child-bounded}
+
+-- ---- parts of an alternative
+
+-- the n-th symbol is the rule B
+abbrev has : ℕ → ℕ → List Symbol → Bool
+has B n [] = false
+has B zero (terminal k ∷ σ) = false
+has B (suc n) (terminal k ∷ σ) = has B n σ
+has B zero (nonterminal A ∷ σ) = eqb A B
+has B (suc n) (nonterminal A ∷ σ) = has B n σ
+
+-- the n-th symbol of the alternative i of the rule A is the rule B
+abbrev pub part? : ℕ → ℕ → ℕ → ℕ → Bool
+part? A i n B = allAt (λ j a. has B n (a .symbols) || not (eqb j i)) (getD rules A [])
+
+part-has : (A i n B : ℕ) (a : Alternative) → part? A i n B ≡ true → alternativeOf rules A i ≡ some a → has B n (a .symbols) ≡ true
+part-has A i n B a h e =
+    rw (same i, or-false) at (allAt-at (λ j a. has B n (a .symbols) || not (eqb j i)) (getD rules A []) i a h e)
+
+none-out : (t : Bool) (p : ℕ) → cond t [] (p ∷ []) ≡ [] → t ≡ true
+none-out true p h = refl
+none-out false p h = clash cc
+
+in-range : (low high : ℕ) (v : Value) → within low high v ≡ true → (low ≤ held v) × (held v ≤ high)
+in-range low high (FitsWord v) h = let t = both (leb low v) _ h in (leb-true low v (t .0), leb-true v high (t .1))
+in-range low high TooLarge h = clash cc
+
+module _ (s : List ℕ) where
+  -- ---- trees
+
+  -- the trees fit the symbols, their leaves are within the longest source, and the number of each node keeps the range of its rule
+  pub data Kept : List Symbol → Trees → Type 0 where
+    kept-nil : Kept [] nil
+    kept-leaf : {k p : ℕ} {σ : List Symbol} {f : Trees} → p ≤ LIMIT → Kept σ f → Kept (terminal k ∷ σ) (leaf (token k p) f)
+    kept-node :
+        {A i : ℕ} {a : Alternative} {σ : List Symbol} {c f : Trees}
+        → alternativeOf rules A i ≡ some a → keeps s (rangeOf A) (placeAt 0 c) ≡ true → Kept (a .symbols) c → Kept σ f
+        → Kept (nonterminal A ∷ σ) (node A i c f)
+
+  pub kept : {σ : List Symbol} {f : Trees} → Fits rules σ f → Bounded f → outOfRange s f ≡ [] → Kept σ f
+  unfolding outOfRange
+  kept fits-nil b o = kept-nil
+  kept (fits-leaf r) b o = kept-leaf (b .0) (kept r (b .1) o)
+  kept (fits-node {A = A} {c = c} {f = f} e r₁ r₂) b o =
+      let here = cond (keeps s (rangeOf A) (placeAt 0 c)) [] (placeAt 0 c ∷ []) in
+      let own = append-empty here (outOfRange s c ++ outOfRange s f) o in
+      let others = append-empty (outOfRange s c) (outOfRange s f) (own .1) in
+      kept-node e (none-out (keeps s (rangeOf A) (placeAt 0 c)) (placeAt 0 c) (own .0)) (kept r₁ (b .0) (others .0)) (kept r₂ (b .1) (others .1))
+
+  bounded : {σ : List Symbol} {f : Trees} → Kept σ f → Bounded f
+  bounded kept-nil = tt
+  bounded (kept-leaf p k) = (p, bounded k)
+  bounded (kept-node e r k₁ k₂) = (bounded k₁, bounded k₂)
+
+  -- a node of the rule A and its alternative i over the trees c
+  pub record Node (A i : ℕ) (c : Trees) : Type 0 where
+    pub alternative : Alternative
+    pub is : alternativeOf rules A i ≡ some alternative
+    pub range : keeps s (rangeOf A) (placeAt 0 c) ≡ true
+    pub under : Kept (alternative .symbols) c
+
+  node-at : {σ : List Symbol} {f : Trees} (n B : ℕ) → Kept σ f → has B n σ ≡ true → Node B (chosen n f) (child n f)
+  node-at n B kept-nil h = clash cc
+  node-at zero B (kept-leaf p k) h = clash cc
+  node-at (suc n) B (kept-leaf p k) h = node-at n B k h
+  node-at zero B (kept-node {A = A} {a = a} e r k₁ k₂) h = rw (← eqb-true A B h) (record { alternative = a; is = e; range = r; under = k₁ })
+  node-at (suc n) B (kept-node e r k₁ k₂) h = node-at n B k₂ h
+
+  -- ---- of a node the n-th tree under it
+
+  module _ {A i : ℕ} {c : Trees} (t : Node A i c) (n : ℕ) where
+    -- a leaf
+    pub place-at : placeAt n c ≤ LIMIT
+    place-at = place-le n c (bounded (t .under))
+
+    pub bounded-at : Bounded (child n c)
+    bounded-at = child-bounded n c (bounded (t .under))
+
+    -- a number
+    pub mark-at : mark (placeAt 0 (child n c)) ≤ suc LIMIT
+    mark-at = omega (arith, place-le 0 (child n c) bounded-at)
+
+    -- a node of the rule B
+    pub part : (B : ℕ) → part? A i n B ≡ true → Node B (chosen n c) (child n c)
+    part B h = node-at n B (t .under) (part-has A i n B (t .alternative) h (t .is))
+
+    between-keeps :
+        (B low high : ℕ)
+        → rangeOf B ≡ between low high → part? A i n B ≡ true → (low ≤ value (numberAt s) n c) × (value (numberAt s) n c ≤ high)
+    unfolding keeps numberAt
+    between-keeps B low high e h = in-range low high (valueAt s (placeAt 0 (child n c))) (rw e at (part B h .range))
+
+    -- a number from 1 to 65,535
+    pub id-range : part? A i n <id> ≡ true → (0 < value (numberAt s) n c) × (value (numberAt s) n c < limit)
+    unfolding rangeOf ranges
+    id-range h = omega (arith, between-keeps <id> 1 65535 refl h)
+
+    -- a number up to 65,535
+    pub small-range : part? A i n <small> ≡ true → value (numberAt s) n c < limit
+    unfolding rangeOf ranges
+    small-range h = omega (arith, between-keeps <small> 0 65535 refl h)
+
+  -- STRING_TOKEN ( N )
+  pub string-range : {A i : ℕ} {c : Trees} → Node A i c → (n : ℕ) → part? A i n <str> ≡ true → string (numberAt s) n c < limit
+  unfolding rules
+  string-range t n h = small-range (part t n <str> h) 2 refl

@@ -1,0 +1,48 @@
+-- `stages::choices::bad_choice` meets its contract: no row before the loop's is at fault.
+use borrow.Author.Needs.{needs}
+use Prim.Native.Nat.{_-_}
+use Rattle.stages.specs.Choices.{choiceFault}
+use Rattle.stages.proofs.FaultLaws.{Searching, searching-start, searching-found, searching-next, searching-end}
+use Rattle.stages.proofs.choices.bad_choice.Statement.{statement}
+use Rattle.stages.proofs.choices.bad_choice.Tie as tie
+
+abbrev Inv-loop : tie.InvT-loop
+Inv-loop table count row₀ row = Searching choiceFault table count row
+
+abbrev μ-loop : tie.MeasureT-loop
+μ-loop table count row₀ row = count - row
+
+loop-holds : tie.Need-loop-holds Inv-loop μ-loop
+loop-holds c = searching-start choiceFault _ _
+
+fault-in-requires : tie.Need-fault-in-requires Inv-loop μ-loop
+fault-in-requires c κs = search needs
+
+returns : tie.Need-returns Inv-loop μ-loop
+returns c = searching-found (c .before .before .before .loop .inv) (c .before .before .loop-test .taken) (c .before .fault-in .ensures) (c .if1 .taken)
+
+add-row : tie.Need-add-row Inv-loop μ-loop
+add-row c = search needs
+
+loop-less : tie.Need-loop-less Inv-loop μ-loop
+loop-less c = search needs
+
+loop-again : tie.Need-loop-again Inv-loop μ-loop
+loop-again c = searching-next (c .before .before .before .loop .inv) (c .before .before .loop-test .taken) (c .before .fault-in .ensures) (c .if1 .left)
+
+returns-2 : tie.Need-returns-2 Inv-loop μ-loop
+returns-2 c = searching-end (c .before .loop .inv) (c .loop-test .left)
+
+pub bad-choice-spec : {M : Type 1} → statement M
+bad-choice-spec =
+    tie.close
+    (tie.spec
+    Inv-loop
+    μ-loop
+    loop-holds
+    fault-in-requires
+    returns
+    add-row
+    loop-less
+    loop-again
+    returns-2)

@@ -1,0 +1,55 @@
+-- `stages::choices::bad_limits` meets its contract.
+use borrow.Author.Needs.{needs}
+use mathlib.Core.Path.{refl, _∙_}
+use Rattle.rows.specs.Columns as column
+use Rattle.stages.specs.Faults.{draftAt}
+use Rattle.stages.proofs.DraftLaws.{cell-read}
+use Rattle.stages.proofs.ChoiceLaws.{limits-crossed, default-outside, default-within}
+use Rattle.stages.proofs.choices.bad_limits.Statement.{statement}
+use Rattle.stages.proofs.choices.bad_limits.Tie as tie
+
+cell-requires : tie.Need-cell-requires
+cell-requires c κs = search needs
+
+cell-requires-2 : tie.Need-cell-requires-2
+cell-requires-2 c κs = search needs
+
+limit-mark-requires : tie.Need-limit-mark-requires
+limit-mark-requires c κs = search needs
+
+returns : tie.Need-returns
+returns c =
+    let t = c .before .before .before .before .before .args .table .now in
+    let i = c .before .before .before .before .before .args .row in
+    c .limit-mark .ensures ∙ limits-crossed (draftAt t i) (cell-read t i column.A refl (c .before .before .before .cell .ensures)) (cell-read t i column.B refl (c .before .before .cell2 .ensures)) (c .before .if1 .taken)
+
+cell-requires-3 : tie.Need-cell-requires-3
+cell-requires-3 c κs = search needs
+
+default-mark-requires : tie.Need-default-mark-requires
+default-mark-requires c κs = search needs
+
+returns-2 : tie.Need-returns-2
+returns-2 c =
+    let t = c .before .before .before .before .before .before .before .args .table .now in
+    let i = c .before .before .before .before .before .before .before .args .row in
+    c .default-mark .ensures ∙ default-outside (draftAt t i) (cell-read t i column.A refl (c .before .before .before .before .before .cell .ensures)) (cell-read t i column.B refl (c .before .before .before .before .cell2 .ensures)) (c .before .before .before .if1 .left) (cell-read t i column.D refl (c .before .before .cell3 .ensures)) refl (c .before .if2 .taken)
+
+returns-3 : tie.Need-returns-3
+returns-3 c =
+    let t = c .before .before .before .before .before .before .args .table .now in
+    let i = c .before .before .before .before .before .before .args .row in
+    default-within (draftAt t i) (cell-read t i column.A refl (c .before .before .before .before .cell .ensures)) (cell-read t i column.B refl (c .before .before .before .cell2 .ensures)) (c .before .before .if1 .left) (cell-read t i column.D refl (c .before .cell3 .ensures)) refl (c .if2 .left)
+
+pub bad-limits-spec : {M : Type 1} → statement M
+bad-limits-spec =
+    tie.close
+    (tie.spec
+    cell-requires
+    cell-requires-2
+    limit-mark-requires
+    returns
+    cell-requires-3
+    default-mark-requires
+    returns-2
+    returns-3)

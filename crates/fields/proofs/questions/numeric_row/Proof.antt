@@ -1,0 +1,126 @@
+-- `fields::questions::numeric_row` meets its contract.
+-- Assumes nothing.
+use mathlib.Core.Path.{_∙_}
+use borrow.Author.Needs.{needs}
+use lib.ListN.{getD}
+use native.Mathlib.Omega.{arith}
+use Rattle.fields.proofs.EntryLaws.{set-le}
+use Rattle.fields.proofs.questions.numeric_row.Statement.{statement}
+use Rattle.fields.proofs.questions.numeric_row.Tie as tie
+
+array-read-question-row : tie.Need-array-read-question-row
+array-read-question-row c = search needs
+
+array-read-question-row-2 : tie.Need-array-read-question-row-2
+array-read-question-row-2 c = search needs
+
+array-read-question-row-3 : tie.Need-array-read-question-row-3
+array-read-question-row-3 c = search needs
+
+array-read-question-row-4 : tie.Need-array-read-question-row-4
+array-read-question-row-4 c = search needs
+
+question-row-requires : tie.Need-question-row-requires
+question-row-requires c κs = search needs
+
+array-read-r : tie.Need-array-read-r
+array-read-r c = search needs
+
+array-read-set-if : tie.Need-array-read-set-if
+array-read-set-if c = search needs
+
+set-if-requires : tie.Need-set-if-requires
+set-if-requires c κs = search needs
+
+add-r : tie.Need-add-r
+add-r c = omega (arith, c .set-if .ensures, set-le (getD (c .before .before .before .args .t4) 8 0) 256)
+
+array-write-r : tie.Need-array-write-r
+array-write-r c = search needs
+
+array-read-value : tie.Need-array-read-value
+array-read-value c = search needs
+
+value-requires : tie.Need-value-requires
+value-requires c κs = search needs
+
+array-write-r-2 : tie.Need-array-write-r-2
+array-write-r-2 c = search needs
+
+array-read-value-2 : tie.Need-array-read-value-2
+array-read-value-2 c = search needs
+
+value-requires-2 : tie.Need-value-requires-2
+value-requires-2 c κs = search needs
+
+array-write-r-3 : tie.Need-array-write-r-3
+array-write-r-3 c = search needs
+
+array-read-value-3 : tie.Need-array-read-value-3
+array-read-value-3 c = search needs
+
+value-requires-3 : tie.Need-value-requires-3
+value-requires-3 c κs = search needs
+
+array-write-r-4 : tie.Need-array-write-r-4
+array-write-r-4 c = search needs
+
+array-read-value-4 : tie.Need-array-read-value-4
+array-read-value-4 c = search needs
+
+value-requires-4 : tie.Need-value-requires-4
+value-requires-4 c κs = search needs
+
+array-write-r-5 : tie.Need-array-write-r-5
+array-write-r-5 c = search needs
+
+array-read-with-marks : tie.Need-array-read-with-marks
+array-read-with-marks c = search needs
+
+array-read-with-marks-2 : tie.Need-array-read-with-marks-2
+array-read-with-marks-2 c = search needs
+
+array-read-with-marks-3 : tie.Need-array-read-with-marks-3
+array-read-with-marks-3 c = search needs
+
+with-marks-requires : tie.Need-with-marks-requires
+with-marks-requires c κs = search needs
+
+returns : tie.Need-returns
+returns c =
+    let question-row = c .before .before .before .before .before .before .question-row in
+    let set-if = c .before .before .before .before .before .set-if in
+    let value = c .before .before .before .before .value in
+    c .with-marks .ensures ∙ rw (question-row .ensures, set-if .ensures, value .ensures, c .before .before .before .value2 .ensures, c .before .before .value3 .ensures, c .before .value4 .ensures)
+
+pub numeric-row-spec : {M : Type 1} → statement M
+numeric-row-spec =
+    tie.close
+    (tie.spec
+    array-read-question-row
+    array-read-question-row-2
+    array-read-question-row-3
+    array-read-question-row-4
+    question-row-requires
+    array-read-r
+    array-read-set-if
+    set-if-requires
+    add-r
+    array-write-r
+    array-read-value
+    value-requires
+    array-write-r-2
+    array-read-value-2
+    value-requires-2
+    array-write-r-3
+    array-read-value-3
+    value-requires-3
+    array-write-r-4
+    array-read-value-4
+    value-requires-4
+    array-write-r-5
+    array-read-with-marks
+    array-read-with-marks-2
+    array-read-with-marks-3
+    with-marks-requires
+    returns)

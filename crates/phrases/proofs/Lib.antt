@@ -1,0 +1,16 @@
+pub mod ElementLaws
+pub mod ReadingLaws
+pub mod Streams
+pub mod Resume
+pub mod Keeping
+pub mod Pieces
+pub mod Nodes
+pub mod Taking
+pub mod ElementKinds
+pub mod FlagWords
+pub mod FlagLoop
+pub mod Spelling
+pub mod Alternatives
+pub mod Spelled
+pub mod Theorems
+pub mod PhraseLoop

@@ -1,0 +1,139 @@
+-- Rules that a phrase writes out: a rule of one alternative, and one that may be absent.
+-- Assumes nothing.
+use Prim.Native.Nat.{ℕ, _<_}
+use mathlib.Core.Path.{_≡_, refl, sym, ap, _∙_}
+use mathlib.Core.Bool.{true, false}
+use mathlib.Core.List.{List, [], _∷_, _++_}
+use mathlib.Core.Option.{none, some}
+use mathlib.Core.Logic.{_⊎_, _≢_}
+use native.Mathlib.Omega.{arith}
+use Rattle.lex.specs.Classes.{BAD}
+use Rattle.lex.specs.Tokens.{tokenAt}
+use Rattle.ll1.specs.Trees.{Trees, nil, node, leaves, Symbol, alternativeOf, Fits, fits-nil, fits-leaf, fits-node, Depth}
+use Rattle.ll1.specs.ParseTable.{predict, nullable}
+use Rattle.ll1.specs.Machine.{Due, due, dueAll}
+use Rattle.grammar.specs.Grammar.{rules}
+use Rattle.grammar.specs.Notation.{t, r, plain}
+use Rattle.grammar.specs.Lookahead.{lookahead}
+use Rattle.grammar.specs.Reading.{verdictFrom}
+use Rattle.grammar.specs.Ranges.{free, rangeOf, keeps, outOfRange}
+use Rattle.phrases.specs.Stream.{stream, resume}
+use Rattle.phrases.specs.Entries.{nodeEntries, entries}
+use Rattle.phrases.specs.Phrase.{Reader, withEntry, withEntries}
+use Rattle.phrases.proofs.Streams.{stream-on}
+use Rattle.phrases.proofs.Keeping.{marked-none}
+use Rattle.phrases.proofs.Resume.{resume-on, resume-like, skipped-here}
+use Rattle.grammar.proofs.Equations.{verdict-in, verdict-open}
+use Rattle.phrases.proofs.Pieces.{Grew, One, Many}
+
+-- a tree that is not empty keeps what its rule says
+pub entries-node : (A i : ℕ) {x : Symbol} {β : List Symbol} {c : Trees} (f : Trees) → Fits rules (x ∷ β) c → entries (node A i c f) ≡ nodeEntries A i c (entries c) ++ entries f
+unfolding entries
+entries-node A i f (fits-leaf h) = refl
+entries-node A i f (fits-node e h₁ h₂) = refl
+
+-- a rule without a range
+pub out-node : (s : List ℕ) (A i : ℕ) (c f : Trees) → rangeOf A ≡ free → outOfRange s (node A i c f) ≡ outOfRange s c ++ outOfRange s f
+unfolding outOfRange keeps
+out-node s A i c f e = rw (e, keeps)
+
+-- a rule that keeps what its parts keep and has no range
+pub record Plain (A : ℕ) : Type 0 where
+  pub keeps-parts : (i : ℕ) (c : Trees) (es : List ℕ) → nodeEntries A i c es ≡ es
+  pub no-range : rangeOf A ≡ free
+
+-- rule A has one alternative
+pub record Single (A : ℕ) (α : List Symbol) : Type 0 where
+  pub plainly : Plain A
+  pub full : nullable rules A ≡ false
+  pub only : alternativeOf rules A 0 ≡ some (plain α)
+  pub told : (k : ℕ) → (predict lookahead A k ≡ some 0) ⊎ (predict lookahead A k ≡ none)
+
+-- rule A may be absent, and else starts with a token of class k
+pub record Optional (A k : ℕ) (β : List Symbol) : Type 0 where
+  pub plainly : Plain A
+  pub known : k < BAD
+  pub empty : nullable rules A ≡ true
+  pub absent : alternativeOf rules A 0 ≡ some (plain [])
+  pub there : alternativeOf rules A 1 ≡ some (plain (t k ∷ β))
+  pub tells : predict lookahead A k ≡ some 1
+  pub alone : (j : ℕ) → j ≢ k → predict lookahead A j ≡ none
+
+-- without a part that is absent
+abbrev pub without : Reader → Reader
+without c = record { no = 0; token = c .token; bad = c .bad; skip = 0; kept = withEntry (c .kept) 0 }
+
+module _ (s : List ℕ) {A : ℕ} where
+  -- the tree of a rule over the trees of its alternative
+  node-grew : (i : ℕ) {x : Symbol} {β : List Symbol} {w : ℕ} {c c₁ : Reader} → Plain A → alternativeOf rules A i ≡ some (plain (x ∷ β)) → Many s (x ∷ β) w c c₁ → c₁ .no ≡ 0 → Grew s (r A) w c c₁
+  node-grew i p e m q =
+      let g = m .got q in
+      let f = g .trees in
+      record {
+        before = g .before;
+        tree = node A i f;
+        own = leaves f;
+        kept-own = entries f;
+        out-own = outOfRange s f;
+        fits = λ α h k. fits-node e (g .fits) k;
+        few = g .few;
+        leaves-are = λ h. refl;
+        entries-are = λ h. entries-node A i h (g .fits) ∙ ap (λ (l : List ℕ). l ++ entries h) (p .keeps-parts i f (entries f));
+        out-are = λ h. out-node s A i f h (p .no-range);
+        reads = g .reads;
+        kept = g .kept;
+        bad = g .bad;
+      }
+
+  pub one-single : {x : Symbol} {β : List Symbol} {n : ℕ} {c c₁ : Reader} → Single A (x ∷ β) → Many s (x ∷ β) n c c₁ → One s (r A) n c c₁
+  one-single {x} {β} {c = c} w m =
+      record {
+        skip = m .skip;
+        verdict = λ σ d o.
+            resume-like s (due d (r A) ∷ σ) (dueAll d (x ∷ β) ++ σ) (c .no) (c .token) (λ ts. verdict-open d A σ (plain (x ∷ β)) ts (w .full) (w .only) (w .told))
+            ∙ m .verdict σ d o;
+        got = λ q. node-grew 0 (w .plainly) (w .only) m q;
+        within = m .within;
+      }
+
+  pub one-there : {k : ℕ} {β : List Symbol} {n : ℕ} {c c₁ : Reader} → Optional A k β → c .no ≡ 0 → c .token .class ≡ k → Many s (t k ∷ β) n c c₁ → One s (r A) n c c₁
+  one-there {k} {β} {c = c} w z e m =
+      record {
+        skip = m .skip;
+        verdict = λ σ d o. enters σ d ∙ m .verdict σ d o;
+        got = λ q. node-grew 1 (w .plainly) (w .there) m q;
+        within = m .within;
+      }
+    where
+      enters : (σ : List Due) (d : Depth) → resume s (due d (r A) ∷ σ) (c .no) (c .token) ≡ resume s (dueAll d (t k ∷ β) ++ σ) (c .no) (c .token)
+      enters σ d =
+          let small : c .token .class < BAD = rw e (w .known) in
+          let told : predict lookahead A (c .token .class) ≡ some 1 = rw e (w .tells) in
+          let h : verdictFrom (due d (r A) ∷ σ) (stream s (c .token)) ≡ verdictFrom (dueAll d (t k ∷ β) ++ σ) (stream s (c .token)) =
+          rw (stream-on s (c .token) small) (verdict-in d A σ 1 (plain (t k ∷ β)) (c .token .class) (c .token .start) (stream s (tokenAt s (c .token .end))) told (w .there)) in
+          resume-on s (due d (r A) ∷ σ) (c .no) (c .token) z ∙ (h ∙ sym (resume-on s (dueAll d (t k ∷ β) ++ σ) (c .no) (c .token) z))
+
+  pub one-absent : {k : ℕ} {β : List Symbol} (c : Reader) → Optional A k β → c .no ≡ 0 → c .token .class ≢ k → One s (r A) 1 c (without c)
+  unfolding entries withEntries outOfRange
+  one-absent {k} {β} c w z e =
+      record {
+        skip = refl;
+        verdict = λ σ d o. resume-on s (due d (r A) ∷ σ) (c .no) (c .token) z ∙ (skipped-here s (c .token) d A σ (w .alone (c .token .class) e) (w .empty) ∙ sym (resume-on s σ 0 (c .token) refl));
+        got = λ q.
+            record {
+              before = z;
+              tree = node A 0 nil;
+              own = [];
+              kept-own = 0 ∷ [];
+              out-own = [];
+              fits = λ α f h. fits-node (w .absent) fits-nil h;
+              few = omega arith;
+              leaves-are = λ f. refl;
+              entries-are = λ f. refl;
+              out-are = λ f. out-node s A 0 nil f (w .plainly .no-range);
+              reads = refl;
+              kept = refl;
+              bad = sym (marked-none (c .bad));
+            };
+        within = λ h. h;
+      }

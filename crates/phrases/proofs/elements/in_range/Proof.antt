@@ -1,0 +1,35 @@
+-- `phrases::elements::in_range` meets its contract.
+use borrow.Author.Needs.{needs}
+use Rattle.lex.specs.Classes.{«DEFAULT», NAME}
+use lib.Dec.{eqb}
+use Rattle.grammar.specs.Rules.{<id>, <zero>}
+use Rattle.grammar.specs.Ranges.{rangeOf, keeps}
+use Rattle.phrases.specs.Elements.{elementRange}
+use Rattle.phrases.proofs.ElementLaws.{range-free, word-or}
+use Rattle.phrases.proofs.elements.in_range.Statement.{statement}
+use Rattle.phrases.proofs.elements.in_range.Tie as tie
+
+pub in-range-spec : {M : Type 1} → statement M
+unfolding rangeOf keeps elementRange
+in-range-spec =
+    tie.close
+    (tie.spec
+    (λ c κs. search needs)
+    (λ c κs. search needs)
+    (λ c κs. search needs)
+    (λ c κs. search needs)
+    (λ c κs. search needs)
+    (λ c κs. search needs)
+    (λ c κs. search needs)
+    (λ c κs. search needs)
+    (λ c. rw (c .before .match .keys1) (c .is-between .ensures))
+    (λ c. rw (c .before .match .keys2) (c .is-between2 .ensures))
+    (λ c. rw (c .before .match .keys3) (c .is-between3 .ensures))
+    (λ c. rw (c .before .before .match .keys4, c .is-between4 .ensures, word-or (c .before .before .before .before .args .src .now) (eqb (c .before .before .before .before .args .token .class) «DEFAULT») (rangeOf <zero>) (c .before .before .before .before .args .token .start)))
+    (λ c. rw (c .before .before .match .keys5, c .is-between5 .ensures, word-or (c .before .before .before .before .args .src .now) (eqb (c .before .before .before .before .args .token .class) NAME) (rangeOf <id>) (c .before .before .before .before .args .token .start)))
+    (λ c. rw (c .before .match .keys6, c .digits-at .ensures))
+    (λ c. rw (c .before .match .keys7, c .digits-at2 .ensures))
+    (λ c. rw (c .before .match .keys8, c .digits-at3 .ensures))
+    (λ c.
+    let n = c .match .rest in
+    rw (range-free (c .before .before .args .want) (c .before .before .args .token .class) (n .0 .0 .0 .0 .0 .0 .0 .1) (n .0 .0 .0 .0 .0 .0 .1) (n .0 .0 .0 .0 .0 .1) (n .0 .0 .0 .0 .1) (n .0 .0 .0 .1) (n .0 .0 .1) (n .0 .1) (n .1))))

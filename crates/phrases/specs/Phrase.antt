@@ -1,0 +1,118 @@
+-- Reading a phrase: a list of elements, from a token on.
+-- Assumes nothing.
+use Prim.Native.Nat.{ℕ, zero, suc, _+_, _-_}
+use mathlib.Core.Bool.{cond}
+use mathlib.Core.List.{List, [], _∷_}
+use lib.Dec.{eqb, ltb}
+use lib.ListN.{length, getD, set}
+use Rattle.lex.specs.declared.Token.{Token}
+use Rattle.lex.specs.Classes.{«|»}
+use Rattle.lex.specs.Tokens.{tokenAt}
+use Rattle.ll1.specs.ParseTable.{member}
+use Rattle.phrases.specs.declared.Cursor.{Cursor}
+use Rattle.phrases.specs.declared.flags.Words.{Words}
+use Rattle.phrases.specs.Words.{noWords, withWord, bitsOf}
+use Rattle.phrases.specs.Stream.{stream}
+use Rattle.phrases.specs.Marks.{marked, outOf}
+use Rattle.phrases.specs.Elements.{FLAG-LIST, MAYBE, GROUP, startsOf, flagWords, isKept, elementRange, elementEntries}
+
+-- ---- what is kept
+
+-- how many entries are kept, and where; no more than there is room for
+pub record Kept : Type 0 where
+  pub count : ℕ
+  pub list : List ℕ
+
+abbrev pub keptAt : ℕ → List ℕ → Kept
+keptAt n l = record { count = n; list = l }
+
+unfoldable pub withEntry : Kept → ℕ → Kept
+withEntry k e = record { count = cond (ltb (k .count) (length (k .list))) (k .count + 1) (k .count); list = set (k .list) (k .count) e }
+
+unfoldable pub withEntries : Kept → List ℕ → Kept
+withEntries k [] = k
+withEntries k (e ∷ es) = withEntries (withEntry k e) es
+
+-- ---- where the reader stands
+
+-- the refusal or 0; the token; the mark of the first number out of its range, or 0; how many elements are left out still; what is kept
+pub record Reader : Type 0 where
+  pub no : ℕ
+  pub token : Token
+  pub bad : ℕ
+  pub skip : ℕ
+  pub kept : Kept
+
+abbrev pub reader : Cursor → List ℕ → Reader
+reader c l = record { no = c .no; token = c .token; bad = c .bad; skip = c .skip; kept = keptAt (c .count) l }
+
+-- at the first element
+abbrev pub starting : ℕ → Token → ℕ → List ℕ → Reader
+starting n t bad l = record { no = n; token = t; bad = bad; skip = 0; kept = keptAt 0 l }
+
+-- past the token, which keeps nothing
+abbrev pub passing : List ℕ → Reader → Reader
+passing s x = record { no = 0; token = tokenAt s (x .token .end); bad = x .bad; skip = 0; kept = x .kept }
+
+-- refused at the token: No. 3
+abbrev pub refusing : Reader → Token → Reader
+refusing x t = record { no = 3; token = t; bad = x .bad; skip = 0; kept = x .kept }
+
+-- without the group that is left out
+abbrev pub leaving : Reader → Reader
+leaving x = record { no = 0; token = x .token; bad = x .bad; skip = GROUP; kept = withEntry (x .kept) 0 }
+
+-- one element less to leave out
+abbrev pub leavingOne : Reader → Reader
+leavingOne x = record { no = x .no; token = x .token; bad = x .bad; skip = x .skip - 1; kept = x .kept }
+
+-- ---- elements of one token
+
+-- the token is taken
+unfoldable pub taking : List ℕ → Reader → ℕ → Reader
+taking s x e =
+    cond (isKept e)
+    (record {
+      no = 0;
+      token = tokenAt s (x .token .end);
+      bad = marked (x .bad) (outOf s (elementRange e (x .token .class)) (x .token .start));
+      skip = 0;
+      kept = withEntries (x .kept) (elementEntries e (x .token .class) (x .token .start));
+    })
+    (passing s x)
+
+-- ---- FL
+
+-- the flag words from the token t on, with those before it; no more than the first number
+unfoldable pub flagsFrom : ℕ → List ℕ → Reader → Token → Words → Reader
+flagsFrom zero s x t w = refusing x t
+flagsFrom (suc n) s x t w =
+    let bar = tokenAt s (t .end) in
+    let words = withWord w (t .class) in
+    let more = flagsFrom n s x (tokenAt s (bar .end)) words in
+    let last : Reader = record { no = 0; token = bar; bad = x .bad; skip = 0; kept = withEntry (x .kept) (bitsOf words) } in
+    cond (member (t .class) flagWords) (cond (eqb (bar .class) «|») more last) (refusing x t)
+
+-- there are no more of them than tokens
+unfoldable pub takingFlags : List ℕ → Reader → Reader
+takingFlags s x = flagsFrom (length (stream s (x .token))) s x (x .token) noWords
+
+-- ---- elements
+
+-- an element that is not left out, with the element after it
+unfoldable pub reading : List ℕ → Reader → ℕ → ℕ → Reader
+reading s x e next =
+    cond (eqb e MAYBE)
+    (cond (eqb (x .token .class) next) x (leaving x))
+    (cond (member (x .token .class) (startsOf e))
+    (cond (eqb e FLAG-LIST) (takingFlags s x) (taking s x e))
+    (refusing x (x .token)))
+
+-- an element, with the one after it; a refusal is handed on
+unfoldable pub stepOf : List ℕ → Reader → ℕ → ℕ → Reader
+stepOf s x e next = cond (eqb (x .skip) 0) (cond (eqb (x .no) 0) (reading s x e next) x) (leavingOne x)
+
+-- the phrase
+unfoldable pub phraseFrom : List ℕ → List ℕ → Reader → Reader
+phraseFrom s [] x = x
+phraseFrom s (e ∷ p) x = phraseFrom s p (stepOf s x e (getD p 0 0))

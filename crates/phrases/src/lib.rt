@@ -1,0 +1,197 @@
+// The grammar's fixed phrases: each is read by its number (document 01, Grammar).
+pub mod elements;
+mod flags;
+mod kept;
+pub mod patterns;
+pub mod phrase;
+mod reader;
+
+ghost use mathlib.Core.Path.{_≡_};
+ghost use Prim.Native.Nat.{_≤_};
+ghost use Rattle.phrases.specs.Stream.{Within};
+ghost use Rattle.phrases.specs.Passed.{Passed};
+ghost use Rattle.phrases.specs.Symbols.{FORM-SET-CLOSE, FORM-OPEN, RULE-CLOSE, SUBTITLE, NUMERIC, ONE-OF-OPEN, OPTION, CONDITION-CLOSE, GROUP-CLOSE, symbolsOf};
+use crate::reader::read_phrase;
+use lex::Token;
+use lex::classes::BAD;
+
+// How many entries a phrase keeps at most.
+pub const KEPT: usize = 12;
+
+// The refusal of a token that does not fit (document 01, No. 3).
+pub const SYNTAX: u64 = 3;
+
+// Where the reader of a phrase stands: the refusal or 0, the token, the mark of the first number out of its range
+// or 0, how many elements are left out still, how many entries are kept. A mark is a place plus one.
+pub struct Cursor {
+    pub no: u64,
+    pub token: Token,
+    pub bad: usize,
+    pub skip: usize,
+    pub count: usize,
+}
+
+// Nothing is read.
+fn unread(no: u64, token: Token, bad: usize) -> Cursor
+    ensures { λ r. ⌜ r ≡ record { no = no; token = token; bad = bad; skip = 0; count = 0 } ⌝ }
+{
+    Cursor {
+        no,
+        token,
+        bad,
+        skip: 0,
+        count: 0,
+    }
+}
+
+// The phrases of a form set.
+fn read_form_set(
+    src: &[u8],
+    no: u64,
+    token: Token,
+    bad: usize,
+    phrase: u8,
+    kept: &mut [u64],
+) -> Cursor
+    requires { ⌜ Within (now src) token × (phrase ≤ FORM-SET-CLOSE) ⌝ }
+    ensures { λ r. ⌜ Passed (now (src .entry)) (symbolsOf phrase) no token bad (now (kept .entry)) r (now (kept .exit)) ⌝ }
+{
+    match phrase {
+        phrase::FORM_SET_OPEN => read_phrase(src, no, token, bad, &patterns::FORM_SET_OPEN, kept),
+        phrase::FORM_SET_BRACED => read_phrase(
+            src,
+            no,
+            token,
+            bad,
+            &patterns::FORM_SET_BRACED,
+            kept,
+        ),
+        phrase::FORM_SET_PLAIN => read_phrase(src, no, token, bad, &patterns::FORM_SET_PLAIN, kept),
+        _ => read_phrase(src, no, token, bad, &patterns::FORM_SET_CLOSE, kept),
+    }
+}
+
+// The phrases of a form and of a rule.
+fn read_form(src: &[u8], no: u64, token: Token, bad: usize, phrase: u8, kept: &mut [u64]) -> Cursor
+    requires { ⌜ Within (now src) token × (FORM-OPEN ≤ phrase) × (phrase ≤ RULE-CLOSE) ⌝ }
+    ensures { λ r. ⌜ Passed (now (src .entry)) (symbolsOf phrase) no token bad (now (kept .entry)) r (now (kept .exit)) ⌝ }
+{
+    match phrase {
+        phrase::FORM_OPEN => read_phrase(src, no, token, bad, &patterns::FORM_OPEN, kept),
+        phrase::FORM_CLOSE => read_phrase(src, no, token, bad, &patterns::FORM_CLOSE, kept),
+        phrase::RULE_OPEN => read_phrase(src, no, token, bad, &patterns::RULE_OPEN, kept),
+        _ => read_phrase(src, no, token, bad, &patterns::RULE_CLOSE, kept),
+    }
+}
+
+// The items of one phrase.
+fn read_item(src: &[u8], no: u64, token: Token, bad: usize, phrase: u8, kept: &mut [u64]) -> Cursor
+    requires { ⌜ Within (now src) token × (SUBTITLE ≤ phrase) × (phrase ≤ NUMERIC) ⌝ }
+    ensures { λ r. ⌜ Passed (now (src .entry)) (symbolsOf phrase) no token bad (now (kept .entry)) r (now (kept .exit)) ⌝ }
+{
+    match phrase {
+        phrase::SUBTITLE => read_phrase(src, no, token, bad, &patterns::SUBTITLE, kept),
+        phrase::TEXT => read_phrase(src, no, token, bad, &patterns::TEXT, kept),
+        phrase::LABEL => read_phrase(src, no, token, bad, &patterns::LABEL, kept),
+        phrase::GOTO => read_phrase(src, no, token, bad, &patterns::GOTO, kept),
+        phrase::CHECKBOX => read_phrase(src, no, token, bad, &patterns::CHECKBOX, kept),
+        _ => read_phrase(src, no, token, bad, &patterns::NUMERIC, kept),
+    }
+}
+
+// The phrases of a oneof.
+fn read_one_of(
+    src: &[u8],
+    no: u64,
+    token: Token,
+    bad: usize,
+    phrase: u8,
+    kept: &mut [u64],
+) -> Cursor
+    requires { ⌜ Within (now src) token × (ONE-OF-OPEN ≤ phrase) × (phrase ≤ OPTION) ⌝ }
+    ensures { λ r. ⌜ Passed (now (src .entry)) (symbolsOf phrase) no token bad (now (kept .entry)) r (now (kept .exit)) ⌝ }
+{
+    match phrase {
+        phrase::ONE_OF_OPEN => read_phrase(src, no, token, bad, &patterns::ONE_OF_OPEN, kept),
+        phrase::ONE_OF_CLOSE => read_phrase(src, no, token, bad, &patterns::ONE_OF_CLOSE, kept),
+        _ => read_phrase(src, no, token, bad, &patterns::OPTION, kept),
+    }
+}
+
+// The phrases of a condition and of an expression.
+fn read_expression(
+    src: &[u8],
+    no: u64,
+    token: Token,
+    bad: usize,
+    phrase: u8,
+    kept: &mut [u64],
+) -> Cursor
+    requires { ⌜ Within (now src) token × (CONDITION-CLOSE ≤ phrase) × (phrase ≤ GROUP-CLOSE) ⌝ }
+    ensures { λ r. ⌜ Passed (now (src .entry)) (symbolsOf phrase) no token bad (now (kept .entry)) r (now (kept .exit)) ⌝ }
+{
+    match phrase {
+        phrase::CONDITION_CLOSE => read_phrase(
+            src,
+            no,
+            token,
+            bad,
+            &patterns::CONDITION_CLOSE,
+            kept,
+        ),
+        phrase::EXPRESSION_CLOSE => read_phrase(
+            src,
+            no,
+            token,
+            bad,
+            &patterns::EXPRESSION_CLOSE,
+            kept,
+        ),
+        phrase::NUMBER => read_phrase(src, no, token, bad, &patterns::NUMBER, kept),
+        phrase::QUESTION_REF => read_phrase(src, no, token, bad, &patterns::QUESTION_REF, kept),
+        phrase::RULE_REF => read_phrase(src, no, token, bad, &patterns::RULE_REF, kept),
+        _ => read_phrase(src, no, token, bad, &patterns::GROUP_CLOSE, kept),
+    }
+}
+
+// A phrase by its number, from a token that starts within the source.
+fn read_within(
+    src: &[u8],
+    no: u64,
+    token: Token,
+    bad: usize,
+    phrase: u8,
+    kept: &mut [u64],
+) -> Cursor
+    requires { ⌜ Within (now src) token ⌝ }
+    ensures { λ r. ⌜ Passed (now (src .entry)) (symbolsOf phrase) no token bad (now (kept .entry)) r (now (kept .exit)) ⌝ }
+{
+    if phrase <= phrase::FORM_SET_CLOSE {
+        return read_form_set(src, no, token, bad, phrase, kept);
+    }
+    if phrase <= phrase::RULE_CLOSE {
+        return read_form(src, no, token, bad, phrase, kept);
+    }
+    if phrase <= phrase::NUMERIC {
+        return read_item(src, no, token, bad, phrase, kept);
+    }
+    if phrase <= phrase::OPTION {
+        return read_one_of(src, no, token, bad, phrase, kept);
+    }
+    if phrase <= phrase::GROUP_CLOSE {
+        return read_expression(src, no, token, bad, phrase, kept);
+    }
+    unread(no, token, bad)
+}
+
+// Reads a phrase by its number, from a token of the source on, where `no` is 0; hands a refusal on. Its entries are
+// kept from the first one on. A number that no phrase has reads nothing, nor is anything read from a token that starts
+// past the source.
+pub fn read(src: &[u8], no: u64, token: Token, bad: usize, phrase: u8, kept: &mut [u64]) -> Cursor
+    ensures { λ r. ⌜ (Within (now (src .entry)) token → Passed (now (src .entry)) (symbolsOf phrase) no token bad (now (kept .entry)) r (now (kept .exit))) ⌝ }
+{
+    if (token.class < BAD) & (src.len() <= token.start) {
+        return unread(no, token, bad);
+    }
+    read_within(src, no, token, bad, phrase, kept)
+}

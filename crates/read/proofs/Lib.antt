@@ -1,0 +1,6 @@
+pub mod SurveyLaws
+pub mod FaultLaws
+pub mod AcceptLaws
+pub mod FinishLaws
+pub mod ReadLaws
+pub mod Demands

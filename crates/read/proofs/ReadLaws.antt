@@ -1,0 +1,111 @@
+-- What reading and the quick check answer, and what the table holds, after each end of the stages.
+-- Assumes nothing.
+use Prim.Native.Nat.{ℕ, _+_, _*_, _/_, _%_, _≤_, _<_, _^_}
+use native.Mathlib.Omega.{arith}
+use mathlib.Core.Path.{_≡_, refl, sym, ap, _∙_}
+use mathlib.Core.Logic.{_≢_}
+use mathlib.Core.List.{List, map}
+use lib.ListN.{length, length-map}
+use native.Mathlib.Decide.{ℕ-discrete}
+use borrow.Author.Tests.{ne-eqb, lt-ltb}
+use Rattle.rows.specs.Columns.{ROW}
+use Rattle.rows.specs.Table.{wholeRows, cleared}
+use Rattle.rows.specs.Rows.{AreRows, rowsFrom}
+use Rattle.rows.proofs.ClearLaws.{cleared-whole}
+use Rattle.rows.proofs.RunLaws.{length-put, rows-put}
+use Rattle.ll1.specs.Trees.{Trees}
+use Rattle.grammar.specs.Rows.{Draft}
+use Rattle.grammar.specs.Drafts.{encoded, draftsFrom}
+use Rattle.grammar.specs.Answer.{Checked, refusal, derived, checked, quickCheck, Answer, refuses, needs, answerOf, drafts, readAnswer, rowsOf, readTable}
+use Rattle.grammar.proofs.Checks.{Decided, stopped, passed, decided}
+use Rattle.stages.specs.Fits.{AllFit}
+use Rattle.stages.proofs.CodingLaws.{sound-fit, are-encoded, drafts-held}
+use Rattle.read.specs.declared.Survey.{Survey}
+use Rattle.read.specs.Surveyed.{Derived, Surveyed}
+use Rattle.read.specs.Drafted.{Drafted, tableAfter}
+
+-- ---- a refusal of stages 1 to 5
+
+-- the answer, and the table then
+abbrev Read : List ℕ → ℕ → Answer → List ℕ → Type 0
+Read s n a u = (a ≡ readAnswer s n) × (u ≡ readTable s n)
+
+refused-table : (s t : List ℕ) {a : Answer} → a ≡ readAnswer s (length t) → a .number ≢ 0 → {u : List ℕ} → u ≡ cleared t 0 → u ≡ readTable s (length t)
+unfolding readTable
+refused-table s t e h f = f ∙ rw (← e, ne-eqb _ 0 h) (cleared-whole t)
+
+refusal-read : (s : List ℕ) (n k p : ℕ) → checked s ≡ refusal k p → refuses k p ≡ readAnswer s n
+unfolding readAnswer
+refusal-read s n k p e = sym (rw (e, readAnswer))
+
+pub refused-read : {s t t′ u : List ℕ} {r : Survey} → Surveyed s r t t′ → r .number ≢ 0 → length t′ ≡ length t → u ≡ cleared t′ 0 → Read s (length t) (refuses (r .number) (r .place)) u
+refused-read {s} {t} {t′} {u} {r} v h l f =
+    rw (← l) (
+      refusal-read s (length t′) (r .number) (r .place) (v .refused h),
+      refused-table s t′ (refusal-read s (length t′) (r .number) (r .place) (v .refused h)) h f,
+    )
+
+-- ---- stages 1 to 5 passed
+
+module _ {s t t′ : List ℕ} {count : ℕ} (v : Derived s count t t′) where
+  abbrev ds : List Draft
+  ds = drafts s (v .tree)
+
+  fit : AllFit ds
+  fit = sound-fit (v .sound .each)
+
+  all : length (map encoded ds) ≡ count
+  all = length-map ds encoded ∙ sym (v .many)
+
+  long : length t′ ≡ length t
+  long = rw (v .table) (length-put (are-encoded fit) t 0)
+
+  answer-is : readAnswer s (length t) ≡ answerOf s ds (length t′ / ROW)
+  unfolding readAnswer
+  answer-is = rw (v .is, readAnswer, long)
+
+  module _ {whole : ℕ} (w : whole ≡ wholeRows t′) where
+    -- 6: more rows than whole rows lent
+    pub short-read : whole < count → {u : List ℕ} → u ≡ cleared t′ 0 → Read s (length t) (needs count) u
+    unfolding answerOf
+    short-read h f =
+        let less : wholeRows t′ < length ds = omega (arith, v .many) in
+        let e : needs count ≡ readAnswer s (length t) = sym (answer-is ∙ rw (lt-ltb (length t′ / ROW) (length ds) less, answerOf, v .many)) in
+        (e, rw (← long) (refused-table s t′ {a = needs count} (rw long e) (λ z. omega arith) f))
+
+    module _ (room : count ≤ whole) where
+      held : rowsFrom t′ 0 count ≡ map encoded ds
+      held = rw (← all, v .table) (rows-put (are-encoded fit) t 0 (omega (arith, all, long)))
+
+      same : draftsFrom t′ 0 count ≡ ds
+      same = rw (v .many) (drafts-held fit t′ 0 (rw (← v .many) held))
+
+      -- the table holds the drafts
+      pub drafted : Drafted t′ count
+      drafted = record { sound = rw same (v .sound); room = omega arith; held = held ∙ rw same }
+
+      -- and what the later stages answer is the answer
+      pub finished-read : {a : Answer} {u : List ℕ} → (a ≡ answerOf s (draftsFrom t′ 0 count) (length t′ / ROW)) × (u ≡ tableAfter s (draftsFrom t′ 0 count) (length t′)) → Read s (length t) a u
+      unfolding readTable rowsOf tableAfter
+      finished-read f = (f .0 ∙ rw (same, answer-is), f .1 ∙ rw (same, answer-is, v .is, rowsOf, long))
+
+-- ---- the quick check
+
+quick-refusal : (s : List ℕ) (k p : ℕ) → checked s ≡ refusal k p → k % 2 ^ 32 * 2 ^ 32 + p % 2 ^ 32 ≡ quickCheck s
+unfolding quickCheck
+quick-refusal s k p e = by (decided s) e ∙ sym (rw (e, quickCheck))
+  where
+    by : {c : Checked} → Decided s c → c ≡ refusal k p → k % 2 ^ 32 * 2 ^ 32 + p % 2 ^ 32 ≡ k * 2 ^ 32 + p
+    by (stopped j q h r) g = let i : j ≡ k = cc in let o : q ≡ p = cc in omega arith
+    by (passed g o) g′ = absurd (let z : _≡_ {A = ℕ} 0 1 = cc in omega arith)
+
+quick-derived : (s : List ℕ) (tree : Trees) → checked s ≡ derived tree → 0 ≡ quickCheck s
+unfolding quickCheck
+quick-derived s tree e = sym (rw (e, quickCheck))
+
+pub quick-answer : {s t t′ : List ℕ} {r : Survey} → Surveyed s r t t′ → r .number % 2 ^ 32 * 2 ^ 32 + r .place % 2 ^ 32 ≡ quickCheck s
+quick-answer {s} {r = r} v = by (ℕ-discrete (r .number) 0)
+  where
+    by : Dec (r .number ≡ 0) → r .number % 2 ^ 32 * 2 ^ 32 + r .place % 2 ^ 32 ≡ quickCheck s
+    by (yes z) = let w = v .passed z in rw (z, w .0) (quick-derived s (w .1 .tree) (w .1 .is))
+    by (no h) = quick-refusal s (r .number) (r .place) (v .refused h)

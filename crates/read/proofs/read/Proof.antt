@@ -1,0 +1,74 @@
+-- `read::read` meets its contract: what the stages find is the answer, and the table holds the finished rows or zeros.
+-- Assumes nothing.
+use Rattle.read.proofs.ReadLaws.{refused-read, short-read, drafted, finished-read}
+use borrow.Author.Needs.{needs}
+use Rattle.read.proofs.read.Statement.{statement}
+use Rattle.read.proofs.read.Tie as tie
+use Rattle.read.proofs.read.Reads as reads
+use Rattle.read.proofs.read.Lts as lts
+use Rattle.read.proofs.accept.finish_large.Reads as finish-large-reads
+use Rattle.read.proofs.accept.finish_small.Reads as finish-small-reads
+use Rattle.read.proofs.checks.survey.Reads as survey-reads
+use Rattle.rows.proofs.clear.Reads as clear-reads
+use Rattle.rows.proofs.whole_rows.Reads as whole-rows-reads
+
+survey-requires : tie.Need-survey-requires
+survey-requires c κs = search needs
+
+clear-requires : tie.Need-clear-requires
+clear-requires c κs = search needs
+
+same-length : tie.Need-same-length
+same-length c = search needs
+
+returns : tie.Need-returns
+returns c = refused-read (c .before .before .before .before .before .before .before .before .survey .ensures) (c .before .before .before .before .if1 .taken) (c .before .before .before .before .before .before .before .before .survey .kept .1 .0) (c .before .before .clear .ensures)
+
+whole-rows-requires : tie.Need-whole-rows-requires
+whole-rows-requires c κs = search needs
+
+clear-requires-2 : tie.Need-clear-requires-2
+clear-requires-2 c κs = search needs
+
+same-length-2 : tie.Need-same-length-2
+same-length-2 c = search needs
+
+returns-2 : tie.Need-returns-2
+returns-2 c = short-read ((c .before .before .before .before .before .before .before .before .before .before .before .survey .ensures .passed (c .before .before .before .before .before .before .before .if1 .left)) .1) (c .before .before .before .before .before .whole-rows .ensures) (c .before .before .before .before .if2 .taken) (c .before .before .clear2 .ensures)
+
+finish-small-requires : tie.Need-finish-small-requires
+finish-small-requires c κs = (drafted ((c .before .before .before .before .before .before .before .before .before .survey .ensures .passed (c .before .before .before .before .before .if1 .left)) .1) (c .before .before .before .whole-rows .ensures) (c .before .before .if2 .left), c .before .if3 .taken)
+
+same-length-3 : tie.Need-same-length-3
+same-length-3 c = search needs
+
+returns-3 : tie.Need-returns-3
+returns-3 c = finished-read ((c .before .before .before .before .before .before .before .before .before .before .before .before .survey .ensures .passed (c .before .before .before .before .before .before .before .before .if1 .left)) .1) (c .before .before .before .before .before .before .whole-rows .ensures) (c .before .before .before .before .before .if2 .left) (c .before .before .finish-small .ensures)
+
+finish-large-requires : tie.Need-finish-large-requires
+finish-large-requires c κs = (drafted ((c .before .before .before .before .before .before .before .before .before .survey .ensures .passed (c .before .before .before .before .before .if1 .left)) .1) (c .before .before .before .whole-rows .ensures) (c .before .before .if2 .left), c .before .before .before .before .before .before .before .before .before .survey .ensures .passed (c .before .before .before .before .before .if1 .left) .1 .few)
+
+same-length-4 : tie.Need-same-length-4
+same-length-4 c = search needs
+
+returns-4 : tie.Need-returns-4
+returns-4 c = finished-read ((c .before .before .before .before .before .before .before .before .before .before .before .before .survey .ensures .passed (c .before .before .before .before .before .before .before .before .if1 .left)) .1) (c .before .before .before .before .before .before .whole-rows .ensures) (c .before .before .before .before .before .if2 .left) (c .before .before .finish-large .ensures)
+
+pub read-spec : {M : Type 1} → statement M
+read-spec =
+    tie.close
+    (tie.spec
+    survey-requires
+    clear-requires
+    same-length
+    returns
+    whole-rows-requires
+    clear-requires-2
+    same-length-2
+    returns-2
+    finish-small-requires
+    same-length-3
+    returns-3
+    finish-large-requires
+    same-length-4
+    returns-4)

@@ -1,0 +1,36 @@
+-- A table that holds sound drafts, and what it holds after stages 7 to 12.
+-- Assumes nothing.
+use Prim.Native.Nat.{ℕ, _≤_, _/_}
+use mathlib.Core.Path.{_≡_}
+use mathlib.Core.Bool.{cond}
+use mathlib.Core.List.{List, [], map}
+use lib.Dec.{eqb}
+use lib.ListN.{replicate}
+use Rattle.numbers.specs.Numbers.{Holds}
+use Rattle.rows.specs.Columns.{ROW}
+use Rattle.rows.specs.Table.{wholeRows}
+use Rattle.rows.specs.Rows.{rowsFrom, laid}
+use Rattle.grammar.specs.Rows.{Draft}
+use Rattle.grammar.specs.Drafts.{encoded, draftsFrom}
+use Rattle.grammar.specs.Stages.{unfound, ownNumbers, finished}
+use Rattle.grammar.specs.Answer.{answerOf}
+use Rattle.stages.specs.Sound.{SoundRows}
+use Rattle.stages.specs.Names.{entries}
+
+-- the first rows of the table t are drafts that passed stages 1 to 6
+pub record Drafted (t : List ℕ) (count : ℕ) : Type 0 where
+  pub sound : SoundRows (draftsFrom t 0 count)
+  pub room : count ≤ wholeRows t
+  pub held : rowsFrom t 0 count ≡ map encoded (draftsFrom t 0 count)
+
+-- no stage refuses the drafts in the first rows of the table t; the index es is of their declared names by the source s, and the map ws has
+-- their written question numbers
+pub record Ready (s es ws t : List ℕ) (count : ℕ) : Type 0 where
+  pub drafted : Drafted t count
+  pub index : es ≡ entries s 0 (draftsFrom t 0 count)
+  pub found : unfound s (draftsFrom t 0 count) ≡ []
+  pub written : Holds ws (ownNumbers (draftsFrom t 0 count))
+
+-- a table of n numbers: the finished rows of the drafts and then zeros, or all zeros where a stage refuses
+unfoldable pub tableAfter : List ℕ → List Draft → ℕ → List ℕ
+tableAfter s ds n = cond (eqb (answerOf s ds (n / ROW) .number) 0) (laid (finished s ds) n) (replicate n 0)

@@ -1,0 +1,4 @@
+pub mod Answers
+pub mod Surveyed
+pub mod Faults
+pub mod Drafted

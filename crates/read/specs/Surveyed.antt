@@ -1,0 +1,37 @@
+-- What stages 1 to 5 find: a refusal, or the draft rows of the derivation.
+-- Assumes nothing.
+use Prim.Native.Nat.{ℕ, _≤_}
+use mathlib.Core.Path.{_≡_}
+use mathlib.Core.Logic.{_≢_}
+use mathlib.Core.List.{List, map}
+use lib.ListN.{length}
+use Rattle.lex.specs.declared.Found.{Found}
+use Rattle.lex.specs.declared.Found.the-variants.{At, Nothing}
+use Rattle.rows.specs.Rows.{put}
+use Rattle.ll1.specs.Trees.{Trees}
+use Rattle.grammar.specs.Drafts.{encoded}
+use Rattle.grammar.specs.Answer.{refusal, derived, checked, drafts}
+use Rattle.stages.specs.Sound.{SoundRows}
+use Rattle.read.specs.declared.Survey.{Survey}
+
+abbrev pub refusing : ℕ → ℕ → Survey
+refusing number place = record { number = number; place = place; rows = 0 }
+
+-- No. 2 where a token is bad, or else the refusal
+abbrev pub unlessBad : Found → ℕ → ℕ → Survey
+unlessBad (At p) number place = refusing 2 p
+unlessBad Nothing number place = refusing number place
+
+-- the derivation that the stages pass; its draft rows, so many, written over the table t as far as whole rows fit
+pub record Derived (s : List ℕ) (count : ℕ) (t t′ : List ℕ) : Type 0 where
+  pub tree : Trees
+  pub is : checked s ≡ derived tree
+  pub sound : SoundRows (drafts s tree)
+  pub many : count ≡ length (drafts s tree)
+  pub few : count ≤ 65536
+  pub table : t′ ≡ put t 0 (map encoded (drafts s tree))
+
+-- what a survey of the source s answers, where the table was t and is t′; where it refuses, nothing is said of the table
+pub record Surveyed (s : List ℕ) (r : Survey) (t t′ : List ℕ) : Type 0 where
+  pub refused : r .number ≢ 0 → checked s ≡ refusal (r .number) (r .place)
+  pub passed : r .number ≡ 0 → (r .place ≡ 0) × Derived s (r .rows) t t′

@@ -1,0 +1,52 @@
+// Stages 1 to 5, which the quick check and reading share.
+use crate::Survey;
+use lex::Found;
+ghost use mathlib.Core.Path.{_≡_};
+ghost use Rattle.lex.specs.Tokens.{firstBad};
+ghost use Rattle.read.specs.Surveyed.{refusing, unlessBad, Surveyed};
+
+// The longest source.
+const LONGEST: usize = 65536;
+
+fn refused(number: u64, place: usize) -> Survey
+    ensures { λ r. ⌜ r ≡ refusing number place ⌝ }
+{
+    Survey {
+        number,
+        place,
+        rows: 0,
+    }
+}
+
+// The refusal of a walk, unless a token is bad. An accepted walk has met every token, so that none of them is bad.
+fn walk_refused(src: &[u8], number: u64, place: usize) -> Survey
+    ensures { λ r. ⌜ r ≡ unlessBad (firstBad (now (src .entry))) number place ⌝ }
+{
+    let bad = lex::first_bad(src);
+    match bad {
+        Found::At(at) => refused(2, at),
+        Found::Nothing => refused(number, place),
+    }
+}
+
+// The refusal, or the rows needed and the draft rows in the table, as far as whole rows fit.
+pub fn survey(src: &[u8], table: &mut [u64]) -> Survey
+    ensures { λ r. ⌜ Surveyed (now (src .entry)) r (now (table .entry)) (now (table .exit)) ⌝ }
+{
+    if LONGEST < src.len() {
+        return refused(1, 0);
+    }
+    let w = walk::walk(src, table);
+    if w.no != 0 {
+        return walk_refused(src, w.no, w.place);
+    }
+    let bad = w.bad;
+    if bad != 0 {
+        return refused(5, bad - 1);
+    }
+    Survey {
+        number: 0,
+        place: 0,
+        rows: w.rows,
+    }
+}

@@ -1,0 +1,17 @@
+mod TreeLaws
+mod Walks
+mod MeaningLaws
+mod PhraseSteps
+mod Kept
+mod Statements
+mod StatementSteps
+mod Levels
+mod Spellings
+mod StartLaws
+mod Atoms
+mod ExpressionSteps
+mod Rooms
+mod ListSteps
+mod ItemSteps
+mod SetSteps
+mod TopSteps

@@ -1,0 +1,62 @@
+-- `walk::steps::flat` meets its contract: the phrase's theorem, and its row.
+-- Assumes nothing.
+use borrow.Author.Needs.{needs}
+use native.Mathlib.Omega.{arith}
+use Rattle.walk.proofs.PhraseSteps.{row-off, row-on}
+use Rattle.walk.proofs.steps.flat.Statement.{statement}
+use Rattle.walk.proofs.steps.flat.Tie as tie
+
+slice-aggregate-read : tie.Need-slice-aggregate-read
+slice-aggregate-read c = search needs
+
+read-requires : tie.Need-read-requires
+read-requires c κs = search needs
+
+at-end-requires : tie.Need-at-end-requires
+at-end-requires c κs = search needs
+
+returns : tie.Need-returns
+returns c =
+    let pre = c .before .before .before .before .before .before .before .before .before .pre in
+    let read = c .before .before .before .before .read in
+    rw (c .at-end .ensures) (row-off _ _ _ (pre .1) (read .ensures (pre .0 .within)) (c .before .if1 .taken))
+
+phrase-row-requires : tie.Need-phrase-row-requires
+phrase-row-requires c κs = search needs
+
+put-row-requires : tie.Need-put-row-requires
+put-row-requires c κs = search needs
+
+add-t18 : tie.Need-add-t18
+add-t18 c =
+    let pre = c .before .before .before .before .before .before .before .before .before .before .before .before .before .before .before .pre in
+    let read = c .before .before .before .before .before .before .before .before .before .before .read in
+    let if1 = c .before .before .before .before .before .before .before .if1 in
+    let good = c .before .before .before .before .before .before .before .before .before .before .before .before .before .before .before .good in
+    omega (arith, pre .0 .rows (read .ensures (pre .0 .within) .got (if1 .left) .before), good)
+
+same-length : tie.Need-same-length
+same-length c = search needs
+
+returns-2 : tie.Need-returns-2
+returns-2 c =
+    let pre = c .before .before .before .before .before .before .before .before .before .before .before .before .before .before .before .pre in
+    let read = c .before .before .before .before .before .before .before .before .before .before .read in
+    let if1 = c .before .before .before .before .before .before .before .if1 in
+    let phrase-row = c .before .before .before .before .before .phrase-row in
+    let put-row = c .before .before .before .before .put-row in
+    row-on _ _ _ (pre .1) (read .ensures (pre .0 .within)) (if1 .left) (phrase-row .ensures) (put-row .ensures)
+
+pub flat-spec : {M : Type 1} → statement M
+flat-spec =
+    tie.close
+    (tie.spec
+    slice-aggregate-read
+    read-requires
+    at-end-requires
+    returns
+    phrase-row-requires
+    put-row-requires
+    add-t18
+    same-length
+    returns-2)

@@ -18,6 +18,8 @@ use Rattle.lex.proofs.TokenList.{tokens-unfold}
 use Rattle.ll1.specs.Trees.{Token, token}
 use Rattle.ll1.proofs.Basics.{clash}
 use Rattle.grammar.specs.Source.{grammarTokens, sourceTokens}
+use Rattle.grammar.specs.Places.{placesOf, Ascending, ascending-none, ascending-more}
+use Rattle.grammar.proofs.Totals.{ascending-from}
 
 -- ---- the tokens of a source, one after another
 
@@ -98,6 +100,17 @@ within-from (next {t = t} {ts = ts} k p q r more) = rw (takes t ts (omega arith)
 pub tokens-within : (s : List ℕ) → Within (length s) (sourceTokens s)
 unfolding sourceTokens
 tokens-within s = within-from (scanned s)
+
+-- and each after the one before it
+ascend-from : {bytes at : ℕ} {ts : List lex.Token} → Scanned bytes at ts → Ascending at (placesOf (grammarTokens ts))
+unfolding grammarTokens
+ascend-from (end {t = t} e) = rw (takes-none t [] e) ascending-none
+ascend-from (bad {t = t} e p q) = rw (takes t [] (omega arith)) (ascending-more p ascending-none)
+ascend-from (next {t = t} {ts = ts} k p q r more) = rw (takes t ts (omega arith)) (ascending-more p (ascending-from (omega arith) (ascend-from more)))
+
+pub tokens-ascend : (s : List ℕ) → Ascending 0 (placesOf (sourceTokens s))
+unfolding sourceTokens
+tokens-ascend s = ascend-from (scanned s)
 
 -- ---- bad tokens
 

@@ -16,3 +16,5 @@ pub mod Answer
 pub mod Text
 pub mod Resolution
 pub mod Demand3
+pub mod Places
+pub mod Reached

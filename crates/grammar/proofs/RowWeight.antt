@@ -1,0 +1,130 @@
+-- The places of a derivation's rows weigh at most what those of its leaves do: each row has a leaf of its own.
+-- Assumes nothing.
+use mathlib.Core.Path.{_≡_, refl}
+use mathlib.Core.List.{List, [], _∷_, _++_}
+use mathlib.Core.Bool.{Bool, true, false, cond, not, _&&_, _||_}
+use Prim.Native.Nat.{ℕ, zero, suc, _+_, _≤_}
+use native.Mathlib.Omega.{arith}
+use lib.Dec.{eqb, ltb}
+use borrow.Author.Tests.{eqb-true, ne-eqb, not-true}
+use Rattle.lex.proofs.Lists.{either}
+use Rattle.ll1.specs.Trees.{Trees, Symbol, terminal, nonterminal, Fits, fits-nil, fits-leaf, fits-node}
+use Rattle.ll1.specs.ParseTable.{member}
+use Rattle.ll1.proofs.Basics.{clash, both, implied}
+use Rattle.grammar.specs.Rules.{<source>, <form>*, <form>, <item-or-rule>*, <rule>, <item>, <option>*, <item>*, <option>, <or>}
+use Rattle.grammar.specs.Grammar.{rules}
+use Rattle.grammar.specs.Parts.{child}
+use Rattle.grammar.specs.Expression.{expression}
+use Rattle.grammar.proofs.Alternatives.{everywhere, at-alternative}
+use Rattle.grammar.specs.Places.{ownPlaces, treePlaces, total}
+use Rattle.grammar.proofs.Totals.{total-append, load}
+use Rattle.grammar.proofs.ExpressionWeight.{weight, weight-total, heads, first-head, expression-light}
+
+-- ---- rules with no rows in them
+
+-- the rules of statements and of their lists
+abbrev statements : List ℕ
+statements = <source> ∷ <form>* ∷ <form> ∷ <item-or-rule>* ∷ <rule> ∷ <item> ∷ <option>* ∷ <item>* ∷ <option> ∷ []
+
+abbrev noStatement : List Symbol → Bool
+noStatement [] = true
+noStatement (terminal k ∷ σ) = noStatement σ
+noStatement (nonterminal A ∷ σ) = not (member A statements) && noStatement σ
+
+-- a rule that is no statement's has none under it
+none-under : everywhere (λ A i a. not (not (member A statements)) || noStatement (a .symbols)) ≡ true
+unfolding rules
+none-under = refl
+
+other : (A B : ℕ) → not (member A statements) ≡ true → member B statements ≡ true → eqb A B ≡ false
+other A B h m = ne-eqb A B (λ e. clash (cc (not-true (member A statements) h)))
+
+own-none : (A i : ℕ) (c : Trees) → not (member A statements) ≡ true → ownPlaces A i c ≡ []
+unfolding ownPlaces
+own-none A i c h = rw (other A <item> h refl, other A <option> h refl, other A <rule> h refl, other A <form> h refl, other A <source> h refl)
+
+pub none-places : {σ : List Symbol} {f : Trees} → Fits rules σ f → noStatement σ ≡ true → treePlaces f ≡ []
+unfolding treePlaces
+none-places fits-nil h = refl
+none-places (fits-leaf r) h = none-places r h
+none-places (fits-node {A = A} {i = i} {c = c} e r₁ r₂) h =
+    let t = both (not (member A statements)) _ h in
+    rw (own-none A i c (t .0), none-places r₁ (implied (not (member A statements)) _ (at-alternative _ none-under e) (t .0)), none-places r₂ (t .1))
+
+-- ---- what a node's own rows take of the trees under it
+
+-- so many words at their start; so many words and then an expression
+data Taken : Type 0 where
+  words : ℕ → Taken
+  words-and-expression : ℕ → Taken
+
+-- the symbols have it
+abbrev has : Taken → List Symbol → Bool
+has (words zero) σ = true
+has (words (suc n)) [] = false
+has (words (suc n)) (terminal k ∷ σ) = has (words n) σ
+has (words (suc n)) (nonterminal A ∷ σ) = false
+has (words-and-expression n) [] = false
+has (words-and-expression zero) (terminal k ∷ σ) = false
+has (words-and-expression (suc n)) (terminal k ∷ σ) = has (words-and-expression n) σ
+has (words-and-expression zero) (nonterminal A ∷ σ) = eqb A <or>
+has (words-and-expression (suc n)) (nonterminal A ∷ σ) = false
+
+-- of a node of rule A that takes alternative i
+taken : ℕ → ℕ → Taken
+taken A i =
+    cond (eqb A <item>) (cond (ltb 6 i) (words-and-expression 1) (words 1))
+    (cond (eqb A <option>) (words 1)
+    (cond (eqb A <rule>) (words-and-expression 3)
+    (cond (eqb A <form>) (words 1)
+    (cond (eqb A <source>) (words 1) (words 0)))))
+
+all-taken : everywhere (λ A i a. has (taken A i) (a .symbols)) ≡ true
+unfolding rules taken
+all-taken = refl
+
+module _ (w : ℕ → ℕ) where
+  -- what it weighs
+  abbrev room : Taken → Trees → ℕ
+  room (words n) f = heads w n f
+  room (words-and-expression n) f = heads w n f + weight w (expression (child n f))
+
+  own-light : (A i : ℕ) (c : Trees) → total w (ownPlaces A i c) ≤ room (taken A i) c
+  unfolding taken ownPlaces
+  own-light A i c =
+      let one = first-head w 0 c in
+      either (eqb A <item>)
+      (λ e. rw (e, room) (either (ltb 6 i) (λ l. rw l (omega (arith, weight-total w (expression (child 1 c))))) (λ l. rw l (omega arith))))
+      (λ e. rw (e, room) (either (eqb A <option>) (λ e. rw e (omega arith))
+      (λ e. rw e (either (eqb A <rule>) (λ e. rw e (omega (arith, first-head w 2 c, weight-total w (expression (child 3 c)))))
+      (λ e. rw e (either (eqb A <form>) (λ e. rw e (omega arith))
+      (λ e. rw e (either (eqb A <source>) (λ e. rw e (omega arith)) (λ e. rw e (omega arith))))))))))
+
+  -- of a node: its own, those of the trees under it, those of the trees beside it
+  three-total : (ps qs rs : List ℕ) → total w ((ps ++ qs) ++ rs) ≡ total w ps + total w qs + total w rs
+  three-total ps qs rs = omega (arith, total-append w (ps ++ qs) rs, total-append w ps qs)
+
+  taken-light : {σ : List Symbol} {f : Trees} (m : Taken) → Fits rules σ f → has m σ ≡ true → room m f + total w (treePlaces f) ≤ load w f
+  unfolding treePlaces
+  taken-light (words zero) fits-nil h = omega arith
+  taken-light (words (suc m)) fits-nil h = clash cc
+  taken-light (words-and-expression m) fits-nil h = clash cc
+  taken-light (words zero) (fits-leaf r) h = omega (arith, taken-light (words zero) r refl)
+  taken-light (words (suc m)) (fits-leaf r) h = omega (arith, taken-light (words m) r h)
+  taken-light (words-and-expression zero) (fits-leaf r) h = clash cc
+  taken-light (words-and-expression (suc m)) (fits-leaf r) h = omega (arith, taken-light (words-and-expression m) r h)
+  taken-light (words zero) (fits-node {A = A} {i = i} {c = c} {f = f} e r₁ r₂) h =
+      let under = taken-light (taken A i) r₁ (at-alternative _ all-taken e) in
+      let beside = taken-light (words zero) r₂ refl in
+      omega (arith, own-light A i c, three-total (ownPlaces A i c) (treePlaces c) (treePlaces f))
+  taken-light (words (suc m)) (fits-node e r₁ r₂) h = clash cc
+  taken-light (words-and-expression zero) (fits-node {A = A} {i = i} {a = a} {c = c} {f = f} e r₁ r₂) h =
+      let is : A ≡ <or> = eqb-true A <or> h in
+      let none : not (member A statements) ≡ true = rw is in
+      let under = none-places r₁ (implied (not (member A statements)) _ (at-alternative _ none-under e) none) in
+      let beside = taken-light (words zero) r₂ refl in
+      rw (own-none A i c none, under) (omega (arith, expression-light w i a c (rw is at e) r₁))
+  taken-light (words-and-expression (suc m)) (fits-node e r₁ r₂) h = clash cc
+
+  pub rows-light : {σ : List Symbol} {f : Trees} → Fits rules σ f → total w (treePlaces f) ≤ load w f
+  rows-light r = omega (arith, taken-light (words zero) r refl)

@@ -37,8 +37,7 @@ pub struct Fault {
 const PLACES: u64 = 4294967296;
 
 // Stages 1 to 5 alone: the refusal's number times 2^32 plus its place, or 0.
-#[no_mangle]
-pub extern "C" fn vfr_quick_check(src: &[u8]) -> u64
+pub fn quick_check(src: &[u8]) -> u64
     ensures { λ r. ⌜ r ≡ quickCheck (now (src .entry)) ⌝ }
 {
     let mut none = [0u64; 0];

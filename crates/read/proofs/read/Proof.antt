@@ -4,13 +4,6 @@ use Rattle.read.proofs.ReadLaws.{refused-read, short-read, drafted, fin
 use borrow.Author.Needs.{needs}
 use Rattle.read.proofs.read.Statement.{statement}
 use Rattle.read.proofs.read.Tie as tie
-use Rattle.read.proofs.read.Reads as reads
-use Rattle.read.proofs.read.Lts as lts
-use Rattle.read.proofs.accept.finish_large.Reads as finish-large-reads
-use Rattle.read.proofs.accept.finish_small.Reads as finish-small-reads
-use Rattle.read.proofs.checks.survey.Reads as survey-reads
-use Rattle.rows.proofs.clear.Reads as clear-reads
-use Rattle.rows.proofs.whole_rows.Reads as whole-rows-reads
 
 survey-requires : tie.Need-survey-requires
 survey-requires c κs = search needs

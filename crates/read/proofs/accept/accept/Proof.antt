@@ -4,13 +4,6 @@ use Rattle.read.proofs.AcceptLaws.{used-few, free-accepted, table-accep
 use borrow.Author.Needs.{needs}
 use Rattle.read.proofs.accept.accept.Statement.{statement}
 use Rattle.read.proofs.accept.accept.Tie as tie
-use Rattle.read.proofs.accept.accept.Reads as reads
-use Rattle.read.proofs.accept.accept.Lts as lts
-use Rattle.finish.proofs.number_rows.Reads as number-rows-reads
-use Rattle.finish.proofs.resolve_references.Reads as resolve-references-reads
-use Rattle.finish.proofs.strip.Reads as strip-reads
-use Rattle.numbers.proofs.used_count.Reads as used-count-reads
-use Rattle.rows.proofs.clear_past.Reads as clear-past-reads
 
 number-rows-requires : tie.Need-number-rows-requires
 number-rows-requires c κs = search needs

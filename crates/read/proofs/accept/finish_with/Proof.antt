@@ -4,13 +4,6 @@ use Rattle.read.proofs.FinishLaws.{part-length, refused-answer, refused
 use borrow.Author.Needs.{needs}
 use Rattle.read.proofs.accept.finish_with.Statement.{statement}
 use Rattle.read.proofs.accept.finish_with.Tie as tie
-use Rattle.read.proofs.accept.finish_with.Reads as reads
-use Rattle.read.proofs.accept.finish_with.Lts as lts
-use Rattle.numbers.proofs.empty.Reads as empty-reads
-use Rattle.read.proofs.accept.accept.Reads as accept-reads
-use Rattle.read.proofs.faults.first_fault.Reads as first-fault-reads
-use Rattle.rows.proofs.clear.Reads as clear-reads
-use Rattle.stages.proofs.names.index_names.Reads as index-names-reads
 
 empty-requires : tie.Need-empty-requires
 empty-requires c κs = search needs

@@ -4,11 +4,6 @@ use Rattle.read.proofs.SurveyLaws.{too-long, walk-stops, number-outside
 use borrow.Author.Needs.{needs}
 use Rattle.read.proofs.checks.survey.Statement.{statement}
 use Rattle.read.proofs.checks.survey.Tie as tie
-use Rattle.read.proofs.checks.survey.Reads as reads
-use Rattle.read.proofs.checks.survey.Lts as lts
-use Rattle.read.proofs.checks.refused.Reads as refused-reads
-use Rattle.read.proofs.checks.walk_refused.Reads as walk-refused-reads
-use Rattle.walk.proofs.walk.Reads as walk-reads
 
 refused-requires : tie.Need-refused-requires
 refused-requires c κs = search needs

@@ -4,10 +4,6 @@ use Rattle.read.proofs.SurveyLaws.{bad-token, no-bad-token}
 use borrow.Author.Needs.{needs}
 use Rattle.read.proofs.checks.walk_refused.Statement.{statement}
 use Rattle.read.proofs.checks.walk_refused.Tie as tie
-use Rattle.read.proofs.checks.walk_refused.Reads as reads
-use Rattle.read.proofs.checks.walk_refused.Lts as lts
-use Rattle.lex.proofs.first_bad.Reads as first-bad-reads
-use Rattle.read.proofs.checks.refused.Reads as refused-reads
 
 first-bad-requires : tie.Need-first-bad-requires
 first-bad-requires c κs = search needs

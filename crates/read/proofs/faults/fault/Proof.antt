@@ -3,8 +3,6 @@
 use borrow.Author.Needs.{needs}
 use Rattle.read.proofs.faults.fault.Statement.{statement}
 use Rattle.read.proofs.faults.fault.Tie as tie
-use Rattle.read.proofs.faults.fault.Reads as reads
-use Rattle.read.proofs.faults.fault.Lts as lts
 
 returns : tie.Need-returns
 returns c = rw (c .if1 .taken)

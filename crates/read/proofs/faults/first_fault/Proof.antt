@@ -4,16 +4,6 @@ use Rattle.read.proofs.FaultLaws.{form-fault, question-fault, name-faul
 use borrow.Author.Needs.{needs}
 use Rattle.read.proofs.faults.first_fault.Statement.{statement}
 use Rattle.read.proofs.faults.first_fault.Tie as tie
-use Rattle.read.proofs.faults.first_fault.Reads as reads
-use Rattle.read.proofs.faults.first_fault.Lts as lts
-use Rattle.numbers.proofs.empty.Reads as empty-reads
-use Rattle.read.proofs.faults.fault.Reads as fault-reads
-use Rattle.stages.proofs.bad_choice.Reads as bad-choice-reads
-use Rattle.stages.proofs.names.repeated_name.Reads as repeated-name-reads
-use Rattle.stages.proofs.unfound.Reads as unfound-reads
-use Rattle.stages.proofs.repeated_form.Reads as repeated-form-reads
-use Rattle.stages.proofs.repeated_question.Reads as repeated-question-reads
-use Rattle.stages.proofs.rule_over_limit.Reads as rule-over-limit-reads
 
 empty-requires : tie.Need-empty-requires
 empty-requires c κs = search needs

@@ -1,12 +1,9 @@
--- `read::vfr_quick_check` meets its contract: a survey of the source, whatever table is lent.
+-- `read::quick_check` meets its contract: a survey of the source, whatever table is lent.
 -- Assumes nothing.
 use Rattle.read.proofs.ReadLaws.{quick-answer}
 use borrow.Author.Needs.{needs}
-use Rattle.read.proofs.vfr_quick_check.Statement.{statement}
-use Rattle.read.proofs.vfr_quick_check.Tie as tie
-use Rattle.read.proofs.vfr_quick_check.Reads as reads
-use Rattle.read.proofs.vfr_quick_check.Lts as lts
-use Rattle.read.proofs.checks.survey.Reads as survey-reads
+use Rattle.read.proofs.quick_check.Statement.{statement}
+use Rattle.read.proofs.quick_check.Tie as tie
 
 slice-aggregate-survey : tie.Need-slice-aggregate-survey
 slice-aggregate-survey c = search needs
@@ -23,6 +20,6 @@ add-result c = search needs
 returns : tie.Need-returns
 returns c = quick-answer (c .before .before .survey .ensures)
 
-pub vfr-quick-check-spec : {M : Type 1} → statement M
-vfr-quick-check-spec =
+pub quick-check-spec : {M : Type 1} → statement M
+quick-check-spec =
     tie.close (tie.spec slice-aggregate-survey survey-requires mul-result add-result returns)

@@ -1,0 +1,10 @@
+-- The numbers of an answer in lent memory.
+-- Assumes nothing.
+use Prim.Native.Nat.{ℕ}
+use mathlib.Core.List.{List}
+use lib.ListN.{set}
+use Rattle.grammar.specs.Answer.{Answer}
+
+-- number, place, row count and free count in the first four places, as far as there is room
+abbrev pub answerIn : List ℕ → Answer → List ℕ
+answerIn l a = set (set (set (set l 0 (a .number)) 1 (a .place)) 2 (a .rows)) 3 (a .free)

@@ -1,0 +1,53 @@
+-- `tables::conditions_rows` is safe and ends: k stays within the depth.
+-- Assumes nothing.
+use Prim.Native.Nat.{_-_, _≤_}
+use mathlib.Core.Path.{_≡_}
+use lib.ListN.{length}
+use borrow.Author.Needs.{needs}
+use Rattle.specimens.proofs.tables.conditions_rows.Statement.{statement}
+use Rattle.specimens.proofs.tables.conditions_rows.Tie as tie
+
+abbrev Inv-loop : tie.InvT-loop
+Inv-loop depth cells₀ k₀ cells k = (k ≤ depth) × (length cells ≡ length cells₀)
+
+abbrev μ-loop : tie.MeasureT-loop
+μ-loop depth cells₀ k₀ cells k = depth - k
+
+frame-rows-requires : tie.Need-frame-rows-requires Inv-loop μ-loop
+frame-rows-requires c κs = search needs
+
+loop-holds : tie.Need-loop-holds Inv-loop μ-loop
+loop-holds c = search needs
+
+condition-rows-requires : tie.Need-condition-rows-requires Inv-loop μ-loop
+condition-rows-requires c κs = search needs
+
+add-k : tie.Need-add-k Inv-loop μ-loop
+add-k c = search needs
+
+loop-less : tie.Need-loop-less Inv-loop μ-loop
+loop-less c = search needs
+
+loop-again : tie.Need-loop-again Inv-loop μ-loop
+loop-again c = search needs
+
+same-length : tie.Need-same-length Inv-loop μ-loop
+same-length c = search needs
+
+returns : tie.Need-returns Inv-loop μ-loop
+returns c = search needs
+
+pub conditions-rows-spec : {M : Type 1} → statement M
+conditions-rows-spec =
+    tie.close
+    (tie.spec
+    Inv-loop
+    μ-loop
+    frame-rows-requires
+    loop-holds
+    condition-rows-requires
+    add-k
+    loop-less
+    loop-again
+    same-length
+    returns)

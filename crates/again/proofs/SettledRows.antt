@@ -105,12 +105,15 @@ module _ (s : List ℕ) (look : ℕ → List ℕ) {d : Draft} (u : Sound d) wher
 -- ---- what stages 10 and 11 tell of each row
 
 -- "a 256th rule" there is none
-rules-few : (ds : List Draft) → rulesOverLimit ds ≡ [] → (k : ℕ) → mem k (ruleNumbers ds) ≡ true → k < 256
+pub rules-below : (ds : List Draft) → rulesOverLimit ds ≡ [] → All (λ d. is code.RULE d ≡ true → cell column.OWN d < 256) ds
 unfolding rulesOverLimit
-rules-few ds e = owns-each (is code.RULE) (λ k. k < 256) (all-then few (each-clean _ (λ before d. refl) [] e))
+rules-below ds e = all-then few (each-clean _ (λ before d. refl) [] e)
   where
     few : (d : Draft) → faultIf (is code.RULE d && ltb 255 (cell column.OWN d)) (mark (cell column.PLACE d)) ≡ [] → is code.RULE d ≡ true → cell column.OWN d < 256
     few d h r = let t : ltb 255 (cell column.OWN d) ≡ false = rw r at (no-fault (is code.RULE d && ltb 255 (cell column.OWN d)) _ h) in omega (arith, ltb-false 255 (cell column.OWN d) t)
+
+rules-few : (ds : List Draft) → rulesOverLimit ds ≡ [] → (k : ℕ) → mem k (ruleNumbers ds) ≡ true → k < 256
+rules-few ds e = owns-each (is code.RULE) (λ k. k < 256) (rules-below ds e)
 
 -- each goto and each reference finds something
 pub record Finds (s : List ℕ) (ds : List Draft) (d : Draft) : Type 0 where

@@ -2,18 +2,20 @@
 -- same numbers and finished rows.
 -- Assumes nothing.
 use mathlib.Core.Path.{_≡_, ap, sym, _∙_}
+use mathlib.Core.Bool.{true}
 use mathlib.Core.List.{List, [], map}
-use Prim.Native.Nat.{ℕ, _≤_}
+use Prim.Native.Nat.{ℕ, _≤_, _<_}
 use lib.ListN.{length, take}
 use Rattle.numbers.specs.Numbers.{numbered, freeCount}
 use Rattle.numbers.proofs.Numbering.{Own}
+use Rattle.rows.specs.Codes as code
 use Rattle.rows.specs.Columns as column
 use Rattle.ll1.specs.Trees.{Trees}
 use Rattle.grammar.specs.Derivation.{Derives, NowhereTooDeep}
 use Rattle.grammar.specs.Source.{sourceTokens}
 use Rattle.grammar.specs.Ranges.{outOfRange}
 use Rattle.grammar.specs.Rows.{Draft, rulesIn}
-use Rattle.grammar.specs.Stages.{cell, repeatedForms, repeatedQuestions, repeatedNames, rulesOverLimit, unfound, badChoices, ownNumbers, finished}
+use Rattle.grammar.specs.Stages.{cell, is, repeatedForms, repeatedQuestions, repeatedNames, rulesOverLimit, unfound, badChoices, ownNumbers, finished}
 use Rattle.grammar.specs.Answer.{LIMIT, drafts}
 use Rattle.grammar.specs.Text.{rowFirstAt}
 use Rattle.grammar.specs.Demand3.{Sound}
@@ -47,6 +49,10 @@ module _ (s : List ℕ) (tree : Trees) (sound : Sound s tree) (short : length s 
   -- each draft row's finished row is found at its place: a question has got a number, a reference has found one
   pub settled : All (Settled look) ds
   settled = SettledRows.settled s tree sound short
+
+  -- no rule's number is over 255
+  pub rules-below : All (λ d. is code.RULE d ≡ true → cell column.OWN d < 256) ds
+  rules-below = SettledRows.rules-below ds (sound .limit)
 
   own : Own (numbered (ownNumbers ds))
   own = SettledRows.own s tree sound short

@@ -12,7 +12,7 @@ use Rattle.lex.specs.Bytes.{isDigit, isHexDigit, isWordByte}
 use Rattle.lex.specs.Classes.{NAME, HEX, DECIMAL}
 use Rattle.lex.specs.Lexemes.{reserved}
 use Rattle.lex.specs.Tokens.{all, same, placeOf, isHex, wordClass}
-use Rattle.lex.specs.Numbers.{numeral}
+use Rattle.lex.specs.Numbers.{valueFrom, numeral}
 use Rattle.lex.proofs.Lists.{either, and-true}
 use Rattle.lex.proofs.Equality.{same-refl, same-true}
 use Rattle.grammar.specs.Text.{hexDigits}
@@ -106,6 +106,16 @@ unfolding numeral
 hex-numeral width v = hex-value width v
 
 -- ---- names
+
+-- a rule's name counts as its number: R is no digit, and adds nothing
+no-mark-first : (w : List ℕ) → all isDigit w ≡ true → eqb (getD w 0 0) 120 ≡ false
+unfolding all
+no-mark-first [] h = refl
+no-mark-first (b ∷ w) h = not-byte isDigit b 120 (and-true (isDigit b) (all isDigit w) h .0) refl
+
+pub name-numeral : (n : ℕ) → numeral (nameWord n) ≡ n
+unfolding numeral valueFrom
+name-numeral n = rw (no-mark-first (decimalWord n) (decimal-bytes n)) (decimal-value n)
 
 pub same-names : (m n : ℕ) → same (nameWord m) (nameWord n) ≡ eqb m n
 unfolding same

@@ -8,7 +8,7 @@ use native.Mathlib.Omega.{arith}
 use lib.ListN.{length, drop, length-append}
 use lib.Seq.{drop-at, drop-drop}
 use Rattle.lex.specs.Bytes.{isWordByte}
-use Rattle.lex.specs.Classes.{NAME, HEX}
+use Rattle.lex.specs.Classes.{NAME}
 use Rattle.lex.specs.Tokens.{all}
 use Rattle.lex.specs.Numbers.{numeral}
 use Rattle.lex.proofs.Lists.{either-less, from-end}
@@ -16,7 +16,7 @@ use Rattle.ll1.specs.Trees.{Token}
 use Rattle.grammar.specs.Text.{Word, gapAfter, textOf}
 use Rattle.printing.specs.Spelling.{nameWord, Spells, a-lexeme, a-decimal, a-hex, a-name, Spelled, spelled-none, spelled-next}
 use Rattle.printing.specs.Spelling.{placed, Stands, Standing, standing-none, standing-next}
-use Rattle.printing.proofs.Numbers.{decimal-in-word, hex-in-word, name-in-word, decimal-numeral, hex-numeral}
+use Rattle.printing.proofs.Numbers.{decimal-in-word, hex-in-word, name-in-word, decimal-numeral, hex-numeral, name-numeral}
 
 -- ---- places
 
@@ -39,11 +39,12 @@ in-word (a-decimal v) l = decimal-in-word v
 in-word (a-hex width v h) l = hex-in-word width v
 in-word (a-name n) l = name-in-word n
 
-pub number-numeral : {w : Word} {k v : ℕ} → Spells w k v → HEX ≤ k → numeral w ≡ v
-number-numeral (a-lexeme k h) l = absurd (omega arith)
-number-numeral (a-decimal v) l = decimal-numeral v
-number-numeral (a-hex width v h) l = hex-numeral width v
-number-numeral (a-name n) l = absurd (omega arith)
+-- the value of a number, and of a rule's name
+pub word-numeral : {w : Word} {k v : ℕ} → Spells w k v → NAME ≤ k → numeral w ≡ v
+word-numeral (a-lexeme k h) l = absurd (omega arith)
+word-numeral (a-decimal v) l = decimal-numeral v
+word-numeral (a-hex width v h) l = hex-numeral width v
+word-numeral (a-name n) l = name-numeral n
 
 pub name-is : {w : Word} {k n : ℕ} → Spells w k n → k ≡ NAME → w ≡ nameWord n
 name-is (a-lexeme k h) e = absurd (omega arith)

@@ -11,7 +11,7 @@ use lib.ListN.{length, drop}
 use borrow.Author.Tests.{le-leb, lt-ltb}
 use Rattle.lex.specs.declared.Found.the-variants.{Nothing}
 use Rattle.lex.specs.declared.Value.the-variants.{Fits}
-use Rattle.lex.specs.Classes.{NAME, HEX}
+use Rattle.lex.specs.Classes.{NAME}
 use Rattle.lex.specs.Tokens.{word, sameWord, firstBad, tokenAfterGap, tokenAt}
 use Rattle.lex.specs.Numbers.{fitted, valueAt, digitsAt}
 use Rattle.lex.proofs.Specimens.{tok}
@@ -25,7 +25,7 @@ use Rattle.printing.proofs.Digits.{hex-length}
 use Rattle.printing.proofs.Runs.{gap-blank, word-is}
 use Rattle.printing.proofs.Numbers.{same-names}
 use Rattle.printing.proofs.TextTokens.{spells-reads, good-text, taken-tokens}
-use Rattle.printing.proofs.TextPlaces.{stand-placed, in-word, number-numeral, name-is, stands-inside}
+use Rattle.printing.proofs.TextPlaces.{stand-placed, in-word, word-numeral, name-is, stands-inside}
 
 -- ---- the text of words that spell the tokens ts
 
@@ -55,11 +55,11 @@ module _ {s : List ℕ} {p k v : ℕ} {w : Word} (stands : Stands s p w) (spells
   pub word-at : NAME ≤ k → word (drop p s) ≡ w
   word-at l = rw (stands .here) (word-is w (stands .later) (in-word spells l) (gap-blank w))
 
-  module _ (number : HEX ≤ k) where
-    -- its value, however large
+  module _ (number : NAME ≤ k) where
+    -- its value, however large; a rule's name counts as its number
     pub value-at : valueAt s p ≡ fitted v
     unfolding valueAt
-    value-at = rw (word-at (omega arith), number-numeral spells number)
+    value-at = rw (word-at number, word-numeral spells number)
 
     pub value-fits-at : v < 2 ^ 64 → valueAt s p ≡ Fits v
     value-fits-at h = value-at ∙ fitted-fits v h
@@ -70,7 +70,7 @@ module _ {s : List ℕ} {p k v : ℕ} {w : Word} (stands : Stands s p w) (spells
 
     pub digits-at : digitsAt s p ≡ length w - 2
     unfolding digitsAt
-    digits-at = rw (word-at (omega arith))
+    digits-at = rw (word-at number)
 
     -- it keeps a range of values exactly where its value does
     pub keeps-value : (low high : ℕ) → keeps s (between low high) p ≡ within low high (fitted v)

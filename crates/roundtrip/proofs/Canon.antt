@@ -1,0 +1,141 @@
+-- The shape of a derivation's resolved text: each statement made anew from its finished row, the lists of statements kept.
+-- Assumes nothing.
+use mathlib.Core.Path.{_≡_, refl, ap, sym, _∙_}
+use mathlib.Core.List.{List, [], _∷_, _++_}
+use mathlib.Core.Bool.{Bool, true, false, cond, _||_}
+use Prim.Native.Nat.{ℕ, zero, suc, _/_, _%_, _<_}
+use native.Mathlib.Omega.{arith}
+use lib.Dec.{eqb, ltb}
+use lib.ListN.{length, getD, set, take, drop}
+use Rattle.lex.specs.Classes as class
+use Rattle.lex.specs.Tokens as lex
+use Rattle.rows.specs.Codes as code
+use Rattle.rows.specs.Columns as column
+use Rattle.rows.specs.Flags as flag
+use Rattle.ll1.specs.Trees.{token, Trees, nil, leaf, node}
+use Rattle.grammar.specs.Rules.{<source>, <form>*, <form>, <item-or-rule>*, <rule>, <item>, <option>*, <item>*, <option>}
+use Rattle.grammar.specs.Source.{numberAt}
+use Rattle.grammar.specs.Parts.{child, placeAt}
+use Rattle.grammar.specs.Expression.{expression}
+use Rattle.grammar.specs.Rows.{Draft, columns}
+use Rattle.grammar.specs.Stages.{cell, is, asks, placeOf}
+use Rattle.grammar.specs.Text.{opening, hasFlag}
+use Rattle.again.specs.Matches.{Pairs, no-pairs, pair, final}
+use Rattle.roundtrip.proofs.Shapes.{sign, ruleWord, Shape, s-nil, s-leaf, s-node}
+use Rattle.roundtrip.proofs.Formula.{formula}
+use Rattle.roundtrip.proofs.Phrases as row
+use Rattle.roundtrip.proofs.Phrases.{say, subtitleUnder, textUnder, labelUnder, gotoUnder, checkboxUnder, numericUnder, oneOfUnder, conditionUnder, optionUnder, ruleUnder, formUnder, formSetUnder}
+
+-- ---- parts of a shape
+
+-- the shape under the n-th tree, and the alternative that it takes
+abbrev pub part : ℕ → Shape → Shape
+part n s-nil = s-nil
+part zero (s-leaf l x) = s-nil
+part (suc n) (s-leaf l x) = part n x
+part zero (s-node A i c x) = c
+part (suc n) (s-node A i c x) = part n x
+
+abbrev pub taken : ℕ → Shape → ℕ
+taken n s-nil = 0
+taken zero (s-leaf l x) = 0
+taken (suc n) (s-leaf l x) = taken n x
+taken zero (s-node A i c x) = i
+taken (suc n) (s-node A i c x) = taken n x
+
+-- the n-th tree, of the rule A
+abbrev pub again : ℕ → ℕ → Shape → Shape → Shape
+again A n x f = s-node A (taken n x) (part n x) f
+
+abbrev pub ending : ℕ → Shape
+ending k = say k (say class.semicolon s-nil)
+
+-- ---- the shape
+
+module _ (look : ℕ → List ℕ) where
+  abbrev pub rowAt : Trees → List ℕ
+  rowAt c = look (placeAt 0 c)
+
+  -- of an item of the alternative i over the trees c, of which d is the shape
+  abbrev pub itemUnder : ℕ → Trees → Shape → Shape
+  itemUnder i c d =
+      let r = look (placeAt 0 c) in
+      let f₁ = hasFlag flag.READ-ONLY r in
+      let f₂ = hasFlag flag.INTERACTIVE r in
+      let f₃ = hasFlag flag.RESET-REQUIRED r in
+      let f₄ = hasFlag flag.HAS-DEFAULT r in
+      let e = formula look (expression (child 1 c)) in
+      let items = again <item>* 3 d (ending class.«endif») in
+      getD (
+      subtitleUnder r
+      ∷ textUnder r
+      ∷ labelUnder r
+      ∷ gotoUnder f₁ f₂ f₃ r
+      ∷ checkboxUnder f₁ f₂ f₃ f₄ (eqb (row.cell column.D r) 1) r
+      ∷ numericUnder f₁ f₂ f₃ f₄ r
+      ∷ oneOfUnder f₁ f₂ f₃ r (again <option> 4 d (again <option>* 5 d (ending class.«endoneof»)))
+      ∷ conditionUnder class.«suppressif» e items
+      ∷ conditionUnder class.«grayoutif» e items
+      ∷ conditionUnder class.«disableif» e items
+      ∷ [])
+      i s-nil
+
+  -- of a node
+  abbrev pub under : ℕ → ℕ → Trees → Shape → Shape
+  under A i c d =
+      elim (eqb A <source>) [
+        | true ↦ formSetUnder (rowAt c) (again <form> 13 d (again <form>* 14 d (ending class.«endformset»)))
+        | false ↦
+            elim (eqb A <form>) [
+              | true ↦ formUnder (rowAt c) (again <item-or-rule>* 9 d (ending class.«endform»))
+              | false ↦
+                  elim (eqb A <rule>) [
+                    | true ↦ ruleUnder (rowAt c) (formula look (expression (child 3 c)))
+                    | false ↦
+                        elim (eqb A <item>) [
+                          | true ↦ itemUnder i c d
+                          | false ↦
+                              elim (eqb A <option>) [ true ↦ optionUnder (hasFlag flag.OPTION-DEFAULT (rowAt c)) (rowAt c) | false ↦ d ]
+                        ]
+                  ]
+            ]
+      ]
+
+  abbrev pub canon : Trees → Shape
+  canon nil = s-nil
+  canon (leaf (token k p) f) = s-leaf (sign k) (canon f)
+  canon (node A i c f) = s-node A i (under A i c (canon c)) (canon f)
+
+-- ---- rows
+
+module _ (t : List ℕ) where
+  -- the text's finished row is found at its place
+  abbrev pub Found : (ℕ → List ℕ) → Draft → Type 0
+  Found look d = look (cell column.PLACE d) ≡ final t d
+
+module _ {A B : Type 0} {P : A → B → Type 0} where
+  pub pairs-append : {xs zs : List A} {ys ws : List B} → Pairs P xs ys → Pairs P zs ws → Pairs P (xs ++ zs) (ys ++ ws)
+  pairs-append no-pairs q = q
+  pairs-append (pair h p) q = pair h (pairs-append p q)
+
+  pub pairs-length : {xs : List A} {ys : List B} → Pairs P xs ys → length xs ≡ length ys
+  pairs-length no-pairs = refl
+  pairs-length (pair h p) = ap suc (pairs-length p)
+
+-- ---- a phrase is told by the first ten cells
+
+pub opening-ten : (r : List ℕ) → length r ≡ column.ROW → opening r ≡ opening (take 10 r)
+opening-ten (a ∷ b ∷ c ∷ d ∷ e ∷ f ∷ g ∷ h ∷ i ∷ j ∷ k ∷ l ∷ []) z = refl
+opening-ten [] z = absurd (omega arith)
+opening-ten (a ∷ []) z = absurd (omega arith)
+opening-ten (a ∷ b ∷ []) z = absurd (omega arith)
+opening-ten (a ∷ b ∷ c ∷ []) z = absurd (omega arith)
+opening-ten (a ∷ b ∷ c ∷ d ∷ []) z = absurd (omega arith)
+opening-ten (a ∷ b ∷ c ∷ d ∷ e ∷ []) z = absurd (omega arith)
+opening-ten (a ∷ b ∷ c ∷ d ∷ e ∷ f ∷ []) z = absurd (omega arith)
+opening-ten (a ∷ b ∷ c ∷ d ∷ e ∷ f ∷ g ∷ []) z = absurd (omega arith)
+opening-ten (a ∷ b ∷ c ∷ d ∷ e ∷ f ∷ g ∷ h ∷ []) z = absurd (omega arith)
+opening-ten (a ∷ b ∷ c ∷ d ∷ e ∷ f ∷ g ∷ h ∷ i ∷ []) z = absurd (omega arith)
+opening-ten (a ∷ b ∷ c ∷ d ∷ e ∷ f ∷ g ∷ h ∷ i ∷ j ∷ []) z = absurd (omega arith)
+opening-ten (a ∷ b ∷ c ∷ d ∷ e ∷ f ∷ g ∷ h ∷ i ∷ j ∷ k ∷ []) z = absurd (omega arith)
+opening-ten (a ∷ b ∷ c ∷ d ∷ e ∷ f ∷ g ∷ h ∷ i ∷ j ∷ k ∷ l ∷ m ∷ n) z = absurd (omega arith)

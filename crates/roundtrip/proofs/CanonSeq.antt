@@ -1,0 +1,121 @@
+-- What is to hold of a node of the source and of the shape made from it; and of nodes beside one another.
+-- Assumes nothing.
+use mathlib.Core.Path.{_≡_, refl, ap, ap₂, sym, _∙_, subst}
+use mathlib.Core.List.{List, [], _∷_, _++_, map, map-append, append-assoc, append-nil}
+use mathlib.Core.Bool.{Bool, true, false, not, cond, _&&_}
+use Prim.Native.Nat.{ℕ, _+_}
+use native.Mathlib.Omega.{arith}
+use lib.Dec.{eqb}
+use lib.ListN.{length, take, set, length-set}
+use Rattle.rows.specs.Codes as code
+use Rattle.rows.specs.Columns as column
+use Rattle.ll1.specs.Trees.{token, Trees, nil, leaf, node, Symbol, nonterminal, Depth, Fits, fits-node}
+use Rattle.ll1.proofs.Basics.{clash, both}
+use Rattle.lex.proofs.Lists.{either}
+use borrow.Author.Tests.{not-true}
+use Rattle.grammar.specs.Rules.{<rule>}
+use Rattle.grammar.specs.Grammar.{rules}
+use Rattle.grammar.specs.Source.{numberAt}
+use Rattle.grammar.specs.Rows.{Draft, when, rulesIn, ownRows, parentIn, draftsOf}
+use Rattle.grammar.specs.Stages.{cell, is, placeOf}
+use Rattle.grammar.specs.Text.{Word, opening, around, wordsOf}
+use Rattle.sound.proofs.Lists.{All, none, more}
+use Rattle.roundtrip.proofs.Shapes.{Lexed, word, Shape, s-nil, s-leaf, s-node, flat, lexed, spelling, Over, over-nil, over-leaf, over-node}
+use Rattle.roundtrip.proofs.Fitted.{Fitted, f-node, to-fits, over-fitted, f-nil}
+use Rattle.roundtrip.proofs.Core.{states, core, within, Told, told}
+use Rattle.roundtrip.proofs.Expressions.{all-parts}
+use Rattle.again.specs.Matches.{Settled, final, Match, Pairs, no-pairs, pair}
+use Rattle.roundtrip.proofs.Canon.{under, canon, Found, pairs-append, pairs-length, opening-ten}
+
+-- ---- words
+
+pub spell-node : (A i : ℕ) (x f : Shape) {ws : List Word} → spelling x ≡ ws → spelling (s-node A i x f) ≡ ws ++ spelling f
+spell-node A i x f h = map-append word (lexed x) (lexed f) ∙ ap (λ u. u ++ spelling f) h
+
+-- ---- shapes without statements
+
+abbrev pub silentShape : Shape → Bool
+silentShape s-nil = true
+silentShape (s-leaf l x) = silentShape x
+silentShape (s-node A i c x) = not (states A) && silentShape x
+
+pub silent-core : {t : List ℕ} {T : Trees} {x : Shape} → Over t T x → silentShape x ≡ true → core T ≡ nil
+silent-core over-nil h = refl
+silent-core (over-leaf r o) h = silent-core o h
+silent-core (over-node {A = A} o₁ o₂) h =
+    let w = both (not (states A)) _ h in
+    rw (not-true (states A) (w .0), core) (silent-core o₂ (w .1))
+
+module _ (t : List ℕ) (look look′ : ℕ → List ℕ) (source : ℕ → ℕ) where
+  abbrev pub N : ℕ → ℕ
+  N = numberAt t
+
+  -- ---- one phrase, again
+
+  final-length : (d : Draft) → length (d .row) ≡ column.ROW → length (final t d) ≡ column.ROW
+  final-length d h = either (is code.RULE-REF d) (λ e. rw e (length-set (d .row) column.A (numberAt t (placeOf (d .ownAt))) ∙ h)) (λ e. rw e h)
+
+  pub open-again : {d′ d : Draft} → Match t look d′ d → Found t look′ d′ → Settled look d → opening (look′ (cell column.PLACE d′)) ≡ opening (look (cell column.PLACE d))
+  open-again {d′} {d} m f s =
+      ap opening f ∙ opening-ten (final t d′) (final-length d′ (m .twelve)) ∙ ap opening (m .same)
+      ∙ sym (opening-ten (look (cell column.PLACE d)) (ap length (s .is-row)))
+
+  -- ---- trees T of the text beside one another, and trees f of the source
+
+  pub record SeqOver (T f : Trees) (parent at n : ℕ) : Type 0 where
+    pub rows : Pairs (Match t look) (draftsOf N T parent at n) (draftsOf source f parent at n)
+    pub count : rulesIn T ≡ rulesIn f
+    pub again : All (Found t look′) (draftsOf N T parent at n) → wordsOf look′ T ≡ wordsOf look f
+
+  -- a node of the rule A and its alternative i: over T, and over c
+  pub record OverOk (A i : ℕ) (c T : Trees) (parent at n : ℕ) : Type 0 where
+    pub rows : Pairs (Match t look) (within N look′ A i T parent at n) (within source look A i c parent at n)
+    pub count : rulesIn (node A i T nil) ≡ rulesIn (node A i c nil)
+    pub again : All (Found t look′) (within N look′ A i T parent at n) → around look′ A i T (wordsOf look′ T) ≡ around look A i c (wordsOf look c)
+
+  abbrev pub made : ℕ → ℕ → Trees → Shape
+  made A i c = under look A i c (canon look c)
+
+  -- a node of the source
+  pub record Ok (d : Depth) (A i : ℕ) (c : Trees) (parent at n : ℕ) : Type 0 where
+    pub fits : {σ : List Symbol} {F : Trees} → Fitted d σ F → Fitted d (nonterminal A ∷ σ) (node A i (flat (made A i c)) F)
+    pub spells : spelling (made A i c) ≡ around look A i c (wordsOf look c)
+    pub over : (T : Trees) → Over t T (made A i c) → OverOk A i c T parent at n
+
+  pub seq-none : (parent at n : ℕ) → SeqOver nil nil parent at n
+  seq-none parent at n = record { rows = no-pairs; count = refl; again = λ h. refl }
+
+  pub seq-node :
+      {A i : ℕ} {c T f U : Trees} {parent at n : ℕ}
+      → OverOk A i c T parent at n
+      → SeqOver U f parent (at + length (within source look A i c parent at n)) (n + rulesIn (node A i c nil))
+      → SeqOver (node A i T U) (node A i c f) parent at n
+  seq-node {A} {i} {c} {T} {f} {U} {parent} {at} {n} o s =
+      let W = within source look A i c parent at n in
+      let W′ = within N look′ A i T parent at n in
+      let e : draftsOf N U parent (at + length W′) (n + rulesIn (node A i T nil)) ≡ draftsOf N U parent (at + length W) (n + rulesIn (node A i c nil)) =
+      ap₂ (λ x y. draftsOf N U parent (at + x) (n + y)) (pairs-length (o .rows)) (o .count) in
+      let cs : (x y : ℕ) → rulesIn (node A i T nil) ≡ rulesIn (node A i c nil) → rulesIn U ≡ rulesIn f → when (eqb A <rule>) 1 + rulesIn T + rulesIn U ≡ when (eqb A <rule>) 1 + rulesIn c + rulesIn f = λ x y p q. omega arith in
+      record {
+        rows = pairs-append (o .rows) (subst (λ ds. Pairs (Match t look) ds (draftsOf source f parent (at + length W) (n + rulesIn (node A i c nil)))) (sym e) (s .rows));
+        count = cs 0 0 (o .count) (s .count);
+        again = λ h.
+            let q = all-parts W′ _ h in
+            ap₂ (λ a b. a ++ b) (o .again (q .0)) (s .again (subst (λ ds. All (Found t look′) ds) e (q .1)));
+      }
+
+  -- only what states something counts
+  pub inside : {T c : Trees} {parent at n : ℕ} → Told N look′ T → Told source look c → SeqOver (core T) (core c) parent at n → SeqOver T c parent at n
+  inside {T} {c} {parent} {at} {n} u v s =
+      record {
+        rows = subst (λ ds. Pairs (Match t look) ds (draftsOf source c parent at n)) (sym (u .rows parent at n)) (subst (λ ds. Pairs (Match t look) (draftsOf N (core T) parent at n) ds) (sym (v .rows parent at n)) (s .rows));
+        count = u .rules-in ∙ s .count ∙ sym (v .rules-in);
+        again = λ h. u .words ∙ s .again (subst (λ ds. All (Found t look′) ds) (u .rows parent at n) h) ∙ sym (v .words);
+      }
+
+  -- a tree over a shape that fits
+  pub told-over : (d : Depth) (A i : ℕ) (x : Shape) {T : Trees} → Fitted d (nonterminal A ∷ []) (node A i (flat x) nil) → Over t T x → Told N look′ T
+  told-over d A i x {T} h o = by (to-fits (over-fitted {x = s-node A i x s-nil} (over-node o over-nil) h))
+    where
+      by : Fits rules (nonterminal A ∷ []) (node A i T nil) → Told N look′ T
+      by (fits-node e r₁ r₂) = told N look′ r₁

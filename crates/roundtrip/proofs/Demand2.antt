@@ -1,0 +1,173 @@
+-- Demand 2: the text of a source that resolves is read again to the same rows, and resolves to itself. The terms are those of `specs/Demand2`.
+-- Assumes nothing.
+use mathlib.Core.Path.{_≡_, refl, ap, ap₂, sym, _∙_, subst}
+use mathlib.Core.List.{List, [], _∷_, map}
+use mathlib.Core.Bool.{Bool, true, false}
+use Prim.Native.Nat.{ℕ, _/_, _≤_, _<_, min}
+use native.Mathlib.Omega.{arith}
+use lib.Dec.{eqb, ltb}
+use lib.ListN.{length, take}
+use borrow.Author.Tests.{eqb-true, eqb-false, ltb-true, ltb-false, le-ltb}
+use Rattle.lex.proofs.Lists.{either}
+use Rattle.numbers.specs.Numbers.{numbered, freeCount}
+use Rattle.rows.specs.Columns as column
+use Rattle.rows.specs.Columns.{ROW}
+use Rattle.ll1.specs.Trees.{Trees}
+use Rattle.ll1.proofs.Basics.{clash}
+use Rattle.grammar.specs.Source.{sourceTokens}
+use Rattle.grammar.specs.Derivation.{Derives}
+use Rattle.grammar.specs.Rows.{Draft}
+use Rattle.grammar.specs.Stages.{cell, repeatedForms, repeatedQuestions, repeatedNames, rulesOverLimit, unfound, badChoices, ownNumbers, finished}
+use Rattle.grammar.specs.Answer.{LIMIT, derived, checked, accepts, drafts, readAnswer, rowsOf}
+use Rattle.grammar.specs.Text.{wordsOf, textOf, rowFirstAt, resolvedText}
+use Rattle.grammar.specs.Resolution.{textOfSource, room, resolvedInto, resolution}
+use Rattle.grammar.specs.Demand3.{Sound, Passes, to-4, to-5, to-6, to-7, to-8, to-9, to-10, to-11, to-12}
+use Rattle.grammar.proofs.Checks.{checked-derived}
+use Rattle.grammar.proofs.Answers.{sound-passes, passes-sound, past-12}
+use Rattle.grammar.proofs.Demand3.{accepts-passing}
+use Rattle.sound.proofs.Lists.{All, none, more}
+use Rattle.grammar.proofs.RowPlaces.{rows-by-place}
+use Rattle.again.specs.Matches.{final, Match, Pairs, no-pairs, pair}
+use Rattle.roundtrip.proofs.Canon.{Found, pairs-length}
+use Rattle.again.proofs.Lists.{all-with}
+use Rattle.again.proofs.Theorems.{settled, rules-below, free-again, finished-again, sound-again}
+use Rattle.roundtrip.specs.Demand2.{besidesPlaces, ReadsAgain}
+use Rattle.roundtrip.proofs.Trip.{textFrom, Trip, trip}
+
+-- the finished row whose first token stands at a place
+abbrev pub looked : List ℕ → Trees → ℕ → List ℕ
+looked s tree = rowFirstAt (finished s (drafts s tree))
+
+-- ---- lists
+
+same-all : (f g : Draft → List ℕ) (ds : List Draft) → map f ds ≡ map g ds → All (λ d. f d ≡ g d) ds
+same-all f g [] e = none
+same-all f g (d ∷ ds) e = let h : f d ≡ g d = cc in let k : map f ds ≡ map g ds = cc in more h (same-all f g ds k)
+
+same-ten : {t : List ℕ} {look : ℕ → List ℕ} {ds′ ds : List Draft} → Pairs (Match t look) ds′ ds → map (take 10) (map (final t) ds′) ≡ map (take 10) (map (λ d. look (cell column.PLACE d)) ds)
+same-ten no-pairs = refl
+same-ten (pair m p) = ap₂ (λ x y. x ∷ y) (m .same) (same-ten p)
+
+-- ---- a source that resolves
+
+pub record Resolved (s : List ℕ) (n m : ℕ) : Type 0 where
+  pub tree : Trees
+  pub short : length s ≤ LIMIT
+  pub sound : Sound s tree
+  pub rows-fit : length (drafts s tree) ≤ n / ROW
+  pub text-fits : length (textOfSource s) ≤ LIMIT
+  pub is-tree : checked s ≡ derived tree
+  pub answer : readAnswer s n ≡ accepts (length (drafts s tree)) (freeCount (numbered (ownNumbers (drafts s tree))))
+  pub resolves : resolution s n m ≡ resolvedInto m (length (textOfSource s)) (readAnswer s n)
+
+passed : {s : List ℕ} {n m : ℕ} {tree : Trees} → Passes s n tree 12 → length (textOfSource s) ≤ LIMIT → resolution s n m ≡ resolvedInto m (length (textOfSource s)) (readAnswer s n) → Resolved s n m
+passed {s} {n} {m} {tree} (to-12 (to-11 (to-10 (to-9 (to-8 (to-7 (to-6 (to-5 (to-4 g) e₅) h) e₇) e₈) e₉) e₁₀) e₁₁) e₁₂) l r =
+    let p = to-12 (to-11 (to-10 (to-9 (to-8 (to-7 (to-6 (to-5 (to-4 g) e₅) h) e₇) e₈) e₉) e₁₀) e₁₁) e₁₂ in
+    record { tree = tree; short = g .short; sound = passes-sound p; rows-fit = h; text-fits = l; is-tree = checked-derived s tree g e₅; answer = past-12 s n tree p; resolves = r }
+
+pub resolved : (s : List ℕ) (n m : ℕ) → resolution s n m .number ≡ 0 → Resolved s n m
+unfolding resolution
+resolved s n m h = either (eqb (readAnswer s n .number) 0) accepted refused
+  where
+    refused : eqb (readAnswer s n .number) 0 ≡ false → Resolved s n m
+    refused e = absurd (eqb-false (readAnswer s n .number) 0 e (rw (e, resolution) at h))
+
+    accepted : eqb (readAnswer s n .number) 0 ≡ true → Resolved s n m
+    accepted e =
+        let r : resolution s n m ≡ resolvedInto m (length (textOfSource s)) (readAnswer s n) = rw (e, resolution) in
+        let w = accepts-passing s n .0 (eqb-true (readAnswer s n .number) 0 e) in
+        either (ltb (room m) (length (textOfSource s)))
+        (λ z. let q : _≡_ {A = ℕ} 13 0 = rw (r, z, resolvedInto) at h in absurd (omega arith))
+        (λ z. passed (w .1) (omega (arith, ltb-false (room m) (length (textOfSource s)) z)) r)
+
+-- ---- the round trip
+
+module _ (s : List ℕ) (n m : ℕ) (r : Resolved s n m) where
+  abbrev tree : Trees
+  tree = r .tree
+
+  abbrev look : ℕ → List ℕ
+  look = looked s tree
+
+  abbrev t : List ℕ
+  t = textFrom look tree
+
+  rows-of : rowsOf s ≡ finished s (drafts s tree)
+  unfolding rowsOf
+  rows-of = rw (r .is-tree, rowsOf)
+
+  the-trip : Trip s look tree
+  the-trip = trip s look tree (r .short) (r .sound .derives) (r .sound .depths) (r .sound .ranges) (all-with (λ d z l. (z, l)) (settled s tree (r .sound) (r .short)) (rules-below s tree (r .sound) (r .short)))
+
+  abbrev tree′ : Trees
+  tree′ = the-trip .tree′
+
+  -- the text is that of the trip
+  text-is : textOfSource s ≡ t
+  unfolding textOfSource resolvedText
+  text-is = rw (r .is-tree, textOfSource) (ap (λ rs. textOf (wordsOf (rowFirstAt rs) tree)) rows-of ∙ sym (the-trip .same-text))
+
+  short′ : length t ≤ LIMIT
+  short′ = omega (arith, ap length text-is, r .text-fits)
+
+  sound′ : Sound t tree′
+  sound′ = sound-again s tree (r .sound) (r .short) t tree′ short′ (the-trip .derives) (the-trip .depths) (the-trip .kept-ranges) (the-trip .rows)
+
+  finished′ : finished t (drafts t tree′) ≡ map (final t) (drafts t tree′)
+  finished′ = finished-again s tree (r .sound) (r .short) t (the-trip .rows)
+
+  count : length (drafts t tree′) ≡ length (drafts s tree)
+  count = pairs-length (the-trip .rows)
+
+  passes′ : Passes t n tree′ 12
+  passes′ = sound-passes sound′ short′ (omega (arith, count, r .rows-fit))
+
+  answer′ : readAnswer t n ≡ readAnswer s n
+  answer′ = past-12 t n tree′ passes′ ∙ ap₂ accepts count (free-again s tree (r .sound) (r .short) t (the-trip .rows)) ∙ sym (r .answer)
+
+  is-tree′ : checked t ≡ derived tree′
+  is-tree′ = checked-derived t tree′ (record { short = short′; derives = the-trip .derives; depths = the-trip .depths }) (the-trip .kept-ranges)
+
+  rows-of′ : rowsOf t ≡ finished t (drafts t tree′)
+  unfolding rowsOf
+  rows-of′ = rw (is-tree′, rowsOf)
+
+  rows′ : besidesPlaces (rowsOf t) ≡ besidesPlaces (rowsOf s)
+  rows′ =
+      ap (map (take 10)) (rows-of′ ∙ finished′) ∙ same-ten (the-trip .rows)
+      ∙ ap (map (take 10)) (rows-by-place s tree (r .sound .derives) ∙ sym rows-of)
+
+  found′ : All (Found t (looked t tree′)) (drafts t tree′)
+  found′ = same-all (λ d. looked t tree′ (cell column.PLACE d)) (final t) (drafts t tree′) (rows-by-place t tree′ (the-trip .derives) ∙ finished′)
+
+  text′ : textOfSource t ≡ t
+  unfolding textOfSource resolvedText
+  text′ = rw (is-tree′, textOfSource) (ap (λ rs. textOf (wordsOf (rowFirstAt rs) tree′)) rows-of′ ∙ ap textOf (the-trip .again (looked t tree′) found′) ∙ sym (the-trip .same-text))
+
+  resolution′ : resolution t n m ≡ resolution s n m
+  unfolding resolution
+  resolution′ =
+      let number : readAnswer t n .number ≡ 0 = ap (λ a. a .number) (answer′ ∙ r .answer) in
+      let e : resolution t n m ≡ resolvedInto m (length (textOfSource t)) (readAnswer t n) = rw (number, resolution) in
+      e ∙ ap₂ (λ k a. resolvedInto m k a) (ap length (text′ ∙ sym text-is)) answer′ ∙ sym (r .resolves)
+
+  again : ReadsAgain textOfSource s n
+  again =
+      let e = sym text-is in
+      record {
+        same-answer = subst (λ x. readAnswer x n ≡ readAnswer s n) e answer′;
+        same-rows = subst (λ x. besidesPlaces (rowsOf x) ≡ besidesPlaces (rowsOf s)) e rows′;
+        same-text = subst (λ x. textOfSource x ≡ x) e text′;
+      }
+
+  same-resolution : resolution (textOfSource s) n m ≡ resolution s n m
+  same-resolution = subst (λ x. resolution x n m ≡ resolution s n m) (sym text-is) resolution′
+
+-- a source that resolves through a table of n numbers into m bytes: demand 2 holds of its text
+module _ (s : List ℕ) (n m : ℕ) (h : resolution s n m .number ≡ 0) where
+  pub reads-again : ReadsAgain textOfSource s n
+  reads-again = again s n m (resolved s n m h)
+
+  -- and resolving it ends with the same answer, table lent and output lent being as large
+  pub resolves-again : resolution (textOfSource s) n m ≡ resolution s n m
+  resolves-again = same-resolution s n m (resolved s n m h)

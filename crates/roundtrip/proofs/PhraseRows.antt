@@ -1,0 +1,236 @@
+-- The row of a tree over a statement's shape has the cells that the shape was made from.
+-- Assumes nothing.
+use mathlib.Core.Path.{_≡_, refl, ap, ap₂, sym, _∙_}
+use mathlib.Core.List.{List, [], _∷_}
+use mathlib.Core.Bool.{Bool, true, false, _&&_, _||_}
+use Prim.Native.Nat.{ℕ, suc, _+_, _*_, _/_, _%_, _^_}
+use native.Mathlib.Omega.{arith}
+use lib.Dec.{eqb, ltb}
+use lib.ListN.{drop}
+use borrow.Author.Tests.{lt-ltb}
+use Rattle.lex.specs.Classes as class
+use Rattle.lex.specs.declared.Value.the-variants.{Fits as FitsWord}
+use Rattle.lex.specs.Numbers.{valueAt}
+use Rattle.lex.specs.Tokens as lex
+use Rattle.rows.specs.Codes as code
+use Rattle.rows.specs.Columns as column
+use Rattle.rows.specs.Flags as flag
+use Rattle.ll1.specs.Trees.{token, Trees, nil, leaf, node}
+use Rattle.grammar.specs.Rules.{<flag>}
+use Rattle.grammar.specs.Source.{held, numberAt}
+use Rattle.grammar.specs.Parts.{child, chosen, placeAt}
+use Rattle.grammar.specs.Rows.{Draft, mark, when, columns, hasFlag, flags, value, string, writtenNumber, writtenMark, nameMark, item, option, ruleDraft, form, guidHigh, guidLow, guidBytes, formSet}
+use Rattle.roundtrip.proofs.Shapes.{Lexed, sign, decimal, hex, ruleWord, Shape, s-nil, s-leaf, s-node, read-sign, read-decimal, read-rule, read-hex, Over, over-nil, over-leaf, over-node}
+use Rattle.roundtrip.proofs.Formula.{Formula}
+use Rattle.roundtrip.proofs.Phrases.{cell, stringUnder, headUnder, flagsUnder, gotoFlagsUnder, otherFlagsUnder, present, subtitleUnder, textUnder, labelUnder, gotoUnder, checkboxUnder, numericUnder, oneOfUnder, conditionUnder, optionUnder, ruleUnder, formUnder, eightUnder, guidUnder, formSetUnder}
+
+-- ---- flags
+
+abbrev pub flagSum : Bool → Bool → Bool → ℕ
+flagSum a b c = when a flag.READ-ONLY + when b flag.INTERACTIVE + when c flag.RESET-REQUIRED
+
+-- the alternative i of `flag` stands in a shape
+abbrev hasFlagIn : ℕ → Shape → Bool
+hasFlagIn i s-nil = false
+hasFlagIn i (s-leaf l x) = hasFlagIn i x
+hasFlagIn i (s-node A j c x) = (eqb A <flag> && eqb j i) || (hasFlagIn i c || hasFlagIn i x)
+
+abbrev flagsIn : Shape → ℕ
+flagsIn x = flagSum (hasFlagIn 0 x) (hasFlagIn 1 x) (hasFlagIn 2 x)
+
+goto-flags-in : (a b c : Bool) → flagsIn (gotoFlagsUnder a b c) ≡ flagSum a b c
+goto-flags-in true true true = refl
+goto-flags-in true true false = refl
+goto-flags-in true false true = refl
+goto-flags-in true false false = refl
+goto-flags-in false true true = refl
+goto-flags-in false true false = refl
+goto-flags-in false false true = refl
+goto-flags-in false false false = refl
+
+other-flags-in : (a b c : Bool) → flagsIn (otherFlagsUnder a b c) ≡ flagSum a b c
+other-flags-in true true true = refl
+other-flags-in true true false = refl
+other-flags-in true false true = refl
+other-flags-in true false false = refl
+other-flags-in false true true = refl
+other-flags-in false true false = refl
+other-flags-in false false true = refl
+other-flags-in false false false = refl
+
+pub marked : (p : ℕ) → ltb 0 (mark p) ≡ true
+marked p = lt-ltb 0 (suc p) (omega arith)
+
+module _ (t : List ℕ) where
+  abbrev N : ℕ → ℕ
+  N = numberAt t
+
+  pub value-of : (p : ℕ) {v : ℕ} → valueAt t p ≡ FitsWord v → N p ≡ v
+  unfolding numberAt
+  value-of p h = rw h
+
+  over-flag : (i : ℕ) {T : Trees} {x : Shape} → Over t T x → hasFlag i T ≡ hasFlagIn i x
+  over-flag i over-nil = refl
+  over-flag i (over-leaf r o) = over-flag i o
+  over-flag i (over-node {A = A} {i = j} o₁ o₂) = ap₂ (λ a b. (eqb A <flag> && eqb j i) || (a || b)) (over-flag i o₁) (over-flag i o₂)
+
+  over-flags : {T : Trees} {x : Shape} → Over t T x → flags T ≡ flagsIn x
+  over-flags o = λ i. flagSum (over-flag 0 o i) (over-flag 1 o i) (over-flag 2 o i)
+
+  -- ---- parts
+
+  number-is : {v : ℕ} {T : Trees} → Over t T (s-leaf (decimal v) s-nil) → N (placeAt 0 T) ≡ v
+  number-is (over-leaf {p = p} (read-decimal h) over-nil) = value-of p h
+
+  hex-is : {w v : ℕ} {T : Trees} → Over t T (s-leaf (hex w v) s-nil) → N (placeAt 0 T) ≡ v
+  hex-is (over-leaf {p = p} (read-hex h k) over-nil) = value-of p h
+
+  string-is : (n : ℕ) {T : Trees} → Over t T (stringUnder n) → value N 2 T ≡ n
+  string-is n (over-leaf read-sign (over-leaf read-sign (over-node o (over-leaf read-sign over-nil)))) = number-is o
+
+  pub record HeadIs (h : Trees) (r : List ℕ) : Type 0 where
+    pub own : writtenNumber N h ≡ cell column.OWN r
+    pub first : string N 4 h ≡ cell column.FIRST r
+    pub second : string N 8 h ≡ cell column.SECOND r
+    pub unnamed : nameMark N h ≡ 0
+    pub written : ltb 0 (writtenMark N h) ≡ true
+
+  head-is : (r : List ℕ) {T : Trees} → Over t T (headUnder r) → HeadIs T r
+  head-is r (over-node over-nil (over-node (over-leaf read-sign (over-leaf read-sign (over-node {c = cₙ} oₙ (over-leaf read-sign over-nil)))) (over-leaf read-sign (over-leaf read-sign (over-node o₁ (over-leaf read-sign (over-leaf read-sign (over-leaf read-sign (over-node o₂ over-nil))))))))) =
+      record { own = number-is oₙ; first = string-is (cell column.FIRST r) o₁; second = string-is (cell column.SECOND r) o₂; unnamed = refl; written = marked (placeAt 0 cₙ) }
+
+  -- ---- items that ask nothing
+
+  pub subtitle-is : (r : List ℕ) (parent : ℕ) {T : Trees} → Over t T (subtitleUnder r) → item N parent 0 T .row ≡ columns code.SUBTITLE parent 0 (cell column.FIRST r) 0 0 0 0 0 0 0 (placeAt 0 T)
+  subtitle-is r parent (over-leaf {p = p} read-sign (over-leaf read-sign (over-leaf read-sign (over-node o (over-leaf read-sign over-nil))))) =
+      let h = string-is (cell column.FIRST r) o in
+      λ i. columns code.SUBTITLE parent 0 (h i) 0 0 0 0 0 0 0 p
+
+  pub text-is : (r : List ℕ) (parent : ℕ) {T : Trees} → Over t T (textUnder r) → item N parent 1 T .row ≡ columns code.TEXT parent 0 (cell column.FIRST r) (cell column.SECOND r) 0 0 0 0 0 0 (placeAt 0 T)
+  text-is r parent (over-leaf {p = p} read-sign (over-leaf read-sign (over-leaf read-sign (over-node o₂ (over-leaf read-sign (over-leaf read-sign (over-leaf read-sign (over-node o₁ (over-leaf read-sign over-nil))))))))) =
+      let h = string-is (cell column.FIRST r) o₁ in
+      let k = string-is (cell column.SECOND r) o₂ in
+      λ i. columns code.TEXT parent 0 (h i) (k i) 0 0 0 0 0 0 p
+
+  pub label-is : (r : List ℕ) (parent : ℕ) {T : Trees} → Over t T (labelUnder r) → item N parent 2 T .row ≡ columns code.LABEL parent (cell column.OWN r) 0 0 0 0 0 0 0 0 (placeAt 0 T)
+  label-is r parent (over-leaf {p = p} read-sign (over-node o (over-leaf read-sign over-nil))) =
+      let h = number-is {v = cell column.OWN r} o in
+      λ i. columns code.LABEL parent (h i) 0 0 0 0 0 0 0 0 p
+
+  -- ---- questions: the row, and that its number is written
+
+  -- a question's draft
+  pub record Question (d : Draft) (k parent flags a b c e place : ℕ) (r : List ℕ) : Type 0 where
+    pub row : d .row ≡ columns k parent (cell column.OWN r) (cell column.FIRST r) (cell column.SECOND r) flags a b c e 0 place
+    pub written : ltb 0 (d .ownAt) ≡ true
+
+  pub goto-is : (a b c : Bool) (r : List ℕ) (parent : ℕ) {T : Trees} → Over t T (gotoUnder a b c r) → Question (item N parent 3 T) code.GOTO parent (flagSum a b c) (cell column.A r) 0 0 0 (placeAt 0 T) r
+  goto-is a b c r parent (over-leaf {p = p} read-sign (over-node oₐ (over-leaf read-sign (over-node oₕ (over-node o (over-leaf read-sign over-nil)))))) =
+      let h = head-is r oₕ in
+      let g = number-is {v = cell column.A r} oₐ in
+      let fl = over-flags o ∙ goto-flags-in a b c in
+      record { row = λ i. columns code.GOTO parent (h .own i) (h .first i) (h .second i) (fl i) (g i) 0 0 0 (h .unnamed i) p; written = h .written }
+
+  -- TRUE is the first alternative
+  abbrev truthOf : Bool → ℕ
+  truthOf v = when v 1
+
+  pub checkbox-is : (a b c e v : Bool) (r : List ℕ) (parent : ℕ) {T : Trees} → Over t T (checkboxUnder a b c e v r) → Question (item N parent 4 T) code.CHECKBOX parent (flagSum a b c + when e flag.HAS-DEFAULT) 0 0 0 (when e (when v 1)) (placeAt 0 T) r
+  checkbox-is a b c true true r parent (over-leaf {p = p} read-sign (over-node oₕ (over-leaf read-sign (over-node o (over-node (over-leaf read-sign (over-leaf read-sign (over-node q (over-leaf read-sign over-nil)))) (over-leaf read-sign (over-leaf read-sign over-nil))))))) =
+      let h = head-is r oₕ in
+      let fl = over-flags o ∙ other-flags-in a b c in
+      record { row = λ i. columns code.CHECKBOX parent (h .own i) (h .first i) (h .second i) (fl i + flag.HAS-DEFAULT) 0 0 0 1 (h .unnamed i) p; written = h .written }
+  checkbox-is a b c true false r parent (over-leaf {p = p} read-sign (over-node oₕ (over-leaf read-sign (over-node o (over-node (over-leaf read-sign (over-leaf read-sign (over-node q (over-leaf read-sign over-nil)))) (over-leaf read-sign (over-leaf read-sign over-nil))))))) =
+      let h = head-is r oₕ in
+      let fl = over-flags o ∙ other-flags-in a b c in
+      record { row = λ i. columns code.CHECKBOX parent (h .own i) (h .first i) (h .second i) (fl i + flag.HAS-DEFAULT) 0 0 0 0 (h .unnamed i) p; written = h .written }
+  checkbox-is a b c false v r parent (over-leaf {p = p} read-sign (over-node oₕ (over-leaf read-sign (over-node o (over-node over-nil (over-leaf read-sign (over-leaf read-sign over-nil))))))) =
+      let h = head-is r oₕ in
+      let fl = over-flags o ∙ other-flags-in a b c in
+      record { row = λ i. columns code.CHECKBOX parent (h .own i) (h .first i) (h .second i) (fl i + 0) 0 0 0 0 (h .unnamed i) p; written = h .written }
+
+  pub numeric-is : (a b c e : Bool) (r : List ℕ) (parent : ℕ) {T : Trees} → Over t T (numericUnder a b c e r)
+      → Question (item N parent 5 T) code.NUMERIC parent (flagSum a b c + when e flag.HAS-DEFAULT) (cell column.A r) (cell column.B r) (cell column.C r) (when e (cell column.D r)) (placeAt 0 T) r × (ltb 0 (item N parent 5 T .defaultAt) ≡ e)
+  numeric-is a b c true r parent (over-leaf {p = p} read-sign (over-node oₕ (over-leaf read-sign (over-node o (over-leaf read-sign (over-leaf read-sign (over-node oₐ (over-leaf read-sign (over-leaf read-sign (over-leaf read-sign (over-node o₃ (over-leaf read-sign (over-node (over-leaf read-sign (over-leaf read-sign (over-node oₛ (over-leaf read-sign over-nil)))) (over-node (over-leaf read-sign (over-leaf read-sign (over-node {c = c₄} o₄ (over-leaf read-sign over-nil)))) (over-leaf read-sign (over-leaf read-sign over-nil)))))))))))))))) =
+      let h = head-is r oₕ in
+      let fl = over-flags o ∙ other-flags-in a b c in
+      let ha = number-is {v = cell column.A r} oₐ in
+      let hb = number-is {v = cell column.B r} o₃ in
+      let hs = number-is {v = cell column.C r} oₛ in
+      let hd = number-is {v = cell column.D r} o₄ in
+      (record { row = λ i. columns code.NUMERIC parent (h .own i) (h .first i) (h .second i) (fl i + flag.HAS-DEFAULT) (ha i) (hb i) (hs i) (hd i) (h .unnamed i) p; written = h .written }, marked (placeAt 0 c₄))
+  numeric-is a b c false r parent (over-leaf {p = p} read-sign (over-node oₕ (over-leaf read-sign (over-node o (over-leaf read-sign (over-leaf read-sign (over-node oₐ (over-leaf read-sign (over-leaf read-sign (over-leaf read-sign (over-node o₃ (over-leaf read-sign (over-node (over-leaf read-sign (over-leaf read-sign (over-node oₛ (over-leaf read-sign over-nil)))) (over-node over-nil (over-leaf read-sign (over-leaf read-sign over-nil)))))))))))))))) =
+      let h = head-is r oₕ in
+      let fl = over-flags o ∙ other-flags-in a b c in
+      let ha = number-is {v = cell column.A r} oₐ in
+      let hb = number-is {v = cell column.B r} o₃ in
+      let hs = number-is {v = cell column.C r} oₛ in
+      (record { row = λ i. columns code.NUMERIC parent (h .own i) (h .first i) (h .second i) (fl i + 0) (ha i) (hb i) (hs i) 0 (h .unnamed i) p; written = h .written }, refl)
+
+  pub one-of-is : (a b c : Bool) (r : List ℕ) (x : Shape) (parent : ℕ) {T : Trees} → Over t T (oneOfUnder a b c r x) → Question (item N parent 6 T) code.ONE-OF parent (flagSum a b c) 0 0 0 0 (placeAt 0 T) r
+  one-of-is a b c r x parent (over-leaf {p = p} read-sign (over-node oₕ (over-leaf read-sign (over-node o oₓ)))) =
+      let h = head-is r oₕ in
+      let fl = over-flags o ∙ other-flags-in a b c in
+      record { row = λ i. columns code.ONE-OF parent (h .own i) (h .first i) (h .second i) (fl i) 0 0 0 0 (h .unnamed i) p; written = h .written }
+
+  -- ---- the other statements
+
+  pub option-is : (e : Bool) (r : List ℕ) (parent : ℕ) {T : Trees} → Over t T (optionUnder e r)
+      → (option N parent T .row ≡ columns code.OPTION parent 0 (cell column.FIRST r) 0 (when e flag.OPTION-DEFAULT) (cell column.A r) 0 0 0 0 (placeAt 0 T)) × (ltb 0 (option N parent T .defaultAt) ≡ e)
+  option-is true r parent (over-leaf {p = p} read-sign (over-leaf read-sign (over-leaf read-sign (over-node o (over-leaf read-sign (over-leaf read-sign (over-leaf read-sign (over-node oₐ (over-leaf read-sign (over-leaf read-sign (over-leaf read-sign (over-node {c = c₂} q (over-leaf read-sign over-nil))))))))))))) =
+      let h = string-is (cell column.FIRST r) o in
+      let ha = number-is {v = cell column.A r} oₐ in
+      (λ i. columns code.OPTION parent 0 (h i) 0 flag.OPTION-DEFAULT (ha i) 0 0 0 0 p, marked (placeAt 0 c₂))
+  option-is false r parent (over-leaf {p = p} read-sign (over-leaf read-sign (over-leaf read-sign (over-node o (over-leaf read-sign (over-leaf read-sign (over-leaf read-sign (over-node oₐ (over-leaf read-sign (over-leaf read-sign (over-leaf read-sign (over-node q (over-leaf read-sign over-nil))))))))))))) =
+      let h = string-is (cell column.FIRST r) o in
+      let ha = number-is {v = cell column.A r} oₐ in
+      (λ i. columns code.OPTION parent 0 (h i) 0 0 (ha i) 0 0 0 0 p, refl)
+
+  -- its name is R and its number
+  pub rule-is : (r : List ℕ) (e : Formula) (parent n : ℕ) {T : Trees} → Over t T (ruleUnder r e) → lex.word (drop (placeAt 1 T) t) ≡ ruleWord (cell column.OWN r)
+  rule-is r e parent n (over-leaf read-sign (over-leaf (read-rule h w) o)) = w
+
+  pub form-is : (r : List ℕ) (x : Shape) (parent : ℕ) {T : Trees} → Over t T (formUnder r x) → form N parent T .row ≡ columns code.FORM parent (cell column.OWN r) (cell column.FIRST r) 0 0 0 0 0 0 0 (placeAt 0 T)
+  form-is r x parent (over-leaf {p = p} read-sign (over-leaf read-sign (over-leaf read-sign (over-node oₙ (over-leaf read-sign (over-leaf read-sign (over-leaf read-sign (over-node o (over-leaf read-sign oₓ))))))))) =
+      let h = number-is {v = cell column.OWN r} oₙ in
+      let k = string-is (cell column.FIRST r) o in
+      λ i. columns code.FORM parent (h i) (k i) 0 0 0 0 0 0 0 p
+
+  -- ---- GUID
+
+  abbrev pub highOf : ℕ → ℕ
+  highOf x = x / 2 ^ 32 % 2 ^ 32 * 2 ^ 32 + x / 2 ^ 16 % 2 ^ 16 % 2 ^ 16 * 2 ^ 16 + x % 2 ^ 16 % 2 ^ 16
+
+  abbrev byteOf : ℕ → ℕ → ℕ
+  byteOf i x = x / 256 ^ i % 256 % 2 ^ 8
+
+  abbrev pub lowOf : ℕ → ℕ
+  lowOf x = byteOf 7 x * 2 ^ 56 + byteOf 6 x * 2 ^ 48 + byteOf 5 x * 2 ^ 40 + byteOf 4 x * 2 ^ 32 + byteOf 3 x * 2 ^ 24 + byteOf 2 x * 2 ^ 16 + byteOf 1 x * 2 ^ 8 + byteOf 0 x
+
+  low-is : (r : List ℕ) {T : Trees} → Over t T (eightUnder r) → guidLow N T ≡ lowOf (cell column.B r)
+  low-is r (over-node o₇ (over-leaf read-sign (over-node o₆ (over-leaf read-sign (over-node o₅ (over-leaf read-sign (over-node o₄ (over-leaf read-sign (over-node o₃ (over-leaf read-sign (over-node o₂ (over-leaf read-sign (over-node o₁ (over-leaf read-sign (over-node o₀ over-nil))))))))))))))) =
+      let x = cell column.B r in
+      let h₇ = hex-is {v = x / 256 ^ 7 % 256} o₇ in
+      let h₆ = hex-is {v = x / 256 ^ 6 % 256} o₆ in
+      let h₅ = hex-is {v = x / 256 ^ 5 % 256} o₅ in
+      let h₄ = hex-is {v = x / 256 ^ 4 % 256} o₄ in
+      let h₃ = hex-is {v = x / 256 ^ 3 % 256} o₃ in
+      let h₂ = hex-is {v = x / 256 ^ 2 % 256} o₂ in
+      let h₁ = hex-is {v = x / 256 ^ 1 % 256} o₁ in
+      let h₀ = hex-is {v = x / 256 ^ 0 % 256} o₀ in
+      λ i. h₇ i % 2 ^ 8 * 2 ^ 56 + h₆ i % 2 ^ 8 * 2 ^ 48 + h₅ i % 2 ^ 8 * 2 ^ 40 + h₄ i % 2 ^ 8 * 2 ^ 32 + h₃ i % 2 ^ 8 * 2 ^ 24 + h₂ i % 2 ^ 8 * 2 ^ 16 + h₁ i % 2 ^ 8 * 2 ^ 8 + h₀ i % 2 ^ 8
+
+  guid-is : (r : List ℕ) {T : Trees} → Over t T (guidUnder r) → (guidHigh N T ≡ highOf (cell column.A r)) × (guidLow N (guidBytes N T) ≡ lowOf (cell column.B r))
+  guid-is r (over-leaf read-sign (over-node o₁ (over-leaf read-sign (over-node o₂ (over-leaf read-sign (over-node o₃ (over-leaf read-sign (over-node (over-leaf read-sign (over-node o₈ (over-leaf read-sign (over-leaf read-sign over-nil)))) over-nil)))))))) =
+      let x = cell column.A r in
+      let h₁ = hex-is {v = x / 2 ^ 32} o₁ in
+      let h₂ = hex-is {v = x / 2 ^ 16 % 2 ^ 16} o₂ in
+      let h₃ = hex-is {v = x % 2 ^ 16} o₃ in
+      (λ i. h₁ i % 2 ^ 32 * 2 ^ 32 + h₂ i % 2 ^ 16 * 2 ^ 16 + h₃ i % 2 ^ 16, low-is r o₈)
+
+  pub form-set-is : (r : List ℕ) (x : Shape) {T : Trees} → Over t T (formSetUnder r x) → formSet N T .row ≡ columns code.FORM-SET 0 0 (cell column.FIRST r) (cell column.SECOND r) 0 (highOf (cell column.A r)) (lowOf (cell column.B r)) 0 0 0 (placeAt 0 T)
+  form-set-is r x (over-leaf {p = p} read-sign (over-leaf read-sign (over-leaf read-sign (over-node o (over-leaf read-sign (over-leaf read-sign (over-leaf read-sign (over-node o₁ (over-leaf read-sign (over-leaf read-sign (over-leaf read-sign (over-node o₂ (over-leaf read-sign oₓ))))))))))))) =
+      let h = string-is (cell column.FIRST r) o₁ in
+      let k = string-is (cell column.SECOND r) o₂ in
+      let g = guid-is r o in
+      λ i. columns code.FORM-SET 0 0 (h i) (k i) 0 (g .0 i) (g .1 i) 0 0 0 p

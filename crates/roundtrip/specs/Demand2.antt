@@ -1,0 +1,21 @@
+-- Demand 2 in document 01's own terms: what the text of a resolver must be.
+-- Assumes nothing.
+use Prim.Native.Nat.{ℕ}
+use mathlib.Core.Path.{_≡_}
+use mathlib.Core.List.{List, map}
+use lib.ListN.{take}
+use Rattle.rows.specs.Columns as column
+use Rattle.grammar.specs.Answer.{readAnswer, rowsOf}
+
+-- rows "but the two columns of places", which are the last two
+abbrev pub besidesPlaces : List (List ℕ) → List (List ℕ)
+besidesPlaces rows = map (take column.NAME) rows
+
+-- the text that a resolver prints of the source s, with a table of n numbers lent
+pub record ReadsAgain (text : List ℕ → List ℕ) (s : List ℕ) (n : ℕ) : Type 0 where
+  -- "The resolved text reads again": it is accepted, with as many rows and free numbers
+  pub same-answer : readAnswer (text s) n ≡ readAnswer s n
+  -- "to the same rows (but the two columns of places)"
+  pub same-rows : besidesPlaces (rowsOf (text s)) ≡ besidesPlaces (rowsOf s)
+  -- "resolving it again changes no byte"
+  pub same-text : text (text s) ≡ text s

@@ -1,0 +1,1 @@
+// The resolved text reads as its source does: see proofs/. No code runs here.

@@ -1,27 +1,24 @@
 -- The shape of a derivation's resolved text: each statement made anew from its finished row, the lists of statements kept.
 -- Assumes nothing.
-use mathlib.Core.Path.{_≡_, refl, ap, sym, _∙_}
+use mathlib.Core.Path.{_≡_, refl, ap}
 use mathlib.Core.List.{List, [], _∷_, _++_}
-use mathlib.Core.Bool.{Bool, true, false, cond, _||_}
-use Prim.Native.Nat.{ℕ, zero, suc, _/_, _%_, _<_}
+use mathlib.Core.Bool.{true, false}
+use Prim.Native.Nat.{ℕ, zero, suc, _<_}
 use native.Mathlib.Omega.{arith}
-use lib.Dec.{eqb, ltb}
-use lib.ListN.{length, getD, set, take, drop}
+use lib.Dec.{eqb}
+use lib.ListN.{length, getD, take}
 use Rattle.lex.specs.Classes as class
-use Rattle.lex.specs.Tokens as lex
-use Rattle.rows.specs.Codes as code
 use Rattle.rows.specs.Columns as column
 use Rattle.rows.specs.Flags as flag
 use Rattle.ll1.specs.Trees.{token, Trees, nil, leaf, node}
 use Rattle.grammar.specs.Rules.{<source>, <form>*, <form>, <item-or-rule>*, <rule>, <item>, <option>*, <item>*, <option>}
-use Rattle.grammar.specs.Source.{numberAt}
 use Rattle.grammar.specs.Parts.{child, placeAt}
 use Rattle.grammar.specs.Expression.{expression}
-use Rattle.grammar.specs.Rows.{Draft, columns}
-use Rattle.grammar.specs.Stages.{cell, is, asks, placeOf}
+use Rattle.grammar.specs.Rows.{Draft}
+use Rattle.grammar.specs.Stages.{cell}
 use Rattle.grammar.specs.Text.{opening, hasFlag}
 use Rattle.again.specs.Matches.{Pairs, no-pairs, pair, final}
-use Rattle.roundtrip.proofs.Shapes.{sign, ruleWord, Shape, s-nil, s-leaf, s-node}
+use Rattle.roundtrip.proofs.Shapes.{sign, Shape, s-nil, s-leaf, s-node}
 use Rattle.roundtrip.proofs.Formula.{formula}
 use Rattle.roundtrip.proofs.Phrases as row
 use Rattle.roundtrip.proofs.Phrases.{say, subtitleUnder, textUnder, labelUnder, gotoUnder, checkboxUnder, numericUnder, oneOfUnder, conditionUnder, optionUnder, ruleUnder, formUnder, formSetUnder}

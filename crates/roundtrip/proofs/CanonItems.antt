@@ -2,31 +2,29 @@
 -- Assumes nothing.
 use mathlib.Core.Path.{_≡_, refl, ap, sym, _∙_, subst}
 use mathlib.Core.List.{List, [], _∷_, _++_, append-nil}
-use mathlib.Core.Bool.{Bool, true, false}
+use mathlib.Core.Bool.{false}
 use Prim.Native.Nat.{ℕ, _+_}
 use lib.Dec.{eqb}
-use lib.ListN.{length}
 use Rattle.rows.specs.Columns as column
 use Rattle.rows.specs.Flags as flag
-use Rattle.ll1.specs.Trees.{Trees, nil, node, Depth}
+use Rattle.ll1.specs.Trees.{Trees, nil, Depth}
 use Rattle.grammar.specs.Rules.{<item>, <option>}
 use Rattle.grammar.specs.Source.{numberAt}
 use Rattle.grammar.specs.Derivation.{tooDeep}
 use Rattle.grammar.specs.Parts.{placeAt}
-use Rattle.grammar.specs.Rows.{Draft, columns, rulesIn, draftsOf}
+use Rattle.grammar.specs.Rows.{Draft, columns}
 use Rattle.grammar.specs.Stages as draft
-use Rattle.grammar.specs.Text.{opening, hasFlag, wordsOf}
-use Rattle.sound.proofs.Lists.{All, none, more}
-use Rattle.roundtrip.proofs.Shapes.{Shape, spelling, Over}
-use Rattle.roundtrip.proofs.Fitted.{Fitted, f-nil}
+use Rattle.grammar.specs.Text.{opening, hasFlag}
+use Rattle.sound.proofs.Lists.{All, more}
+use Rattle.roundtrip.proofs.Shapes.{spelling}
+use Rattle.roundtrip.proofs.Fitted.{f-nil}
 use Rattle.roundtrip.proofs.Phrases.{cell, subtitleUnder, textUnder, labelUnder, gotoUnder, checkboxUnder, numericUnder, optionUnder}
 use Rattle.roundtrip.proofs.PhraseWords.{subtitle-words, text-words, label-words, goto-words, checkbox-words, numeric-words, option-words}
 use Rattle.roundtrip.proofs.PhraseFits.{subtitle-fits, text-fits, label-fits, goto-fits, checkbox-fits, numeric-fits, option-fits}
 use Rattle.roundtrip.proofs.Matches.{subtitle-match, text-match, label-match, goto-match, checkbox-match, numeric-match, option-match}
 use Rattle.roundtrip.proofs.Core.{core, within, Told}
 use Rattle.again.specs.Matches.{Settled, pair}
-use Rattle.roundtrip.proofs.Canon.{Found}
-use Rattle.roundtrip.proofs.CanonSeq.{silent-core, open-again, SeqOver, OverOk, Ok, seq-none, inside, told-over}
+use Rattle.roundtrip.proofs.CanonSeq.{silent-core, open-again, SeqOver, Ok, seq-none, inside, told-over}
 
 module _ {P : Draft → Type 0} where
   pub head-of : {d : Draft} {ds : List Draft} → All P (d ∷ ds) → P d

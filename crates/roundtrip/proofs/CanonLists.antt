@@ -1,8 +1,7 @@
 -- Lists of statements: none, or a statement and the list after it.
 -- Assumes nothing.
-use mathlib.Core.Path.{_≡_, refl, ap, ap₂, sym, _∙_}
-use mathlib.Core.List.{List, [], _∷_, _++_}
-use mathlib.Core.Option.{some}
+use mathlib.Core.Path.{refl, ap, _∙_}
+use mathlib.Core.List.{List, _++_}
 use Prim.Native.Nat.{ℕ, _+_}
 use lib.ListN.{length}
 use Rattle.ll1.specs.Trees.{Trees, nil, node, Depth}
@@ -10,10 +9,10 @@ use Rattle.grammar.specs.Rules.{<form>*, <form>, <item-or-rule>*, <rule>, <item
 use Rattle.grammar.specs.Grammar.{rules}
 use Rattle.grammar.specs.Rows.{rulesIn}
 use Rattle.grammar.specs.Text.{around, wordsOf}
-use Rattle.roundtrip.proofs.Shapes.{Shape, s-nil, s-node, Over, over-nil, over-node}
+use Rattle.roundtrip.proofs.Shapes.{s-nil, s-node, Over, over-nil, over-node}
 use Rattle.roundtrip.proofs.Fitted.{f-nil, f-node}
 use Rattle.roundtrip.proofs.Core.{within}
-use Rattle.roundtrip.proofs.CanonSeq.{spell-node, SeqOver, OverOk, made, Ok, seq-none, seq-node}
+use Rattle.roundtrip.proofs.CanonSeq.{spell-node, OverOk, made, Ok, seq-none, seq-node}
 
 module _ (t : List ℕ) (look look′ : ℕ → List ℕ) (source : ℕ → ℕ) (d : Depth) where
   pub no-forms : (parent at n : ℕ) → Ok t look look′ source d <form>* 0 nil parent at n

@@ -1,30 +1,30 @@
 -- What is to hold of a node of the source and of the shape made from it; and of nodes beside one another.
 -- Assumes nothing.
 use mathlib.Core.Path.{_≡_, refl, ap, ap₂, sym, _∙_, subst}
-use mathlib.Core.List.{List, [], _∷_, _++_, map, map-append, append-assoc, append-nil}
-use mathlib.Core.Bool.{Bool, true, false, not, cond, _&&_}
+use mathlib.Core.List.{List, [], _∷_, _++_, map-append}
+use mathlib.Core.Bool.{Bool, true, not, _&&_}
 use Prim.Native.Nat.{ℕ, _+_}
 use native.Mathlib.Omega.{arith}
 use lib.Dec.{eqb}
-use lib.ListN.{length, take, set, length-set}
+use lib.ListN.{length, length-set}
 use Rattle.rows.specs.Codes as code
 use Rattle.rows.specs.Columns as column
-use Rattle.ll1.specs.Trees.{token, Trees, nil, leaf, node, Symbol, nonterminal, Depth, Fits, fits-node}
-use Rattle.ll1.proofs.Basics.{clash, both}
+use Rattle.ll1.specs.Trees.{Trees, nil, node, Symbol, nonterminal, Depth, Fits, fits-node}
+use Rattle.ll1.proofs.Basics.{both}
 use Rattle.lex.proofs.Lists.{either}
 use borrow.Author.Tests.{not-true}
 use Rattle.grammar.specs.Rules.{<rule>}
 use Rattle.grammar.specs.Grammar.{rules}
 use Rattle.grammar.specs.Source.{numberAt}
-use Rattle.grammar.specs.Rows.{Draft, when, rulesIn, ownRows, parentIn, draftsOf}
+use Rattle.grammar.specs.Rows.{Draft, when, rulesIn, draftsOf}
 use Rattle.grammar.specs.Stages.{cell, is, placeOf}
 use Rattle.grammar.specs.Text.{Word, opening, around, wordsOf}
-use Rattle.sound.proofs.Lists.{All, none, more}
-use Rattle.roundtrip.proofs.Shapes.{Lexed, word, Shape, s-nil, s-leaf, s-node, flat, lexed, spelling, Over, over-nil, over-leaf, over-node}
-use Rattle.roundtrip.proofs.Fitted.{Fitted, f-node, to-fits, over-fitted, f-nil}
+use Rattle.sound.proofs.Lists.{All}
+use Rattle.roundtrip.proofs.Shapes.{word, Shape, s-nil, s-leaf, s-node, flat, lexed, spelling, Over, over-nil, over-leaf, over-node}
+use Rattle.roundtrip.proofs.Fitted.{Fitted, to-fits, over-fitted}
 use Rattle.roundtrip.proofs.Core.{states, core, within, Told, told}
 use Rattle.roundtrip.proofs.Expressions.{all-parts}
-use Rattle.again.specs.Matches.{Settled, final, Match, Pairs, no-pairs, pair}
+use Rattle.again.specs.Matches.{Settled, final, Match, Pairs, no-pairs}
 use Rattle.roundtrip.proofs.Canon.{under, canon, Found, pairs-append, pairs-length, opening-ten}
 
 -- ---- words

@@ -2,39 +2,36 @@
 -- Assumes nothing.
 use mathlib.Core.Path.{_≡_, refl, ap, ap₂, sym, _∙_, subst}
 use mathlib.Core.List.{List, [], _∷_, _++_, map, append-nil, append-assoc}
-use mathlib.Core.Bool.{Bool, true, false}
+use mathlib.Core.Bool.{false}
 use Prim.Native.Nat.{ℕ, suc, _+_, _^_, _≤_, _<_}
 use native.Mathlib.Omega.{arith}
-use lib.Dec.{eqb}
 use lib.ListN.{length}
 use Rattle.lex.specs.Lexemes.{signs, reserved, lexemes}
 use Rattle.lex.specs.Classes as class
-use Rattle.rows.specs.Columns as column
 use Rattle.rows.specs.Flags as flag
 use Rattle.ll1.specs.Trees.{token, Trees, nil, leaf, node, Depth, depth}
 use Rattle.grammar.specs.Rules.{<source>, <form>*, <guid>, <str>, <id>, <form>, <item-or-rule>*, <rule>, <item>, <flags>?, <option>*, <item>*, <option>, <head>, <expression>}
 use Rattle.grammar.specs.Source.{numberAt}
 use Rattle.grammar.specs.Derivation.{tooDeep}
-use Rattle.grammar.specs.Parts.{child, placeAt}
 use Rattle.grammar.specs.Expression.{Expression, expression}
 use Rattle.grammar.specs.Rows.{Draft, rulesIn, draftsOf, item, form, ruleDraft, formSet, guidHigh, guidLow, guidBytes, expressionRows}
 use Rattle.grammar.specs.Text.{Word, words, opening, hasFlag, printed, around, wordsOf}
-use Rattle.sound.proofs.Lists.{All, none, more}
-use Rattle.roundtrip.proofs.Shapes.{word, read-rule, Shape, s-nil, s-node, lexed, spelling, read-sign, Over, over-nil, over-leaf, over-node}
-use Rattle.roundtrip.proofs.Fitted.{Fitted, f-nil, f-leaf, fine}
+use Rattle.sound.proofs.Lists.{All}
+use Rattle.roundtrip.proofs.Shapes.{word, read-rule, Shape, s-node, spelling, read-sign, Over, over-nil, over-leaf, over-node}
+use Rattle.roundtrip.proofs.Fitted.{f-nil, f-leaf, fine}
 use Rattle.roundtrip.proofs.Formula.{Formula, formula, nest, print}
 use Rattle.roundtrip.proofs.FormulaWords.{printed-words}
-use Rattle.roundtrip.proofs.FormulaTree.{Rel, tree}
+use Rattle.roundtrip.proofs.FormulaTree.{Rel}
 use Rattle.roundtrip.proofs.Phrases.{say, oneOfUnder, conditionUnder, ruleUnder, formUnder, formSetUnder}
 use Rattle.roundtrip.proofs.PhraseWords.{one-of-words, condition-words, rule-words, form-words, form-set-words}
 use Rattle.roundtrip.proofs.PhraseFits.{one-of-fits, rule-fits, form-fits, form-set-fits, suppressif-fits, grayoutif-fits, disableif-fits}
 use Rattle.roundtrip.proofs.PhraseRows.{lowOf}
 use Rattle.roundtrip.proofs.Matches.{one-of-match, suppress-match, gray-out-match, disable-match, rule-match, form-match, form-set-match}
 use Rattle.roundtrip.proofs.Expressions.{all-parts, rows-match, formula-again, Expressed, an-expression, expressed}
-use Rattle.roundtrip.proofs.Core.{core, within, Told}
+use Rattle.roundtrip.proofs.Core.{within, Told}
 use Rattle.again.specs.Matches.{Settled, Match, Pairs, pair}
 use Rattle.roundtrip.proofs.Canon.{ending, Found, pairs-append, pairs-length}
-use Rattle.roundtrip.proofs.CanonSeq.{spell-node, silent-core, open-again, SeqOver, OverOk, made, Ok, seq-none, seq-node, inside, told-over}
+use Rattle.roundtrip.proofs.CanonSeq.{spell-node, open-again, SeqOver, OverOk, made, Ok, seq-none, seq-node, inside, told-over}
 use Rattle.roundtrip.proofs.CanonItems.{head-of, tail-of, rowOf, leafless}
 
 -- ---- words

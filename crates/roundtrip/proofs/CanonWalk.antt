@@ -1,30 +1,27 @@
 -- Every statement of a derivation is good: one walk over the derivation.
 -- Assumes nothing.
-use mathlib.Core.Path.{_≡_, refl, ap, sym, _∙_, subst}
-use mathlib.Core.List.{List, [], _∷_, _++_}
+use mathlib.Core.Path.{_≡_, refl, sym, subst}
+use mathlib.Core.List.{List, [], _∷_}
 use mathlib.Core.Option.{some}
 use mathlib.Core.Bool.{true, false}
 use Prim.Native.Nat.{ℕ, zero, suc, _+_, _≤_}
-use native.Mathlib.Omega.{arith}
 use lib.Dec.{eqb}
 use lib.ListN.{length}
 use borrow.Author.Tests.{eqb-true}
 use Rattle.lex.specs.Classes as class
 use Rattle.lex.proofs.Lists.{either}
 use Rattle.ll1.specs.Trees.{token, Trees, nil, leaf, node, Symbol, terminal, nonterminal, Alternative, alternativeOf, Depth, depth, deeper}
-use Rattle.ll1.specs.ParseTable.{member}
 use Rattle.ll1.proofs.Basics.{clash}
 use Rattle.grammar.specs.Notation.{t, r, plain, condition}
 use Rattle.grammar.specs.Rules.{<source>, <form>*, <guid>, <str>, <id>, <small>, <large>, <form>, <item-or-rule>*, <rule>, <item>, <goto-flags>?, <flags>?, <truth-default>?, <step>?, <number-default>?, <option>*, <item>*, <option>, <option-flags>, <head>, <expression>}
 use Rattle.grammar.specs.Grammar.{rules}
 use Rattle.grammar.specs.Derivation.{tooDeep}
-use Rattle.grammar.specs.Expression.{Expression, number, expression}
+use Rattle.grammar.specs.Expression.{number, expression}
 use Rattle.grammar.specs.Rows.{Draft, rulesIn, draftsOf, expressionRows, item, ruleDraft, guidBytes}
 use Rattle.sound.proofs.Lists.{All}
-use Rattle.roundtrip.proofs.Fitted.{Fitted, f-nil, f-leaf, f-node, to-fits, not-deep}
+use Rattle.roundtrip.proofs.Fitted.{Fitted, f-nil, f-leaf, f-node, to-fits}
 use Rattle.roundtrip.proofs.Formula.{formula, nest}
-use Rattle.roundtrip.proofs.FormulaSource.{Level, expression-node}
-use Rattle.roundtrip.proofs.Inverse.{only}
+use Rattle.roundtrip.proofs.FormulaSource.{expression-node}
 use Rattle.roundtrip.proofs.Expressions.{all-parts}
 use Rattle.roundtrip.proofs.Core.{states, core, within, Told, told}
 use Rattle.again.specs.Matches.{Settled}

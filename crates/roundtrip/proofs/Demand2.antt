@@ -2,22 +2,19 @@
 -- Assumes nothing.
 use mathlib.Core.Path.{_≡_, refl, ap, ap₂, sym, _∙_, subst}
 use mathlib.Core.List.{List, [], _∷_, map}
-use mathlib.Core.Bool.{Bool, true, false}
-use Prim.Native.Nat.{ℕ, _/_, _≤_, _<_, min}
+use mathlib.Core.Bool.{true, false}
+use Prim.Native.Nat.{ℕ, _/_, _≤_}
 use native.Mathlib.Omega.{arith}
 use lib.Dec.{eqb, ltb}
 use lib.ListN.{length, take}
-use borrow.Author.Tests.{eqb-true, eqb-false, ltb-true, ltb-false, le-ltb}
+use borrow.Author.Tests.{eqb-true, eqb-false, ltb-false}
 use Rattle.lex.proofs.Lists.{either}
 use Rattle.numbers.specs.Numbers.{numbered, freeCount}
 use Rattle.rows.specs.Columns as column
 use Rattle.rows.specs.Columns.{ROW}
 use Rattle.ll1.specs.Trees.{Trees}
-use Rattle.ll1.proofs.Basics.{clash}
-use Rattle.grammar.specs.Source.{sourceTokens}
-use Rattle.grammar.specs.Derivation.{Derives}
 use Rattle.grammar.specs.Rows.{Draft}
-use Rattle.grammar.specs.Stages.{cell, repeatedForms, repeatedQuestions, repeatedNames, rulesOverLimit, unfound, badChoices, ownNumbers, finished}
+use Rattle.grammar.specs.Stages.{cell, ownNumbers, finished}
 use Rattle.grammar.specs.Answer.{LIMIT, derived, checked, accepts, drafts, readAnswer, rowsOf}
 use Rattle.grammar.specs.Text.{wordsOf, textOf, rowFirstAt, resolvedText}
 use Rattle.grammar.specs.Resolution.{textOfSource, room, resolvedInto, resolution}

@@ -2,29 +2,28 @@
 -- Assumes nothing.
 use mathlib.Core.Path.{_≡_, refl, ap, ap₂, sym, _∙_, subst}
 use mathlib.Core.List.{List, [], _∷_, _++_}
-use mathlib.Core.Bool.{Bool, true, false, cond, _||_}
-use Prim.Native.Nat.{ℕ, suc, _+_, _-_, _<_}
+use mathlib.Core.Bool.{Bool, true, false, _||_}
+use Prim.Native.Nat.{ℕ, _+_, _-_, _<_}
 use native.Mathlib.Omega.{arith}
-use lib.Dec.{eqb, ltb}
-use lib.ListN.{getD, take, drop, set}
+use lib.Dec.{eqb}
+use lib.ListN.{getD, take, drop}
 use Rattle.lex.specs.Tokens as lex
 use Rattle.rows.specs.Codes as code
 use Rattle.rows.specs.Codes.{member, questions, isQuestion}
 use Rattle.rows.specs.Columns as column
-use Rattle.ll1.specs.Trees.{token, Trees, nil, leaf, node}
+use Rattle.ll1.specs.Trees.{Trees, nil, node}
 use Rattle.ll1.proofs.Basics.{clash}
 use Rattle.grammar.specs.Rules.{<expression>}
 use Rattle.grammar.specs.Source.{numberAt}
-use Rattle.grammar.specs.Parts.{child, placeAt}
 use Rattle.grammar.specs.Expression.{Operator, or, and, bit-or, bit-and, equal, not-equal, less, less-equal, greater, greater-equal, shift-left, shift-right, add, subtract, multiply, divide, modulo, operatorCode}
 use Rattle.grammar.specs.Expression.{Constant, true′, false′, zero′, one′, ones′, undefined′, constantCode}
-use Rattle.grammar.specs.Expression.{Expression, number, constant, question-named, question-numbered, rule-named, negation, binary, Pending, nothing, spelled, expression}
+use Rattle.grammar.specs.Expression.{Expression, number, constant, question-named, question-numbered, rule-named, negation, binary, nothing, spelled, expression}
 use Rattle.grammar.specs.Rows.{Draft, mark, columns, operand, expressionRows}
 use Rattle.grammar.specs.Text.{held}
 use Rattle.sound.proofs.Lists.{All, none, more}
 use Rattle.roundtrip.proofs.Shapes.{ruleWord, Shape, s-nil, s-node, Over, over-nil, over-node}
 use Rattle.roundtrip.proofs.Formula.{Formula, f-number, f-constant, f-question, f-rule, f-not, f-binary, formula}
-use Rattle.roundtrip.proofs.FormulaTree.{tree, Rel, rel-number, rel-constant, rel-question, rel-rule, rel-not, rel-binary, Means}
+use Rattle.roundtrip.proofs.FormulaTree.{tree, Rel, rel-number, rel-constant, rel-question, rel-rule, rel-not, rel-binary}
 use Rattle.roundtrip.proofs.FormulaGood.{good}
 use Rattle.roundtrip.proofs.PhraseRows.{value-of}
 use Rattle.again.specs.Matches.{Settled, final, Match, Pairs, no-pairs, pair}

@@ -5,15 +5,14 @@ use mathlib.Core.List.{List, [], _∷_, _++_}
 use mathlib.Core.Option.{some}
 use mathlib.Core.Bool.{Bool, true, false, _||_}
 use Prim.Native.Nat.{ℕ, _≤_}
-use native.Mathlib.Omega.{arith}
 use lib.Dec.{ltb}
 use borrow.Author.Tests.{le-ltb, ltb-false}
-use Rattle.ll1.specs.Trees.{Token, token, Trees, nil, leaf, node, Symbol, terminal, nonterminal, Opens, nothing, Alternative, alternativeOf, Fits, fits-nil, fits-leaf, fits-node, Depth, depth, deeper, opening, depths}
+use Rattle.ll1.specs.Trees.{token, Trees, nil, leaf, node, Symbol, terminal, nonterminal, Alternative, alternativeOf, Fits, fits-nil, fits-leaf, fits-node, Depth, depth, deeper, depths}
 use Rattle.ll1.specs.Verdict.{Allowed}
 use Rattle.ll1.proofs.Basics.{clash}
 use Rattle.grammar.specs.Grammar.{rules}
 use Rattle.grammar.specs.Derivation.{tooDeep}
-use Rattle.roundtrip.proofs.Shapes.{Lexed, Shape, flat, Read, read-sign, read-decimal, read-rule, read-hex, Over, over-nil, over-leaf, over-node}
+use Rattle.roundtrip.proofs.Shapes.{Shape, flat, read-sign, read-decimal, read-rule, read-hex, Over, over-nil, over-leaf, over-node}
 
 -- trees at depth d that fit the symbols, no leaf of which is too deep
 pub data Fitted : Depth → List Symbol → Trees → Type 0 where

@@ -1,23 +1,22 @@
 -- Expressions by their values, with no places; their words with the fewest parentheses; the levels of the grammar by height.
 -- Assumes nothing.
-use mathlib.Core.Path.{_≡_, refl, ap, ap₂, _∙_}
-use mathlib.Core.List.{List, [], _∷_, _++_, map}
+use mathlib.Core.Path.{_≡_, refl}
+use mathlib.Core.List.{List, [], _∷_, _++_}
 use mathlib.Core.Option.{some}
 use mathlib.Core.Bool.{Bool, true, false}
-use Prim.Native.Nat.{ℕ, zero, suc, _+_, _-_, _*_, _≤_, _<_, max}
+use Prim.Native.Nat.{ℕ, zero, suc, _+_, _-_, _*_, _<_, max}
 use native.Mathlib.Omega.{arith}
-use lib.Dec.{eqb, leb, ltb}
-use Rattle.lex.specs.Lexemes.{signs, reserved, lexemes}
+use lib.Dec.{eqb, leb}
 use Rattle.lex.specs.Classes as class
 use Rattle.ll1.specs.Trees.{token, alternativeOf}
 use Rattle.grammar.specs.Notation.{t, r, plain}
 use Rattle.grammar.specs.Rules.{<atom>}
 use Rattle.grammar.specs.Grammar.{rules}
-use Rattle.grammar.specs.Expression.{Operator, or, and, bit-or, bit-and, equal, not-equal, less, less-equal, greater, greater-equal, shift-left, shift-right, add, subtract, multiply, divide, modulo, operatorClass, level}
+use Rattle.grammar.specs.Expression.{Operator, or, and, bit-or, bit-and, equal, not-equal, less, less-equal, greater, greater-equal, shift-left, shift-right, add, subtract, multiply, divide, modulo, operatorClass}
 use Rattle.grammar.specs.Expression.{Constant, true′, false′, zero′, one′, ones′, undefined′, constantClass}
 use Rattle.grammar.specs.Expression.{Expression, number, constant, question-named, question-numbered, rule-named, negation, binary, operators, operatorAmong, operator}
-use Rattle.grammar.specs.Text.{Word, words, held, grouped, printed}
-use Rattle.roundtrip.proofs.Shapes.{Lexed, sign, decimal, rule-name, word}
+use Rattle.grammar.specs.Text.{held}
+use Rattle.roundtrip.proofs.Shapes.{Lexed, sign, decimal, rule-name}
 
 -- ---- operators by height: how many levels are tighter
 

@@ -3,20 +3,20 @@
 use mathlib.Core.Path.{_≡_, refl, ap, sym, _∙_, subst}
 use mathlib.Core.List.{List, [], _∷_, _++_, append-assoc, append-nil}
 use mathlib.Core.Bool.{Bool, true, false}
-use Prim.Native.Nat.{ℕ, zero, suc, _+_, _≤_, _<_, max}
+use Prim.Native.Nat.{ℕ, suc, _+_, _≤_, _<_, max}
 use native.Mathlib.Omega.{arith}
 use lib.Dec.{eqb, leb}
 use borrow.Author.Tests.{leb-true, leb-false, eqb-true, eqb-false, le-leb, lt-leb}
 use Rattle.lex.specs.Classes as class
-use Rattle.ll1.specs.Trees.{token, Trees, nil, leaf, node, Symbol, nonterminal, depth}
+use Rattle.ll1.specs.Trees.{token, Trees, nil, leaf, nonterminal, depth}
 use Rattle.ll1.proofs.Basics.{same}
-use Rattle.grammar.specs.Rules.{<atom>, <large>, <id>, <name-or-number>}
+use Rattle.grammar.specs.Rules.{<large>}
 use Rattle.grammar.specs.Grammar.{rules}
-use Rattle.grammar.specs.Expression.{Operator, operatorClass, Constant, true′, false′, zero′, one′, ones′, undefined′, constantClass, Expression, number, constant, question-numbered, rule-named, negation, binary, Pending, nothing, operator, joined, atom, spelled}
-use Rattle.roundtrip.proofs.Shapes.{Lexed, sign, decimal, rule-name, Shape, s-nil, s-leaf, s-node, flat, lexed, read-sign, read-decimal, read-rule, Over, over-nil, over-leaf, over-node}
+use Rattle.grammar.specs.Expression.{Operator, operatorClass, Constant, true′, false′, zero′, one′, ones′, undefined′, constantClass, Expression, number, constant, question-numbered, rule-named, negation, binary, nothing, operator, atom, spelled}
+use Rattle.roundtrip.proofs.Shapes.{Lexed, sign, decimal, Shape, s-nil, s-leaf, flat, lexed, read-sign, read-decimal, read-rule, Over, over-nil, over-leaf, over-node}
 use Rattle.roundtrip.proofs.Fitted.{Fitted, f-nil, f-leaf, f-node, fine}
-use Rattle.roundtrip.proofs.Formula.{Formula, f-number, f-constant, f-question, f-rule, f-not, f-binary, tight, alternative, constantAlternative, parens, print, inward, nest, lv, tl, tail-no-atom, tight-lt, operator-alternative, operator-told, constant-alternative}
-use Rattle.roundtrip.proofs.FormulaTree.{raised, atomic, tailOf, joining, paren, binaryTree, numeralShape, questionUnder, ruleUnder, tree, chain, Rel, rel-number, rel-constant, rel-question, rel-rule, rel-not, rel-binary, Means, Starts, Whole, Atom, Good, Chained, like, like-chained, chained, level-good, noTail, no-tail-fits, ended, raise, atom-good}
+use Rattle.roundtrip.proofs.Formula.{Formula, f-number, f-constant, f-question, f-rule, f-not, f-binary, tight, constantAlternative, parens, print, inward, nest, tl, tail-no-atom, tight-lt, operator-alternative, operator-told, constant-alternative}
+use Rattle.roundtrip.proofs.FormulaTree.{raised, atomic, tailOf, joining, paren, binaryTree, numeralShape, questionUnder, ruleUnder, tree, chain, Rel, rel-number, rel-constant, rel-question, rel-rule, rel-not, rel-binary, Atom, Good, Chained, like-chained, chained, level-good, noTail, no-tail-fits, ended, raise, atom-good}
 
 module _ (t : List ℕ) where
   -- ---- operands

@@ -1,9 +1,9 @@
 -- An expression in a derivation: its text goes no deeper than it does, and each of its rows has a token of its own.
 -- Assumes nothing.
-use mathlib.Core.Path.{_≡_, refl, ap, ap₂, sym, _∙_, subst}
+use mathlib.Core.Path.{_≡_, refl, ap, ap₂, _∙_, subst}
 use mathlib.Core.List.{List, [], _∷_}
 use mathlib.Core.Option.{some}
-use mathlib.Core.Bool.{Bool, true, false, cond}
+use mathlib.Core.Bool.{Bool, true, false}
 use Prim.Native.Nat.{ℕ, zero, suc, _+_, _≤_, _<_, max}
 use native.Mathlib.Omega.{arith}
 use lib.Dec.{eqb, leb}
@@ -16,10 +16,10 @@ use Rattle.grammar.specs.Rules.{<expression>, <atom>, <large>, <name-or-number>
 use Rattle.grammar.specs.Grammar.{rules}
 use Rattle.grammar.specs.Notation.{plain}
 use Rattle.grammar.specs.Derivation.{tooDeep}
-use Rattle.grammar.specs.Parts.{child, chosen, placeAt}
-use Rattle.grammar.specs.Expression.{Operator, operatorClass, Constant, true′, false′, zero′, one′, ones′, undefined′, constantClass, Expression, number, constant, question-named, question-numbered, rule-named, negation, binary, Pending, nothing, operator, joined, asked, atom, spelled}
+use Rattle.grammar.specs.Parts.{chosen, placeAt}
+use Rattle.grammar.specs.Expression.{Operator, operatorClass, Constant, true′, false′, zero′, one′, ones′, undefined′, constantClass, Expression, number, constant, rule-named, negation, binary, nothing, joined, asked, atom, spelled}
 use Rattle.roundtrip.proofs.Fitted.{Fitted, f-nil, f-leaf, f-node, not-deep}
-use Rattle.roundtrip.proofs.Formula.{Formula, f-number, f-constant, f-question, f-rule, f-not, f-binary, formula, tight, alternative, constantAlternative, inward, nest, lv, tl, level-no-atom, tail-no-atom, tight-lt, operator-told}
+use Rattle.roundtrip.proofs.Formula.{Formula, f-number, f-constant, f-question, f-rule, f-not, f-binary, formula, tight, constantAlternative, inward, nest, lv, tl, level-no-atom, tail-no-atom, tight-lt, operator-told}
 use Rattle.roundtrip.proofs.Inverse.{level-inverse, Tail, no-more, goes-on, tail-inverse, Atom, a-not, a-paren, a-constant, a-number, a-question, a-rule, atom-inverse}
 use Rattle.roundtrip.proofs.Tally.{hit, inLeaves, inExpression}
 

@@ -1,10 +1,10 @@
 -- The shape of an expression's text; and what is to hold of a shape: it fits the grammar, it spells the text, and every tree over it means the expression.
 -- Assumes nothing.
 use mathlib.Core.Path.{_≡_, refl, ap, sym, _∙_, subst}
-use mathlib.Core.List.{List, [], _∷_, _++_, append-assoc, append-nil}
+use mathlib.Core.List.{List, [], _∷_, _++_, append-nil}
 use mathlib.Core.Option.{some}
-use mathlib.Core.Bool.{Bool, true, false, cond}
-use Prim.Native.Nat.{ℕ, zero, suc, _+_, _-_, _*_, _≤_, _<_, max}
+use mathlib.Core.Bool.{Bool, true, false}
+use Prim.Native.Nat.{ℕ, zero, suc, _+_, _-_, _≤_, _<_}
 use native.Mathlib.Omega.{arith}
 use lib.Dec.{eqb, leb}
 use lib.ListN.{drop}
@@ -13,13 +13,13 @@ use Rattle.lex.specs.Classes as class
 use Rattle.lex.specs.declared.Value.the-variants.{Fits as FitsWord}
 use Rattle.lex.specs.Numbers.{valueAt}
 use Rattle.lex.specs.Tokens as lex
-use Rattle.ll1.specs.Trees.{token, Trees, nil, leaf, node, Symbol, nonterminal, Alternative, alternativeOf, depth, deeper}
+use Rattle.ll1.specs.Trees.{Trees, Symbol, nonterminal, Alternative, alternativeOf, depth, deeper}
 use Rattle.grammar.specs.Rules.{<atom>, <large>, <id>, <name-or-number>}
 use Rattle.grammar.specs.Grammar.{rules}
-use Rattle.grammar.specs.Expression.{Operator, operatorClass, Constant, constantClass, Expression, number, constant, question-numbered, rule-named, negation, binary, Pending, nothing, operator, operators, operatorAmong, joined, atom, spelled}
-use Rattle.roundtrip.proofs.Shapes.{Lexed, sign, decimal, rule-name, ruleWord, Shape, s-nil, s-leaf, s-node, flat, lexed, read-sign, Over, over-nil, over-leaf, over-node}
-use Rattle.roundtrip.proofs.Fitted.{Fitted, f-nil, f-leaf, f-node, fine}
-use Rattle.roundtrip.proofs.Formula.{Formula, f-number, f-constant, f-question, f-rule, f-not, f-binary, tight, alternative, constantAlternative, parens, lv, tl, level-alternative, tail-alternative, level-no-atom, tail-no-atom, tight-lt, operator-alternative, operator-told}
+use Rattle.grammar.specs.Expression.{Operator, operatorClass, Constant, constantClass, Expression, number, constant, question-numbered, rule-named, negation, binary, Pending, nothing, joined, atom, spelled}
+use Rattle.roundtrip.proofs.Shapes.{Lexed, sign, decimal, rule-name, ruleWord, Shape, s-nil, s-leaf, s-node, flat, lexed, Over, over-nil, over-node}
+use Rattle.roundtrip.proofs.Fitted.{Fitted, f-nil, f-node}
+use Rattle.roundtrip.proofs.Formula.{Formula, f-number, f-constant, f-question, f-rule, f-not, f-binary, tight, alternative, constantAlternative, lv, tl, level-alternative, tail-alternative, level-no-atom, tail-no-atom}
 
 -- ---- the shape, with the shapes beside it
 

@@ -1,9 +1,9 @@
 -- The text of an expression is the spelling of its formula.
 -- Assumes nothing.
-use mathlib.Core.Path.{_≡_, refl, ap, ap₂, sym, _∙_, subst}
+use mathlib.Core.Path.{_≡_, refl, ap, ap₂, sym, _∙_}
 use mathlib.Core.List.{List, [], _∷_, _++_, map, map-append, append-assoc}
 use mathlib.Core.Bool.{Bool, true, false}
-use Prim.Native.Nat.{ℕ, zero, suc, _+_, _-_, _≤_, _<_}
+use Prim.Native.Nat.{ℕ, suc, _+_, _-_, _≤_}
 use native.Mathlib.Omega.{arith}
 use lib.Dec.{leb, ltb}
 use borrow.Author.Tests.{ltb-true, ltb-false, le-leb, lt-leb}
@@ -11,9 +11,9 @@ use Rattle.lex.specs.Lexemes.{signs, reserved, lexemes}
 use Rattle.lex.specs.Classes as class
 use Rattle.grammar.specs.Expression.{Operator, or, and, bit-or, bit-and, equal, not-equal, less, less-equal, greater, greater-equal, shift-left, shift-right, add, subtract, multiply, divide, modulo, operatorClass, level}
 use Rattle.grammar.specs.Expression.{Expression, number, constant, question-named, question-numbered, rule-named, negation, binary}
-use Rattle.grammar.specs.Text.{Word, words, held, lexeme, grouped, printed}
+use Rattle.grammar.specs.Text.{words, lexeme, grouped, printed}
 use Rattle.roundtrip.proofs.Shapes.{Lexed, sign, word}
-use Rattle.roundtrip.proofs.Formula.{Formula, formula, tight, parens, print}
+use Rattle.roundtrip.proofs.Formula.{formula, tight, parens, print}
 
 -- levels and heights
 heights : (o : Operator) → level o + tight o ≡ 8

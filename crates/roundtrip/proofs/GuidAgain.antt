@@ -1,11 +1,11 @@
 -- A GUID's bits put together again from their parts.
 -- Assumes nothing.
 use mathlib.Core.Path.{_≡_, _∙_}
-use mathlib.Core.List.{List, []}
+use mathlib.Core.List.{[]}
 use Prim.Native.Nat.{ℕ, _+_, _*_, _/_, _%_, _^_, _<_}
 use native.Mathlib.Omega.{arith}
 use Rattle.ll1.specs.Trees.{Trees}
-use Rattle.grammar.specs.Rows.{bits, guidHigh, guidLow}
+use Rattle.grammar.specs.Rows.{guidHigh, guidLow}
 use Rattle.roundtrip.proofs.PhraseRows.{lowOf}
 
 pub high-small : (value : ℕ → ℕ) (g : Trees) → guidHigh value g < 2 ^ 64

@@ -1,16 +1,15 @@
 -- The alternatives of an expression's rules, read back from the grammar's table.
 -- Assumes nothing.
 use mathlib.Core.Path.{_≡_, refl}
-use mathlib.Core.List.{List, [], _∷_}
+use mathlib.Core.List.{[], _∷_}
 use mathlib.Core.Option.{some}
 use Prim.Native.Nat.{ℕ, zero, suc, _<_}
-use native.Mathlib.Omega.{arith}
 use lib.ListN.{getElem?}
 use Rattle.lex.specs.Classes as class
 use Rattle.ll1.specs.Trees.{Alternative, alternativeOf}
 use Rattle.ll1.proofs.Basics.{clash}
 use Rattle.grammar.specs.Notation.{t, r, plain, group}
-use Rattle.grammar.specs.Rules.{<expression>, <atom>, <large>, <id>, <name-or-number>}
+use Rattle.grammar.specs.Rules.{<expression>, <atom>, <large>, <name-or-number>}
 use Rattle.grammar.specs.Grammar.{rules}
 use Rattle.grammar.specs.Expression.{Operator, or, and, bit-or, bit-and, equal, not-equal, less, less-equal, greater, greater-equal, shift-left, shift-right, add, subtract, multiply, divide, modulo, operatorClass}
 use Rattle.grammar.specs.Expression.{Constant, true′, false′, zero′, one′, ones′, undefined′, constantClass}

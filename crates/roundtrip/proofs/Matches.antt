@@ -1,13 +1,12 @@
 -- The row of each statement of the text matches the statement's row in the source.
 -- Assumes nothing.
-use mathlib.Core.Path.{_≡_, refl, ap, ap₂, sym, _∙_, subst}
-use mathlib.Core.List.{List, [], _∷_}
+use mathlib.Core.Path.{_≡_, refl, ap, sym, _∙_, subst}
+use mathlib.Core.List.{List, []}
 use mathlib.Core.Bool.{Bool, true, false}
-use Prim.Native.Nat.{ℕ, suc, _+_, _*_, _-_, _/_, _%_, _^_, _<_}
+use Prim.Native.Nat.{ℕ, suc, _+_, _-_, _/_, _%_, _^_, _<_}
 use native.Mathlib.Omega.{arith}
 use lib.Dec.{eqb, ltb}
-use lib.ListN.{getD, take, drop}
-use Rattle.lex.specs.Classes as class
+use lib.ListN.{take, drop}
 use Rattle.lex.specs.Tokens as lex
 use Rattle.rows.specs.Codes as code
 use Rattle.rows.specs.Codes.{member, questions, isQuestion}
@@ -17,7 +16,7 @@ use Rattle.ll1.specs.Trees.{Trees}
 use Rattle.ll1.proofs.Basics.{clash}
 use Rattle.grammar.specs.Source.{numberAt}
 use Rattle.grammar.specs.Parts.{child, chosen, placeAt}
-use Rattle.grammar.specs.Rows.{Draft, mark, when, columns, flags, value, string, nameMark, item, option, ruleDraft, form, guidHigh, guidLow, guidBytes, formSet}
+use Rattle.grammar.specs.Rows.{mark, when, columns, flags, value, string, nameMark, item, option, ruleDraft, form, guidHigh, guidLow, guidBytes, formSet}
 use Rattle.grammar.specs.Rows as Rows
 use Rattle.grammar.specs.Text.{hasFlag}
 use Rattle.roundtrip.proofs.Shapes.{ruleWord, Shape, Over}

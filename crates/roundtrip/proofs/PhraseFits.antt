@@ -11,7 +11,7 @@ use Rattle.rows.specs.Columns as column
 use Rattle.ll1.specs.Trees.{token, Trees, nil, leaf, node, Symbol, nonterminal, alternativeOf, Depth, depth}
 use Rattle.ll1.proofs.Basics.{clash}
 use Rattle.grammar.specs.Notation.{t, r, plain}
-use Rattle.grammar.specs.Rules.{<source>, <form>*, <guid>, <guid-end>, <eight>, <str>, <form>, <item-or-rule>*, <rule>, <item>, <goto-flags>?, <flags>?, <truth-default>?, <truth>, <step>?, <number-default>?, <option>*, <item>*, <option>, <option-flags>, <head>, <fl>}
+use Rattle.grammar.specs.Rules.{<source>, <form>*, <guid>, <str>, <form>, <item-or-rule>*, <rule>, <item>, <goto-flags>?, <flags>?, <truth-default>?, <truth>, <step>?, <number-default>?, <option>*, <item>*, <option>, <option-flags>, <head>, <fl>}
 use Rattle.grammar.specs.Grammar.{rules}
 use Rattle.grammar.specs.Derivation.{tooDeep}
 use Rattle.roundtrip.proofs.Shapes.{Shape, s-nil, flat}

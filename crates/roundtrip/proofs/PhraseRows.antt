@@ -1,28 +1,27 @@
 -- The row of a tree over a statement's shape has the cells that the shape was made from.
 -- Assumes nothing.
-use mathlib.Core.Path.{_≡_, refl, ap, ap₂, sym, _∙_}
-use mathlib.Core.List.{List, [], _∷_}
+use mathlib.Core.Path.{_≡_, refl, ap₂, _∙_}
+use mathlib.Core.List.{List}
 use mathlib.Core.Bool.{Bool, true, false, _&&_, _||_}
 use Prim.Native.Nat.{ℕ, suc, _+_, _*_, _/_, _%_, _^_}
 use native.Mathlib.Omega.{arith}
 use lib.Dec.{eqb, ltb}
 use lib.ListN.{drop}
 use borrow.Author.Tests.{lt-ltb}
-use Rattle.lex.specs.Classes as class
 use Rattle.lex.specs.declared.Value.the-variants.{Fits as FitsWord}
 use Rattle.lex.specs.Numbers.{valueAt}
 use Rattle.lex.specs.Tokens as lex
 use Rattle.rows.specs.Codes as code
 use Rattle.rows.specs.Columns as column
 use Rattle.rows.specs.Flags as flag
-use Rattle.ll1.specs.Trees.{token, Trees, nil, leaf, node}
+use Rattle.ll1.specs.Trees.{Trees}
 use Rattle.grammar.specs.Rules.{<flag>}
-use Rattle.grammar.specs.Source.{held, numberAt}
-use Rattle.grammar.specs.Parts.{child, chosen, placeAt}
-use Rattle.grammar.specs.Rows.{Draft, mark, when, columns, hasFlag, flags, value, string, writtenNumber, writtenMark, nameMark, item, option, ruleDraft, form, guidHigh, guidLow, guidBytes, formSet}
-use Rattle.roundtrip.proofs.Shapes.{Lexed, sign, decimal, hex, ruleWord, Shape, s-nil, s-leaf, s-node, read-sign, read-decimal, read-rule, read-hex, Over, over-nil, over-leaf, over-node}
+use Rattle.grammar.specs.Source.{numberAt}
+use Rattle.grammar.specs.Parts.{placeAt}
+use Rattle.grammar.specs.Rows.{Draft, mark, when, columns, hasFlag, flags, value, string, writtenNumber, writtenMark, nameMark, item, option, form, guidHigh, guidLow, guidBytes, formSet}
+use Rattle.roundtrip.proofs.Shapes.{decimal, hex, ruleWord, Shape, s-nil, s-leaf, s-node, read-sign, read-decimal, read-rule, read-hex, Over, over-nil, over-leaf, over-node}
 use Rattle.roundtrip.proofs.Formula.{Formula}
-use Rattle.roundtrip.proofs.Phrases.{cell, stringUnder, headUnder, flagsUnder, gotoFlagsUnder, otherFlagsUnder, present, subtitleUnder, textUnder, labelUnder, gotoUnder, checkboxUnder, numericUnder, oneOfUnder, conditionUnder, optionUnder, ruleUnder, formUnder, eightUnder, guidUnder, formSetUnder}
+use Rattle.roundtrip.proofs.Phrases.{cell, stringUnder, headUnder, gotoFlagsUnder, otherFlagsUnder, subtitleUnder, textUnder, labelUnder, gotoUnder, checkboxUnder, numericUnder, oneOfUnder, optionUnder, ruleUnder, formUnder, eightUnder, guidUnder, formSetUnder}
 
 -- ---- flags
 

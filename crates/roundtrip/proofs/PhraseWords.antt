@@ -9,7 +9,7 @@ use Rattle.lex.specs.Lexemes.{signs, reserved, lexemes}
 use Rattle.lex.specs.Classes as class
 use Rattle.rows.specs.Columns as column
 use Rattle.grammar.specs.Text.{Word, words, decimalDigits, decimal, ruleName, string, head, flagList, framed, subtitle, text, label, form, formSet}
-use Rattle.roundtrip.proofs.Shapes.{Lexed, sign, word, Shape, s-nil, lexed, spelling}
+use Rattle.roundtrip.proofs.Shapes.{sign, word, Shape, s-nil, lexed, spelling}
 use Rattle.roundtrip.proofs.Formula.{Formula, print}
 use Rattle.roundtrip.proofs.FormulaTree.{tree}
 use Rattle.roundtrip.proofs.FormulaGood.{good}

@@ -3,14 +3,11 @@
 use mathlib.Core.List.{List}
 use mathlib.Core.Bool.{Bool, true, false, not, _||_}
 use Prim.Native.Nat.{ℕ, _/_, _%_, _^_}
-use lib.Dec.{eqb}
 use lib.ListN.{getD}
 use Rattle.lex.specs.Classes as class
 use Rattle.rows.specs.Columns as column
-use Rattle.rows.specs.Flags as flag
 use Rattle.grammar.specs.Rules.{<guid>, <guid-end>, <eight>, <H8>, <H4>, <H2>, <str>, <id>, <small>, <large>, <zero>, <goto-flags>?, <flags>?, <truth-default>?, <truth>, <step>?, <number-default>?, <option-flags>, <head>, <name>?, <questionid>?, <fl>, <flag>*, <flag>}
-use Rattle.grammar.specs.Text.{hasFlag}
-use Rattle.roundtrip.proofs.Shapes.{Lexed, sign, hex, rule-name, Shape, s-nil, s-leaf, s-node}
+use Rattle.roundtrip.proofs.Shapes.{sign, hex, rule-name, Shape, s-nil, s-leaf, s-node}
 use Rattle.roundtrip.proofs.Formula.{Formula}
 use Rattle.roundtrip.proofs.FormulaTree.{numeralShape, tree}
 

@@ -1,10 +1,10 @@
 -- The shape of a derivation's resolved text is ranged: one walk over the derivation.
 -- Assumes nothing.
-use mathlib.Core.Path.{_≡_, refl, ap, sym, _∙_, subst}
-use mathlib.Core.List.{List, [], _∷_, _++_}
+use mathlib.Core.Path.{_≡_, refl, ap, subst}
+use mathlib.Core.List.{List, [], _∷_}
 use mathlib.Core.Option.{some}
-use mathlib.Core.Bool.{Bool, true, false, cond}
-use Prim.Native.Nat.{ℕ, zero, suc, _+_, _^_, _≤_, _<_}
+use mathlib.Core.Bool.{Bool, true, false}
+use Prim.Native.Nat.{ℕ, zero, suc, _+_, _^_, _<_}
 use native.Mathlib.Omega.{arith}
 use lib.Dec.{eqb, ltb}
 use lib.ListN.{length, getD, drop}
@@ -24,14 +24,14 @@ use Rattle.grammar.specs.Rules.{<source>, <form>*, <guid>, <str>, <id>, <small>
 use Rattle.grammar.specs.Grammar.{rules}
 use Rattle.grammar.specs.Ranges.{ranges, rangeOf}
 use Rattle.grammar.specs.Source.{held, numberAt}
-use Rattle.grammar.specs.Parts.{child, chosen, placeAt}
+use Rattle.grammar.specs.Parts.{child, placeAt}
 use Rattle.grammar.specs.Expression.{Expression, number, constant, question-named, question-numbered, rule-named, negation, binary, expression}
 use Rattle.grammar.specs.Rows.{Draft, when, rulesIn, draftsOf, expressionRows, item, ruleDraft}
 use Rattle.grammar.specs.Stages.{cell, is, asks}
 use Rattle.grammar.specs.Text.{hasFlag}
 use Rattle.sound.proofs.Lists.{All, none, more}
 use Rattle.sound.proofs.Kept.{Kept, kept-nil, kept-leaf, kept-node, Node, part, id-range, small-range, string-range}
-use Rattle.roundtrip.proofs.Shapes.{Shape, s-node}
+use Rattle.roundtrip.proofs.Shapes.{s-node}
 use Rattle.roundtrip.proofs.Formula.{formula}
 use Rattle.roundtrip.proofs.Expressions.{all-parts}
 use Rattle.roundtrip.proofs.Core.{states, core, within, Told, told}

@@ -1,19 +1,16 @@
 -- Trees over the words of a resolved text, and what it means that a text reads as they say.
 -- Assumes nothing.
-use mathlib.Core.Path.{_≡_, refl, ap, ap₂, sym, _∙_}
+use mathlib.Core.Path.{_≡_, refl, ap, sym, _∙_}
 use mathlib.Core.List.{List, [], _∷_, _++_, map, append-assoc, append-nil}
-use mathlib.Core.Option.{some}
-use mathlib.Core.Bool.{Bool, true, false}
 use Prim.Native.Nat.{ℕ, suc, _^_, _<_, _≤_}
-use lib.ListN.{length, getD, drop}
+use lib.ListN.{getD, drop}
 use Rattle.lex.specs.Classes.{NAME, HEX, DECIMAL}
 use Rattle.lex.specs.Lexemes.{bytes, lexemes}
 use Rattle.lex.specs.declared.Value.the-variants.{Fits as FitsWord}
 use Rattle.lex.specs.Numbers.{valueAt, digitsAt}
 use Rattle.lex.specs.Tokens as lex
 use Rattle.ll1.specs.Trees.{Token, token, Trees, nil, leaf, node, leaves}
-use Rattle.grammar.specs.Source.{sourceTokens}
-use Rattle.grammar.specs.Text.{Word, decimalDigits, hexDigits, textOf}
+use Rattle.grammar.specs.Text.{Word, decimalDigits, hexDigits}
 
 -- ---- words of a resolved text
 

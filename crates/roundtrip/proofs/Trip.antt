@@ -1,12 +1,11 @@
 -- The derivation of a resolved text, from the source's derivation and its finished rows.
 -- Assumes nothing.
-use mathlib.Core.Path.{_≡_, refl, ap, ap₂, sym, _∙_, subst}
-use mathlib.Core.List.{List, [], _∷_, _++_, map}
+use mathlib.Core.Path.{_≡_, ap}
+use mathlib.Core.List.{List, [], _∷_, _++_}
 use mathlib.Core.Option.{some}
 use Prim.Native.Nat.{ℕ, _≤_, _<_}
 use lib.ListN.{length}
-use Rattle.ll1.specs.Trees.{Trees, nil, node, leaves, nonterminal, Alternative, alternativeOf, Fits, depth, deeper}
-use Rattle.ll1.specs.Verdict.{Derivation}
+use Rattle.ll1.specs.Trees.{Trees, nil, node, leaves, nonterminal, Alternative, alternativeOf, depth, deeper}
 use Rattle.grammar.specs.Rules.{<source>}
 use Rattle.grammar.specs.Grammar.{rules}
 use Rattle.grammar.specs.Derivation.{Derives, NowhereTooDeep}
@@ -14,7 +13,7 @@ use Rattle.grammar.specs.Source.{sourceTokens, numberAt}
 use Rattle.grammar.specs.Ranges.{ranges, rangeOf, outOfRange}
 use Rattle.grammar.specs.Rows.{Draft, draftsOf}
 use Rattle.grammar.specs.Answer.{LIMIT, drafts}
-use Rattle.grammar.specs.Text.{Word, wordsOf, textOf}
+use Rattle.grammar.specs.Text.{wordsOf, textOf}
 use Rattle.sound.proofs.Lists.{All, none, more}
 use Rattle.sound.proofs.Places.{source-bounded}
 use Rattle.sound.proofs.Kept.{Kept, kept-nil, kept-node, kept, Node}
@@ -25,7 +24,7 @@ use Rattle.roundtrip.proofs.Expressions.{all-parts}
 use Rattle.roundtrip.proofs.Core.{within}
 use Rattle.again.specs.Matches.{Settled, Match, Pairs, no-pairs}
 use Rattle.roundtrip.proofs.Canon.{under, canon, Found, pairs-append}
-use Rattle.roundtrip.proofs.CanonSeq.{spell-node, made, Ok}
+use Rattle.roundtrip.proofs.CanonSeq.{spell-node, Ok}
 use Rattle.roundtrip.proofs.CanonWalk.{source-ok}
 use Rattle.roundtrip.proofs.Ranged.{Ranged, ranged-valid, over-ranged}
 use Rattle.roundtrip.proofs.RangedWalk.{Fit, source-ranged}

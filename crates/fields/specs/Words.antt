@@ -1,12 +1,12 @@
 -- The draft row of a word alone: a condition's, an operator's or a constant's (document 01, Rows).
 -- Assumes nothing.
 use Prim.Native.Nat.{ℕ}
-use mathlib.Core.Bool.{Bool, true, false}
+use mathlib.Core.Bool.{true, false}
 use mathlib.Core.List.{List, [], _∷_, _++_, map}
 use lib.Dec.{eqb}
 use Rattle.lex.specs.Classes as class
 use Rattle.rows.specs.Codes as code
-use Rattle.grammar.specs.Expression.{Operator, operators, operatorClass, operatorCode, Constant, true′, false′, zero′, one′, ones′, undefined′, constantClass, constantCode}
+use Rattle.grammar.specs.Expression.{operators, operatorClass, operatorCode, Constant, true′, false′, zero′, one′, ones′, undefined′, constantClass, constantCode}
 use Rattle.grammar.specs.Rows.{Draft, plain, columns}
 
 -- a class, and what it has

@@ -4,7 +4,7 @@ use mathlib.Core.List.{List, []}
 use mathlib.Core.Bool.{cond}
 use lib.Dec.{eqb}
 use Prim.Native.Nat.{ℕ}
-use Rattle.lex.specs.Lexemes.{bytes, signs, reserved, lexemes}
+use Rattle.lex.specs.Lexemes.{signs, reserved, lexemes}
 use Rattle.lex.specs.Tokens.{run, all, same, placeOf, isGap, inComment, gap, isHex, wordClass, wordToken, signClass, signToken, tokenFrom, tokenAfterGap, tokensWithin, tokensFrom, tokens, badAmong, firstBad, sameWord}
 use Rattle.lex.specs.Numbers.{valueFrom, numeral, valueAt, digitsAt}
 use Rattle.numbers.specs.Numbers.{picked, freeFrom, fill, numbered, mem}

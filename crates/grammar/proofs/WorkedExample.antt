@@ -5,7 +5,7 @@ use mathlib.Core.List.{List, [], _∷_}
 use Prim.Native.Nat.{ℕ}
 use Rattle.lex.specs.Lexemes.{bytes}
 use Rattle.grammar.specs.Answer.{accepts}
-use Rattle.grammar.proofs.Computed.{Outcome, outcomeIn, Resolved, resolvedIn}
+use Rattle.grammar.proofs.Computed.{outcomeIn, resolvedIn}
 
 -- the input
 pub example : List ℕ

@@ -1,12 +1,11 @@
 -- The whole answer of reading and of the quick check, for every source and every table lent (document 01, Refusal numbers).
 -- Assumes nothing.
 use Prim.Native.Nat.{ℕ, _+_, _*_, _/_, _^_}
-use mathlib.Core.Bool.{Bool, true, false, cond}
+use mathlib.Core.Bool.{true, false, cond}
 use mathlib.Core.List.{List, [], _∷_}
 use mathlib.Core.Option.{Option, none, some}
 use lib.Dec.{eqb, ltb}
 use lib.ListN.{length, replicate}
-use Rattle.lex.specs.declared.Found.{Found}
 use Rattle.lex.specs.declared.Found.the-variants.{At, Nothing}
 use Rattle.lex.specs.Tokens.{firstBad}
 use Rattle.numbers.specs.Numbers.{numbered, freeCount}

@@ -1,7 +1,7 @@
 -- Parts of a tree, by place among the trees beside one another, counted from 0.
 -- Assumes nothing.
 use Prim.Native.Nat.{ℕ, zero, suc}
-use Rattle.ll1.specs.Trees.{Token, token, Trees, nil, leaf, node}
+use Rattle.ll1.specs.Trees.{token, Trees, nil, leaf, node}
 
 -- the trees under the n-th tree
 abbrev pub child : ℕ → Trees → Trees

@@ -1,9 +1,9 @@
 -- Numbers outside their place (document 01, refusal 5).
 -- Assumes nothing.
-use Prim.Native.Nat.{ℕ, _^_}
+use Prim.Native.Nat.{ℕ}
 use mathlib.Core.Bool.{Bool, true, false, cond, _&&_}
 use mathlib.Core.List.{List, [], _∷_, _++_}
-use lib.Dec.{eqb, ltb, leb}
+use lib.Dec.{eqb, leb}
 use Rattle.lex.specs.declared.Value.{Value}
 use Rattle.lex.specs.declared.Value.the-variants.{Fits, TooLarge}
 use Rattle.lex.specs.Numbers.{valueAt, digitsAt}

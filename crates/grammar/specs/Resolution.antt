@@ -1,12 +1,12 @@
 -- The whole answer of resolving, for every source, table and output lent (document 01, Refusal numbers and Resolved text).
 -- Assumes nothing.
 use Prim.Native.Nat.{ℕ, _+_, _-_, min}
-use mathlib.Core.Bool.{Bool, true, false, cond}
-use mathlib.Core.List.{List, [], _∷_, _++_}
+use mathlib.Core.Bool.{true, false, cond}
+use mathlib.Core.List.{List, [], _++_}
 use lib.Dec.{eqb, ltb}
 use lib.ListN.{length, replicate}
 use Rattle.rows.specs.Rows.{laid}
-use Rattle.grammar.specs.Answer.{LIMIT, Checked, refusal, derived, checked, Answer, readAnswer, rowsOf}
+use Rattle.grammar.specs.Answer.{LIMIT, refusal, derived, checked, Answer, readAnswer, rowsOf}
 use Rattle.grammar.specs.Text.{resolvedText}
 
 -- the text of an accepted source

@@ -1,13 +1,13 @@
 -- The rows of a derivation as they are before numbers are given and references found, each with the places that later stages name
 -- (document 01, Rows). Assumes nothing.
-use Prim.Native.Nat.{ℕ, zero, suc, _+_, _*_, _%_, _^_}
-use mathlib.Core.Bool.{Bool, true, false, cond, _&&_, _||_}
+use Prim.Native.Nat.{ℕ, suc, _+_, _*_, _%_, _^_}
+use mathlib.Core.Bool.{Bool, true, false, _&&_, _||_}
 use mathlib.Core.List.{List, [], _∷_, _++_}
 use lib.Dec.{eqb, ltb}
 use lib.ListN.{length, getD}
 use Rattle.rows.specs.Codes as code
 use Rattle.rows.specs.Flags as flag
-use Rattle.ll1.specs.Trees.{Token, token, Trees, nil, leaf, node}
+use Rattle.ll1.specs.Trees.{Trees, nil, leaf, node}
 use Rattle.grammar.specs.Rules.{<flag>, <rule>, <item>, <option>, <form>, <source>}
 use Rattle.grammar.specs.Parts.{child, chosen, placeAt}
 use Rattle.grammar.specs.Expression.{Expression, number, constant, question-named, question-numbered, rule-named, negation, binary, constantCode, operatorCode, expression}

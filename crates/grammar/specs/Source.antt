@@ -1,7 +1,7 @@
 -- What a source has at a place, and its tokens as the grammar takes them (document 01, Tokens and Grammar).
 -- Assumes nothing.
 use Prim.Native.Nat.{ℕ}
-use mathlib.Core.Bool.{Bool, cond}
+use mathlib.Core.Bool.{cond}
 use mathlib.Core.List.{List, [], _∷_}
 use lib.Dec.{eqb}
 use Rattle.lex.specs.declared.Token as lex

@@ -1,12 +1,12 @@
 -- Stages 7 to 12 over the rows of a derivation: the marks of what is at fault, in source order; and the finished rows (document 01, Rows and
 -- Refusal numbers). Assumes nothing.
-use Prim.Native.Nat.{ℕ, zero, suc, _-_}
-use mathlib.Core.Bool.{Bool, true, false, not, cond, _&&_, _||_}
+use Prim.Native.Nat.{ℕ, _-_}
+use mathlib.Core.Bool.{Bool, false, not, cond, _&&_, _||_}
 use mathlib.Core.List.{List, [], _∷_, _++_, map}
 use lib.Dec.{eqb, ltb}
 use lib.ListN.{getD, set, drop}
 use Rattle.lex.specs.Tokens.{sameWord}
-use Rattle.numbers.specs.Numbers.{numbered, freeCount}
+use Rattle.numbers.specs.Numbers.{numbered}
 use Rattle.rows.specs.Codes as code
 use Rattle.rows.specs.Codes.{isQuestion}
 use Rattle.rows.specs.Columns as column

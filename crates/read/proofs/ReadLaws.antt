@@ -2,7 +2,7 @@
 -- Assumes nothing.
 use Prim.Native.Nat.{ℕ, _+_, _*_, _/_, _%_, _≤_, _<_, _^_}
 use native.Mathlib.Omega.{arith}
-use mathlib.Core.Path.{_≡_, refl, sym, ap, _∙_}
+use mathlib.Core.Path.{_≡_, sym, _∙_}
 use mathlib.Core.Logic.{_≢_}
 use mathlib.Core.List.{List, map}
 use lib.ListN.{length, length-map}
@@ -10,7 +10,7 @@ use native.Mathlib.Decide.{ℕ-discrete}
 use borrow.Author.Tests.{ne-eqb, lt-ltb}
 use Rattle.rows.specs.Columns.{ROW}
 use Rattle.rows.specs.Table.{wholeRows, cleared}
-use Rattle.rows.specs.Rows.{AreRows, rowsFrom}
+use Rattle.rows.specs.Rows.{rowsFrom}
 use Rattle.rows.proofs.ClearLaws.{cleared-whole}
 use Rattle.rows.proofs.RunLaws.{length-put, rows-put}
 use Rattle.ll1.specs.Trees.{Trees}

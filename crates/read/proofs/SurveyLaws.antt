@@ -2,7 +2,7 @@
 -- Assumes nothing.
 use Prim.Native.Nat.{ℕ, _-_, _≤_, _<_}
 use native.Mathlib.Omega.{arith}
-use mathlib.Core.Path.{_≡_, refl, sym, ap, _∙_}
+use mathlib.Core.Path.{_≡_, refl, sym, _∙_}
 use mathlib.Core.Logic.{_≢_}
 use mathlib.Core.List.{List, [], _∷_}
 use mathlib.Core.Option.{Option}
@@ -12,12 +12,12 @@ use Rattle.lex.specs.declared.Found.the-variants.{At, Nothing}
 use Rattle.lex.specs.Tokens.{firstBad}
 use Rattle.ll1.specs.Trees.{Trees}
 use Rattle.ll1.specs.Verdict.{Verdict, accepted, ends-early, refused, Accepted}
-use Rattle.grammar.specs.Derivation.{Derives, tooDeep, NowhereTooDeep}
+use Rattle.grammar.specs.Derivation.{tooDeep, NowhereTooDeep}
 use Rattle.grammar.specs.Grammar.{rules}
 use Rattle.grammar.specs.Reading.{verdict, derivation}
 use Rattle.grammar.specs.Ranges.{outOfRange}
 use Rattle.grammar.specs.Source.{sourceTokens}
-use Rattle.grammar.specs.Answer.{LIMIT, Checked, refusal, derived, checked, parsed, drafts}
+use Rattle.grammar.specs.Answer.{LIMIT, refusal, derived, checked, parsed}
 use Rattle.grammar.specs.Demand3.{Grammatical}
 use Rattle.grammar.proofs.Theorems.{verdict-right, accepted-exactly, one-derivation}
 use Rattle.grammar.proofs.Checks.{checked-1, checked-2, checked-parsed, checked-5, checked-derived}

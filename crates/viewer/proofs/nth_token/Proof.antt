@@ -3,16 +3,13 @@
 -- Assumes nothing.
 use native.Mathlib.Omega.{arith}
 use mathlib.Core.Path.{_≡_, refl, sym, ap, _∙_}
-use Prim.Native.Nat.{ℕ, _+_, _-_, _≤_, _<_}
+use Prim.Native.Nat.{_-_, _≤_}
 use Rattle.lex.specs.Tokens.{tokenAt}
 use Rattle.viewer.specs.Viewed.{placeAfter, placeOfNth, nthToken, seenAt}
 use Rattle.viewer.specs.declared.Seen.{Seen}
 use Rattle.viewer.proofs.Onward.{next-place}
 use Rattle.viewer.proofs.nth_token.Statement.{statement}
 use Rattle.viewer.proofs.nth_token.Tie as tie
-use Rattle.viewer.proofs.nth_token.Reads as reads
-use Rattle.viewer.proofs.nth_token.Lts as lts
-use Rattle.viewer.proofs.view.Reads as view-reads
 
 abbrev Inv-loop : tie.InvT-loop
 Inv-loop src n at₀ i₀ at i = (at ≡ placeOfNth src i) × (i ≤ n)

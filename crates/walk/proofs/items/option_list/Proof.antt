@@ -16,7 +16,6 @@ use Rattle.walk.proofs.Rooms.{room-after, ahead, ahead-less}
 use Rattle.walk.proofs.ListSteps.{list-none, options-are, option-word, options-end, ListLoop, list-again, list-whole}
 use Rattle.walk.proofs.items.option_list.Statement.{statement}
 use Rattle.walk.proofs.items.option_list.Tie as tie
-use Rattle.walk.proofs.steps.flat.Reads as flat-reads
 
 abbrev Inv-loop : tie.InvT-loop
 Inv-loop src table₀ parent s₀ table s = ListLoop src (λ d. tooDeep d ≡ false) <option>* parent table₀ s₀ table s

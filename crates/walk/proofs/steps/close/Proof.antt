@@ -4,7 +4,6 @@ use borrow.Author.Needs.{needs}
 use Rattle.walk.proofs.PhraseSteps.{closed-reads}
 use Rattle.walk.proofs.steps.close.Statement.{statement}
 use Rattle.walk.proofs.steps.close.Tie as tie
-use Rattle.walk.proofs.steps.close.Reads as reads
 
 slice-aggregate-read : tie.Need-slice-aggregate-read
 slice-aggregate-read c = search needs

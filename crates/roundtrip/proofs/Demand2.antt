@@ -17,7 +17,7 @@ use Rattle.grammar.specs.Rows.{Draft}
 use Rattle.grammar.specs.Stages.{cell, ownNumbers, finished}
 use Rattle.grammar.specs.Answer.{LIMIT, derived, checked, accepts, drafts, readAnswer, rowsOf}
 use Rattle.grammar.specs.Text.{wordsOf, textOf, rowFirstAt, resolvedText}
-use Rattle.grammar.specs.Resolution.{textOfSource, room, resolvedInto, resolution}
+use Rattle.grammar.specs.Resolution.{textOfSource, room, resolvedInto, resolution, resolvedOutput}
 use Rattle.grammar.specs.Demand3.{Sound, Passes, to-4, to-5, to-6, to-7, to-8, to-9, to-10, to-11, to-12}
 use Rattle.grammar.proofs.Checks.{checked-derived}
 use Rattle.grammar.proofs.Answers.{sound-passes, passes-sound, past-12}
@@ -168,3 +168,8 @@ module _ (s : List ℕ) (n m : ℕ) (h : resolution s n m .number ≡ 0) where
   -- and resolving it ends with the same answer, table lent and output lent being as large
   pub resolves-again : resolution (textOfSource s) n m ≡ resolution s n m
   resolves-again = same-resolution s n m (resolved s n m h)
+
+  -- and the same output
+  pub same-output : resolvedOutput (textOfSource s) n m ≡ resolvedOutput s n m
+  unfolding resolvedOutput
+  same-output = rw (resolves-again, reads-again .same-text)

@@ -1,0 +1,143 @@
+//! The sources that are timed. A builder fills a source up to a size.
+
+/// Document 01's worked example.
+pub const EXAMPLE: &str = "\
+formset guid={0x1,0x2,0x3,{0x4,0x5,0x6,0x7,0x8,0x9,0xA,0xB}},title=STRING_TOKEN(2),help=STRING_TOKEN(3),
+form formid=0x10,title=STRING_TOKEN(4);
+checkbox name=Fan,prompt=STRING_TOKEN(5),help=STRING_TOKEN(6),default=TRUE,endcheckbox;
+suppressif NOT questionref(Fan)OR 1+2*3==7;
+numeric questionid=1,prompt=STRING_TOKEN(7),help=STRING_TOKEN(8),flags=READ_ONLY,minimum=0,maximum=9,endnumeric;
+endif;
+endform;
+endformset;
+";
+
+const START: &str = "formset guid = { 0x1, 0x2, 0x3, { 0x4, 0x5, 0x6, 0x7, 0x8, 0x9, 0xA, 0xB } },
+  title = STRING_TOKEN(2), help = STRING_TOKEN(3),\n";
+const FORM: &str = "form formid = 1, title = STRING_TOKEN(4);\n";
+const END: &str = "endform;\nendformset;\n";
+
+/// A builder and what it builds.
+pub struct Kind {
+    pub name: &'static str,
+    pub build: fn(usize) -> String,
+}
+
+pub const KINDS: [Kind; 8] = [
+    Kind { name: "realistic", build: realistic },
+    Kind { name: "operator chain", build: chain },
+    Kind { name: "rules of one number", build: rules },
+    Kind { name: "references to the last name", build: references },
+    Kind { name: "options of one oneof", build: options },
+    Kind { name: "deep groups in deep conditions", build: groups },
+    Kind { name: "blanks and comments", build: blanks },
+    Kind { name: "a fault in the first token", build: early_fault },
+];
+
+/// A frame round as many parts as there is room for.
+fn filled(size: usize, start: &str, end: &str, part: impl Fn(usize) -> String) -> String {
+    let mut text = start.to_string();
+    for at in 0.. {
+        let next = part(at);
+        if text.len() + next.len() + end.len() > size {
+            break;
+        }
+        text += &next;
+    }
+    text + end
+}
+
+fn in_form(size: usize, part: impl Fn(usize) -> String) -> String {
+    filled(size, &format!("{START}{FORM}"), END, part)
+}
+
+/// Forms as set-up menus have them: every kind of statement, names, comments and indented lines.
+fn realistic(size: usize) -> String {
+    filled(size, START, "endformset;\n", realistic_form)
+}
+
+fn realistic_form(at: usize) -> String {
+    let (form, string, previous) = (at + 1, 20 * at + 10, at.max(1));
+    format!(
+        "// Form {form}: fan and boot settings of one board.
+form formid = {form:#x}, title = STRING_TOKEN({string});
+  subtitle text = STRING_TOKEN({string});
+  text help = STRING_TOKEN({string}), text = STRING_TOKEN({string});
+  label {string};
+  checkbox name = FanEnabled{at}, prompt = STRING_TOKEN({string}), help = STRING_TOKEN({string}),
+    flags = INTERACTIVE | RESET_REQUIRED, default = TRUE,
+  endcheckbox;
+  rule FanRule{at}, questionref(FanEnabled{at}) == 1 AND NOT questionref(FanSpeed{at}) < 0x20 endrule;
+  suppressif NOT questionref(FanEnabled{at}) OR ruleref(FanRule{at});
+    numeric name = FanSpeed{at}, questionid = {question:#x}, prompt = STRING_TOKEN({string}),
+      help = STRING_TOKEN({string}), flags = READ_ONLY, minimum = 0, maximum = 0xFF, step = 5, default = 60,
+    endnumeric;
+    grayoutif (questionref(FanSpeed{at}) + 2) * 3 >= 0x40;
+      oneof name = BootOrder{at}, prompt = STRING_TOKEN({string}), help = STRING_TOKEN({string}),
+        option text = STRING_TOKEN({string}), value = 0, flags = DEFAULT;
+        option text = STRING_TOKEN({string}), value = 1, flags = 0;
+        option text = STRING_TOKEN({string}), value = 2, flags = 0;
+        option text = STRING_TOKEN({string}), value = 0x10, flags = 0;
+      endoneof;
+    endif;
+  endif;
+  goto {previous}, prompt = STRING_TOKEN({string}), help = STRING_TOKEN({string}), flags = INTERACTIVE;
+endform;\n",
+        question = 0x1000 + at,
+    )
+}
+
+fn chain(size: usize) -> String {
+    let end = format!("1 endrule;\n{END}");
+    filled(size, &format!("{START}{FORM}rule A,"), &end, |_| "1+".to_string())
+}
+
+fn rules(size: usize) -> String {
+    in_form(size, |at| format!("rule {},1 endrule;", short_name(at)))
+}
+
+/// Names as short as can be; none is a reserved word.
+fn short_name(mut at: usize) -> String {
+    const BYTES: &[u8] = b"ABCDEFGHIJKLMNPQRSTUVWXYZabcdefghijklmnopqrstuvwxyz_0123456789";
+    const FIRST: usize = 52;
+    let mut name = char::from(BYTES[at % FIRST]).to_string();
+    at /= FIRST;
+    while at > 0 {
+        name.push(char::from(BYTES[(at - 1) % BYTES.len()]));
+        at = (at - 1) / BYTES.len();
+    }
+    name
+}
+
+/// Half the bytes declare names, half refer to the last of them.
+fn references(size: usize) -> String {
+    let count = size / 2 / question(1000).len();
+    let questions: String = (1000..1000 + count).map(question).collect();
+    let reference = format!("questionref(Q{})+", 999 + count);
+    let start = format!("{START}{FORM}{questions}rule A,");
+    filled(size, &start, &format!("1 endrule;\n{END}"), |_| reference.clone())
+}
+
+fn question(at: usize) -> String {
+    format!("goto 1,name=Q{at},prompt=STRING_TOKEN(1),help=STRING_TOKEN(1);")
+}
+
+fn options(size: usize) -> String {
+    let start = format!("{START}{FORM}oneof prompt=STRING_TOKEN(1),help=STRING_TOKEN(1),");
+    let option = |at| format!("option text=STRING_TOKEN(1),value={at},flags=0;");
+    filled(size, &start, &format!("endoneof;\n{END}"), option)
+}
+
+fn groups(size: usize) -> String {
+    let condition = format!("suppressif {}1{};", "(".repeat(32), ")".repeat(32));
+    let block = format!("{}{}", condition.repeat(16), "endif;".repeat(16));
+    in_form(size, |_| block.clone())
+}
+
+fn blanks(size: usize) -> String {
+    in_form(size, |at| if at.is_multiple_of(2) { " ".repeat(40) } else { format!("// {}\n", "a comment ".repeat(4)) })
+}
+
+fn early_fault(size: usize) -> String {
+    format!("endform {}", realistic(size - 8))
+}

@@ -1,0 +1,133 @@
+//! `cases FOLDER`: the reference against given answers (resolved text, rows, quick check), and the library too
+//! where it has the function. The folder has `NNNN.vfr` with `NNNN.expected`, and `rows.jsonl`.
+
+#![forbid(unsafe_code)]
+
+#[cfg(feature = "resolve")]
+use compare::check::resolve_difference;
+use compare::check::{difference, quick_difference};
+use compare::json::{base64, Json};
+use reference::{Reading, Refusal};
+use std::path::Path;
+use std::process::ExitCode;
+use std::{env, fs};
+
+/// The lent rows and bytes of the program `resolve`.
+const PROGRAM_ROWS: usize = 512;
+const PROGRAM_BYTES: usize = 65_536;
+
+#[derive(Default)]
+struct Tally {
+    passed: usize,
+    failed: usize,
+}
+
+impl Tally {
+    fn note(&mut self, what: &str, fault: Option<String>) {
+        match fault {
+            None => self.passed += 1,
+            Some(fault) => {
+                self.failed += 1;
+                println!("{what}: {fault}");
+            }
+        }
+    }
+}
+
+/// What the program `resolve` prints.
+fn printed(source: &[u8]) -> String {
+    match reference::resolve(source, PROGRAM_ROWS, PROGRAM_BYTES) {
+        Ok((_, text)) => text,
+        Err(Refusal { number, place, .. }) => format!("refused {number} at {place}\n"),
+    }
+}
+
+fn text_case(source: &[u8], expected: &[u8]) -> Option<String> {
+    let given = printed(source);
+    (given.as_bytes() != expected)
+        .then(|| format!("printed {given:?}\nexpected {:?}", String::from_utf8_lossy(expected)))
+}
+
+fn text_cases(folder: &Path, tally: &mut Tally) -> std::io::Result<()> {
+    let mut paths: Vec<_> = fs::read_dir(folder)?.filter_map(|entry| Some(entry.ok()?.path())).collect();
+    paths.sort();
+    for path in paths.iter().filter(|path| path.extension().is_some_and(|end| end == "vfr")) {
+        let source = fs::read(path)?;
+        let expected = fs::read(path.with_extension("expected"))?;
+        let name = path.display().to_string();
+        tally.note(&name, text_case(&source, &expected));
+        tally.note(&name, difference(&source, 12 * PROGRAM_ROWS));
+        #[cfg(feature = "resolve")]
+        tally.note(&name, resolve_difference(&source, 12 * PROGRAM_ROWS, PROGRAM_BYTES));
+        tally.note(&name, quick_difference(&source));
+    }
+    Ok(())
+}
+
+fn differ<T: PartialEq + std::fmt::Debug>(what: &str, given: T, expected: T) -> Option<String> {
+    (given != expected).then(|| format!("{what} {given:?}, expected {expected:?}"))
+}
+
+/// Number, place, row count, free count and table of a reading.
+type Told = (u64, u64, u64, u64, Vec<Vec<u64>>);
+
+fn told(reading: &Result<Reading, Refusal>) -> Told {
+    match reading {
+        Ok(Reading { rows, free }) => (0, 0, rows.len() as u64, *free, rows.iter().map(|row| row.to_vec()).collect()),
+        Err(Refusal { number, place, need }) => (*number, *place as u64, *need as u64, 0, Vec::new()),
+    }
+}
+
+fn told_in(case: &Json) -> Told {
+    let number = |name: &str| case.field(name).number();
+    let row = |row: &Json| row.list().iter().map(Json::number).collect();
+    let table = case.field("table").list().iter().map(row).collect();
+    (number("number"), number("place"), number("rows"), number("free"), table)
+}
+
+fn resolve_case(source: &[u8], rows: usize, bytes: usize, case: &Json) -> Option<String> {
+    let given = reference::resolve(source, rows, bytes);
+    let text = given.as_ref().map_or(String::new(), |(_, text)| text.clone());
+    let (number, place, rows, free, _) = told(&given.map(|(reading, _)| reading));
+    let numbers = [number, place, rows, free, text.len() as u64];
+    let expected = ["number", "place", "rows", "free", "bytes"].map(|name| case.field(name).number());
+    differ("resolve", numbers, expected).or_else(|| differ("text", text.as_str(), case.field("text").text()))
+}
+
+fn row_cases(folder: &Path, tally: &mut Tally) -> std::io::Result<()> {
+    for line in fs::read_to_string(folder.join("rows.jsonl"))?.lines() {
+        let case = Json::parse(line).expect("a JSON object on each line");
+        let name = format!("rows.jsonl {}", case.field("id").number());
+        let source = base64(case.field("source").text()).expect("base64");
+        let rows = case.field("table_rows").number() as usize;
+        let bytes = case.field("out_len").number() as usize;
+        let reading = reference::read(&source, rows);
+        tally.note(&name, differ("read", told(&reading), told_in(case.field("read"))));
+        tally.note(&name, differ("quick check", reference::quick_check(&source), case.field("quick").number()));
+        tally.note(&name, resolve_case(&source, rows, bytes, case.field("resolve")));
+        tally.note(&name, difference(&source, 12 * rows));
+        #[cfg(feature = "resolve")]
+        tally.note(&name, resolve_difference(&source, 12 * rows, bytes));
+        tally.note(&name, quick_difference(&source));
+    }
+    Ok(())
+}
+
+fn main() -> ExitCode {
+    let Some(folder) = env::args_os().nth(1) else {
+        eprintln!("cases FOLDER");
+        return ExitCode::from(2);
+    };
+    let mut tally = Tally::default();
+    let folder = Path::new(&folder);
+    if let Err(fault) = text_cases(folder, &mut tally).and_then(|()| row_cases(folder, &mut tally)) {
+        eprintln!("{}: {fault}", folder.display());
+        return ExitCode::from(2);
+    }
+    println!("cases: {} checks passed, {} failed", tally.passed, tally.failed);
+    if tally.failed == 0 {
+        ExitCode::SUCCESS
+    } else {
+        ExitCode::FAILURE
+    }
+}

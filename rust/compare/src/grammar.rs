@@ -1,0 +1,610 @@
+//! Random texts of the grammar, with faults of chosen stages or none.
+
+use crate::random::Random;
+
+pub const OPERATORS: [&str; 17] =
+    ["OR", "AND", "|", "&", "==", "!=", "<", "<=", ">", ">=", "<<", ">>", "+", "-", "*", "/", "%"];
+
+const FLAGS: [&str; 3] = ["READ_ONLY", "INTERACTIVE", "RESET_REQUIRED"];
+
+/// Names that are easily taken for something else; pairs in the last line have one key in the library's index of names.
+#[rustfmt::skip]
+pub const NAMES: [&str; 38] = [
+    "A", "B", "a", "b", "_", "__", "_0", "R1", "R2", "N", "NAME", "STR", "x", "x0", "x00", "true", "True", "TRUE_",
+    "endi", "endif_", "Endif", "NOT1", "NOTx", "ON", "ONESS", "rules", "ru", "varid", "key", "questionrefs", "forms", "or",
+    "YeHtR", "QrpY", "gzL", "uJlAv", "xSP", "QWBvx",
+];
+
+/// A stage at which a text is to be refused.
+#[derive(Clone, Copy, PartialEq, Eq)]
+enum Fault {
+    Depth = 4,
+    Range = 5,
+    Form = 7,
+    Number = 8,
+    Name = 9,
+    Rules = 10,
+    Lost = 11,
+    Choice = 12,
+}
+
+const FAULTS: [Fault; 8] =
+    [Fault::Depth, Fault::Range, Fault::Form, Fault::Number, Fault::Name, Fault::Rules, Fault::Lost, Fault::Choice];
+
+/// A text of the grammar.
+pub fn text(random: &mut Random) -> Vec<u8> {
+    let tokens = tokens(random);
+    render(&tokens, random)
+}
+
+/// The tokens of one.
+pub fn tokens(random: &mut Random) -> Vec<String> {
+    let faults = match random.below(10) {
+        0..=3 => Vec::new(),
+        4..=8 => vec![FAULTS[random.below(FAULTS.len())]],
+        _ => FAULTS.into_iter().filter(|_| random.once_in(3)).collect(),
+    };
+    let items = match random.below(60) {
+        0 => random.between(200, 600),
+        1..=9 => random.between(20, 80),
+        _ => random.below(16),
+    };
+    Writer::new(random, faults).source(items)
+}
+
+/// Writes the tokens of one source.
+struct Writer<'r> {
+    random: &'r mut Random,
+    faults: Vec<Fault>,
+    /// A fault is made once in so many chances.
+    rarity: usize,
+    tokens: Vec<String>,
+    forms: Vec<u64>,
+    numbers: Vec<u64>,
+    question_names: Vec<String>,
+    rule_names: Vec<String>,
+    /// Where the tokens of references start; what they refer to is chosen at the end.
+    references: Vec<usize>,
+    conditions: usize,
+    /// How many more atoms the expression may have.
+    atoms: usize,
+}
+
+impl<'r> Writer<'r> {
+    fn new(random: &'r mut Random, faults: Vec<Fault>) -> Self {
+        let rarity = [2, 5, 30][random.below(3)];
+        Writer {
+            random,
+            faults,
+            rarity,
+            tokens: Vec::new(),
+            forms: Vec::new(),
+            numbers: Vec::new(),
+            question_names: Vec::new(),
+            rule_names: Vec::new(),
+            references: Vec::new(),
+            conditions: 0,
+            atoms: 0,
+        }
+    }
+
+    /// Whether to make this fault here.
+    fn slips(&mut self, fault: Fault) -> bool {
+        self.faults.contains(&fault) && self.random.once_in(self.rarity)
+    }
+
+    fn push(&mut self, token: impl Into<String>) {
+        self.tokens.push(token.into());
+    }
+
+    /// Tokens that are written with blanks between.
+    fn phrase(&mut self, phrase: &str) {
+        self.tokens.extend(phrase.split(' ').map(str::to_string));
+    }
+
+    fn source(mut self, items: usize) -> Vec<String> {
+        let forms = self.random.between(1, 4);
+        self.choose_forms(forms);
+        self.phrase("formset guid =");
+        self.guid();
+        self.phrase(", title =");
+        self.string();
+        self.phrase(", help =");
+        self.string();
+        self.push(",");
+        for form in 0..forms {
+            self.form(self.forms[form], items.div_ceil(forms));
+        }
+        self.phrase("endformset ;");
+        self.choose_references();
+        self.tokens.retain(|token| !token.is_empty());
+        self.tokens
+    }
+
+    fn choose_forms(&mut self, count: usize) {
+        while self.forms.len() < count {
+            let number = self.value(1, 65_535);
+            if self.slips(Fault::Form) && !self.forms.is_empty() {
+                self.forms.push(self.forms[self.random.below(self.forms.len())]);
+            } else if !self.forms.contains(&number) {
+                self.forms.push(number);
+            }
+        }
+    }
+
+    /// A value of the range, often at its ends.
+    fn value(&mut self, low: u64, high: u64) -> u64 {
+        let any = self.random.number();
+        match self.random.below(8) {
+            0 => low,
+            1 => high,
+            2 => high - (any % 3).min(high - low),
+            3 => low + (any % (1 << 40)).min(high - low),
+            4 if high == u64::MAX => any,
+            _ => low + (any % 20).min(high - low),
+        }
+    }
+
+    /// A spelling of a value, or of one outside the range.
+    fn number(&mut self, value: u64, low: u64, high: u64) {
+        let token = if self.slips(Fault::Range) { self.outside(low, high) } else { self.spelled(u128::from(value)) };
+        self.push(token);
+    }
+
+    fn outside(&mut self, low: u64, high: u64) -> String {
+        match self.random.below(5) {
+            0 if low > 0 => self.spelled(0),
+            1 => format!("{}{}", self.random.between(1, 9), "7".repeat(self.random.between(19, 60))),
+            2 => format!("0x{}{}", self.random.between(1, 9), "f".repeat(self.random.between(16, 40))),
+            3 => self.spelled(1 << 64),
+            _ => self.spelled(u128::from(high) + 1),
+        }
+    }
+
+    fn spelled(&mut self, value: u128) -> String {
+        let zeros = if self.random.once_in(8) { "0".repeat(self.random.between(1, 30)) } else { String::new() };
+        match self.random.below(4) {
+            0 => format!("0x{zeros}{value:X}"),
+            1 => format!("0x{zeros}{value:x}"),
+            _ => format!("{zeros}{value}"),
+        }
+    }
+
+    fn guid(&mut self) {
+        let inner = self.random.once_in(2);
+        self.push("{");
+        for digits in [8, 4, 4] {
+            self.hex(digits);
+            self.push(",");
+        }
+        if inner {
+            self.push("{");
+        }
+        for byte in 0..8 {
+            if byte > 0 {
+                self.push(",");
+            }
+            self.hex(2);
+        }
+        if inner {
+            self.push("}");
+        }
+        self.push("}");
+    }
+
+    fn hex(&mut self, most: usize) {
+        let digits =
+            if self.slips(Fault::Range) { most + self.random.between(1, 20) } else { self.random.between(1, most) };
+        let text: String = (0..digits).map(|_| char::from(b"0123456789abcdefABCDEF"[self.random.below(22)])).collect();
+        self.push(format!("0x{text}"));
+    }
+
+    fn string(&mut self) {
+        self.phrase("STRING_TOKEN (");
+        let value = self.value(0, 65_535);
+        self.number(value, 0, 65_535);
+        self.push(")");
+    }
+
+    fn form(&mut self, number: u64, items: usize) {
+        self.phrase("form formid =");
+        self.number(number, 1, 65_535);
+        self.phrase(", title =");
+        self.string();
+        self.push(";");
+        let mut left = items;
+        while left > 0 {
+            if self.random.once_in(6) {
+                self.rules();
+                left -= 1;
+            } else {
+                self.item(&mut left);
+            }
+        }
+        self.phrase("endform ;");
+    }
+
+    /// A rule, or so many that they are too many.
+    fn rules(&mut self) {
+        let count = if self.slips(Fault::Rules) { self.random.between(250, 270) } else { 1 };
+        for _ in 0..count {
+            self.push("rule");
+            let name = self.fresh(true);
+            self.push(name.clone());
+            self.rule_names.push(name);
+            self.push(",");
+            self.expression(if count > 1 { 1 } else { 12 });
+            self.phrase("endrule ;");
+        }
+    }
+
+    /// A name that is new among rules or among questions, if no fault is wanted.
+    fn fresh(&mut self, rule: bool) -> String {
+        let slips = self.slips(Fault::Name);
+        let names = if rule { &self.rule_names } else { &self.question_names };
+        if slips && !names.is_empty() {
+            return names[self.random.below(names.len())].clone();
+        }
+        loop {
+            let mut name = self.random.pick(&NAMES).to_string();
+            if self.random.once_in(2) {
+                name += &self.random.below(400).to_string();
+            }
+            if self.random.once_in(50) {
+                name += &"y".repeat(self.random.between(10, 300));
+            }
+            let names = if rule { &self.rule_names } else { &self.question_names };
+            if !names.contains(&name) {
+                return name;
+            }
+        }
+    }
+
+    fn item(&mut self, left: &mut usize) {
+        *left = left.saturating_sub(1);
+        match self.random.below(16) {
+            0 => {
+                self.phrase("subtitle text =");
+                self.string();
+                self.push(";");
+            }
+            1 => {
+                self.phrase("text help =");
+                self.string();
+                self.phrase(", text =");
+                self.string();
+                self.push(";");
+            }
+            2 => {
+                self.push("label");
+                let value = self.value(0, 65_535);
+                self.number(value, 0, 65_535);
+                self.push(";");
+            }
+            3..=4 => self.goto(),
+            5..=6 => self.checkbox(),
+            7..=8 => self.numeric(),
+            9..=10 => self.oneof(),
+            _ => self.condition(left),
+        }
+    }
+
+    fn head(&mut self) {
+        if self.random.once_in(2) || self.faults.contains(&Fault::Name) {
+            self.phrase("name =");
+            let name = self.fresh(false);
+            self.push(name.clone());
+            self.question_names.push(name);
+            self.push(",");
+        }
+        if self.random.once_in(2) || self.faults.contains(&Fault::Number) {
+            self.phrase("questionid =");
+            let number = self.question_number();
+            self.number(number, 1, 65_535);
+            self.push(",");
+        }
+        self.phrase("prompt =");
+        self.string();
+        self.phrase(", help =");
+        self.string();
+    }
+
+    fn question_number(&mut self) -> u64 {
+        if self.slips(Fault::Number) && !self.numbers.is_empty() {
+            return self.numbers[self.random.below(self.numbers.len())];
+        }
+        loop {
+            let number = match self.random.below(3) {
+                0 => self.value(1, 65_535),
+                1 => self.random.between(1, 200) as u64,
+                _ => 64 * self.random.between(1, 1023) as u64 - 1 + self.random.below(3) as u64,
+            };
+            if !self.numbers.contains(&number) {
+                self.numbers.push(number);
+                return number;
+            }
+        }
+    }
+
+    fn flag_list(&mut self) {
+        let count = self.random.between(1, 4);
+        for at in 0..count {
+            if at > 0 {
+                self.push("|");
+            }
+            let word = self.random.pick(&FLAGS);
+            self.push(word);
+        }
+    }
+
+    fn flags(&mut self) {
+        if self.random.once_in(2) {
+            self.phrase("flags =");
+            self.flag_list();
+            self.push(",");
+        }
+    }
+
+    fn goto(&mut self) {
+        self.push("goto");
+        let known = self.forms[self.random.below(self.forms.len())];
+        let target = if self.slips(Fault::Lost) { self.value(1, 65_535) } else { known };
+        self.number(target, 1, 65_535);
+        self.push(",");
+        self.head();
+        if self.random.once_in(2) {
+            self.phrase(", flags =");
+            self.flag_list();
+        }
+        self.push(";");
+    }
+
+    fn checkbox(&mut self) {
+        self.push("checkbox");
+        self.head();
+        self.push(",");
+        self.flags();
+        if self.random.once_in(2) {
+            self.phrase("default =");
+            let value = self.random.pick(&["TRUE", "FALSE"]);
+            self.push(value);
+            self.push(",");
+        }
+        self.phrase("endcheckbox ;");
+    }
+
+    fn setting(&mut self, word: &str, value: u64) {
+        self.push(word);
+        self.push("=");
+        self.number(value, 0, u64::MAX);
+        self.push(",");
+    }
+
+    fn numeric(&mut self) {
+        self.push("numeric");
+        self.head();
+        self.push(",");
+        self.flags();
+        let (any, other) = (self.value(0, u64::MAX), self.value(0, u64::MAX));
+        let (mut low, mut high) = (any.min(other), any.max(other));
+        let mut default = self.value(low, high);
+        if self.slips(Fault::Choice) {
+            match self.random.below(3) {
+                0 => std::mem::swap(&mut low, &mut high),
+                1 => default = low.wrapping_sub(1),
+                _ => default = high.wrapping_add(1),
+            }
+        }
+        self.setting("minimum", low);
+        self.setting("maximum", high);
+        if self.random.once_in(2) {
+            let step = self.value(0, u64::MAX);
+            self.setting("step", step);
+        }
+        if self.random.once_in(2) {
+            self.setting("default", default);
+        }
+        self.phrase("endnumeric ;");
+    }
+
+    fn oneof(&mut self) {
+        self.push("oneof");
+        self.head();
+        self.push(",");
+        self.flags();
+        let count = if self.random.once_in(20) { self.random.between(20, 60) } else { self.random.between(1, 6) };
+        let mut values = Vec::new();
+        let mut has_default = false;
+        while values.len() < count {
+            let value = self.value(0, u64::MAX);
+            if values.contains(&value) && !self.slips(Fault::Choice) {
+                values.push(self.random.number());
+            } else {
+                values.push(value);
+            }
+            self.phrase("option text =");
+            self.string();
+            self.phrase(", value =");
+            self.number(values[values.len() - 1], 0, u64::MAX);
+            self.phrase(", flags =");
+            if self.random.once_in(4) && (!has_default || self.slips(Fault::Choice)) {
+                has_default = true;
+                self.push("DEFAULT");
+            } else {
+                self.number(0, 0, 0);
+            }
+            self.push(";");
+        }
+        self.phrase("endoneof ;");
+    }
+
+    fn condition(&mut self, left: &mut usize) {
+        let most = if self.slips(Fault::Depth) { 20 } else { 16 };
+        if self.conditions >= most {
+            return;
+        }
+        let deep = if self.random.once_in(12) { self.random.between(10, 18).min(most - self.conditions) } else { 1 };
+        for _ in 0..deep {
+            let word = self.random.pick(&["suppressif", "grayoutif", "disableif"]);
+            self.push(word);
+            self.conditions += 1;
+            self.expression(12);
+            self.push(";");
+        }
+        for _ in 0..deep {
+            let items = self.random.below(3).min(*left);
+            for _ in 0..items {
+                self.item(left);
+            }
+            self.phrase("endif ;");
+            self.conditions -= 1;
+        }
+    }
+
+    fn expression(&mut self, atoms: usize) {
+        self.atoms = if atoms > 1 && self.random.once_in(40) { 300 } else { atoms };
+        self.operation(0);
+    }
+
+    fn operation(&mut self, open: usize) {
+        self.atom(open);
+        while self.atoms > 0 && !self.random.once_in(3) {
+            let operator = self.random.pick(&OPERATORS);
+            self.push(operator);
+            self.atom(open);
+        }
+    }
+
+    fn atom(&mut self, open: usize) {
+        self.atoms = self.atoms.saturating_sub(1);
+        let most = if self.slips(Fault::Depth) { 36 } else { 32 };
+        match self.random.below(12) {
+            0..=1 if self.atoms > 0 && open < most => self.groups(open, 1),
+            2 if self.random.once_in(6) && open < most => {
+                let deep = self.random.between(20, 36).min(most - open);
+                self.groups(open, deep);
+            }
+            3..=4 => self.reference("questionref"),
+            5 => self.reference("ruleref"),
+            6..=7 => {
+                let word = self.random.pick(&["TRUE", "FALSE", "ZERO", "ONE", "ONES", "UNDEFINED"]);
+                self.push(word);
+            }
+            _ => {
+                let value = self.value(0, u64::MAX);
+                self.number(value, 0, u64::MAX);
+            }
+        }
+    }
+
+    /// Parentheses and `NOT`s, some levels of them.
+    fn groups(&mut self, open: usize, levels: usize) {
+        if levels == 0 {
+            return self.operation(open);
+        }
+        if self.random.once_in(2) {
+            self.push("NOT");
+            if levels == 1 {
+                self.atom(open + 1);
+            } else {
+                self.group(open + 1, levels - 1);
+            }
+        } else {
+            self.group(open, levels);
+        }
+    }
+
+    fn group(&mut self, open: usize, levels: usize) {
+        self.push("(");
+        self.groups(open + 1, levels - 1);
+        self.push(")");
+    }
+
+    fn reference(&mut self, word: &str) {
+        self.references.push(self.tokens.len());
+        self.push(word);
+        self.phrase("( ? )");
+    }
+
+    /// Gives each reference what it refers to; one that can find nothing becomes another atom.
+    fn choose_references(&mut self) {
+        for at in std::mem::take(&mut self.references) {
+            let rule = self.tokens[at] == "ruleref";
+            let target = if self.slips(Fault::Lost) { Some(self.lost(rule)) } else { self.found(rule) };
+            match target {
+                Some(target) => self.tokens[at + 2] = target,
+                None => {
+                    self.tokens[at] = "ONE".to_string();
+                    self.tokens[at + 1..at + 4].fill(String::new());
+                }
+            }
+        }
+    }
+
+    fn found(&mut self, rule: bool) -> Option<String> {
+        let names = if rule { &self.rule_names } else { &self.question_names };
+        let by_number = !rule && self.random.once_in(2);
+        if by_number && !self.numbers.is_empty() {
+            let number = self.numbers[self.random.below(self.numbers.len())];
+            return Some(self.spelled(u128::from(number)));
+        }
+        if names.is_empty() {
+            return None;
+        }
+        Some(names[self.random.below(names.len())].clone())
+    }
+
+    fn lost(&mut self, rule: bool) -> String {
+        if !rule && self.random.once_in(2) {
+            return self.value(1, 300).to_string();
+        }
+        let others = if rule { &self.question_names } else { &self.rule_names };
+        match others.len() {
+            0 => self.random.pick(&NAMES).to_string(),
+            count => others[self.random.below(count)].clone(),
+        }
+    }
+}
+
+fn in_word(byte: u8) -> bool {
+    byte.is_ascii_alphanumeric() || byte == b'_'
+}
+
+/// The tokens' bytes with blanks and comments between: none that is not needed, a space, or any.
+pub fn render(tokens: &[impl AsRef<str>], random: &mut Random) -> Vec<u8> {
+    let style = random.below(4);
+    let mut bytes = Vec::new();
+    for token in tokens {
+        let token = token.as_ref().as_bytes();
+        let meet =
+            bytes.last().is_some_and(|&last| in_word(last)) && token.first().is_some_and(|&first| in_word(first));
+        match style {
+            0 | 1 if meet => bytes.push(b' '),
+            2 => bytes.push(b' '),
+            3 => gap(&mut bytes, meet, random),
+            _ => {}
+        }
+        bytes.extend(token);
+    }
+    if style == 3 {
+        gap(&mut bytes, false, random);
+    }
+    bytes
+}
+
+fn gap(bytes: &mut Vec<u8>, needed: bool, random: &mut Random) {
+    if needed {
+        bytes.push(b" \t\r\n"[random.below(4)]);
+    }
+    while random.once_in(3) {
+        bytes.push(b" \t\r\n"[random.below(4)]);
+    }
+    if random.once_in(30) {
+        bytes.extend(b"//");
+        for _ in 0..random.below(12) {
+            let byte = random.number() as u8;
+            bytes.push(if byte == b'\n' { b'/' } else { byte });
+        }
+        bytes.push(b'\n');
+    }
+}

@@ -1,0 +1,110 @@
+//! Texts at document 01's limits, and large ones.
+
+use crate::grammar::{text, OPERATORS};
+use crate::random::Random;
+
+/// A text at one of document 01's limits, or a little past it.
+pub fn at_a_limit(random: &mut Random) -> Vec<u8> {
+    match random.below(13) {
+        0 => padded(random),
+        1 => longest_chain(random),
+        2 => {
+            let count = random.between(253, 258);
+            framed(&(0..count).map(|at| format!("rule A{at},1 endrule;")).collect::<String>())
+        }
+        3 => {
+            let count = random.between(1, 36);
+            framed(&format!("rule A,{}1{}endrule;", "(".repeat(count), ")".repeat(count)))
+        }
+        4 => framed(&format!("rule A,{}1 endrule;", "NOT ".repeat(random.between(30, 35)))),
+        5 => {
+            let count = random.between(14, 19);
+            framed(&format!("{}{}", "suppressif 1;".repeat(count), "endif;".repeat(count)))
+        }
+        6 => framed(&format!("label {}{};", "0".repeat(random.between(0, 5_000)), random.between(65_530, 65_540))),
+        7 => framed(&format!("rule A,{}{} endrule;", 1_844_674_407_370_955_160u64, random.between(0, 19))),
+        8 => many_questions(random),
+        9 => many_options(random),
+        10 => many_references(random),
+        11 => about_1024_rows(random),
+        _ => {
+            let name = "n".repeat(random.between(1, 3_000));
+            let other = format!("{}{}", &name[1..], random.pick(&["n", "m", "nn", ""]));
+            framed(&format!(
+                "rule {name},1 endrule;rule {other}_,1 endrule;rule z,ruleref({name})+ruleref({other}) endrule;"
+            ))
+        }
+    }
+}
+
+fn framed(items: &str) -> Vec<u8> {
+    let start = "formset guid={0x1,0x2,0x3,{0x4,0x5,0x6,0x7,0x8,0x9,0xA,0xB}},title=STRING_TOKEN(2),\
+                 help=STRING_TOKEN(3),form formid=1,title=STRING_TOKEN(4);";
+    format!("{start}{items}endform;endformset;").into_bytes()
+}
+
+/// A text that blanks or a comment, before or after it, make about as long as a source may be.
+fn padded(random: &mut Random) -> Vec<u8> {
+    let text = text(random);
+    let length = random.between(65_534, 65_538).saturating_sub(text.len()).max(3);
+    let blanks = vec![b' '; length];
+    let comment = [b"//", vec![b'/'; length - 3].as_slice(), b"\n"].concat();
+    let padding = if random.once_in(2) { blanks } else { comment };
+    if random.once_in(2) {
+        [padding, text].concat()
+    } else {
+        [text, padding].concat()
+    }
+}
+
+/// About 1,024 rows, up to which the library takes the smaller index of names; the names are declared last.
+fn about_1024_rows(random: &mut Random) -> Vec<u8> {
+    let names = random.between(1, 100);
+    let labels = 1_020 - 3 * names + random.below(8);
+    let last = if random.once_in(3) { random.below(names) } else { names };
+    let question = |at| format!("goto 1,name=q{at},prompt=STRING_TOKEN(0),help=STRING_TOKEN(0);");
+    let rule = |at| format!("rule r{at},questionref(q{}) endrule;", names - 1 - at);
+    let items = [
+        "label 0;".repeat(labels),
+        (0..names).map(question).collect(),
+        (0..names - 1).map(rule).collect(),
+        format!("rule r{last},ruleref(r0) endrule;"),
+    ];
+    framed(&items.concat())
+}
+
+fn longest_chain(random: &mut Random) -> Vec<u8> {
+    let operator = random.pick(&OPERATORS);
+    let operator = if operator.len() > 1 { format!(" {operator} ") } else { operator.to_string() };
+    let count = random.between(100, 64_000 / (operator.len() + 1));
+    framed(&format!("rule A,{}1 endrule;", format!("1{operator}").repeat(count)))
+}
+
+fn many_questions(random: &mut Random) -> Vec<u8> {
+    let count = random.between(10, 1_200);
+    let written = random.between(1, 5);
+    let question = |at: usize| {
+        let number =
+            if at.is_multiple_of(written) { format!("questionid={},", 1 + (at * 7) % 1_300) } else { String::new() };
+        format!("goto 1,{number}prompt=STRING_TOKEN(0),help=STRING_TOKEN(0);")
+    };
+    framed(&(0..count).map(question).collect::<String>())
+}
+
+fn many_options(random: &mut Random) -> Vec<u8> {
+    let count = random.between(10, 1_450);
+    let repeat = if random.once_in(2) { random.between(count / 2, count) } else { count };
+    let option =
+        |at: usize| format!("option text=STRING_TOKEN(1),value={},flags=0;", if at == repeat { 1 } else { at });
+    let options: String = (0..count).map(option).collect();
+    framed(&format!("oneof prompt=STRING_TOKEN(0),help=STRING_TOKEN(0),{options}endoneof;"))
+}
+
+fn many_references(random: &mut Random) -> Vec<u8> {
+    let names = random.between(1, 255);
+    let count = random.between(1, 2_500);
+    let rules: String = (0..names).map(|at| format!("rule r{at},1 endrule;")).collect();
+    let reference = |_| format!("ruleref(r{})+", random.below(names + usize::from(count < 100)));
+    let references: String = (0..count).map(reference).collect();
+    framed(&format!("{rules}suppressif {references}1;endif;"))
+}

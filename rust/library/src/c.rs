@@ -1,0 +1,50 @@
+//! The C functions of `include/drnkavec.h`, each behind a safe one.
+
+#[link(name = "face", kind = "static")]
+extern "C" {
+    fn vfr_quick_check(src: *const u8, src_len: usize) -> u64;
+    fn vfr_read(src: *const u8, src_len: usize, table: *mut u64, table_len: usize, answer: *mut u64, answer_len: usize);
+    #[cfg(feature = "resolve")]
+    fn vfr_resolve(
+        src: *const u8,
+        src_len: usize,
+        table: *mut u64,
+        table_len: usize,
+        out: *mut u8,
+        out_len: usize,
+        answer: *mut u64,
+        answer_len: usize,
+    );
+}
+
+/// Stages 1 to 5: the refusal's number times 2^32 plus its place, or 0.
+pub fn quick_check(source: &[u8]) -> u64 {
+    // The pointer and length are those of one slice; the function reads it and keeps nothing.
+    unsafe { vfr_quick_check(source.as_ptr(), source.len()) }
+}
+
+/// Reads a source into a table; the answer's numbers are written as far as there is room.
+pub fn read_into(source: &[u8], table: &mut [u64], answer: &mut [u64]) {
+    // Each pointer and length are those of one slice, and the borrows keep the slices apart.
+    unsafe {
+        vfr_read(source.as_ptr(), source.len(), table.as_mut_ptr(), table.len(), answer.as_mut_ptr(), answer.len())
+    }
+}
+
+/// Reads a source into a table and writes its resolved text; the answer's numbers are written as far as there is room.
+#[cfg(feature = "resolve")]
+pub fn resolve_into(source: &[u8], table: &mut [u64], out: &mut [u8], answer: &mut [u64]) {
+    // As above.
+    unsafe {
+        vfr_resolve(
+            source.as_ptr(),
+            source.len(),
+            table.as_mut_ptr(),
+            table.len(),
+            out.as_mut_ptr(),
+            out.len(),
+            answer.as_mut_ptr(),
+            answer.len(),
+        )
+    }
+}

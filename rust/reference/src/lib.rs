@@ -1,0 +1,89 @@
+//! A plain reader, resolver and quick check for VFR sources, written from document 01 ("VFR sources to rows and
+//! resolved text", with the readings of docs/DECISIONS.md) and not from the library. The library is compared with it.
+
+#![forbid(unsafe_code)]
+
+mod lexer;
+mod parser;
+mod record;
+mod row;
+mod text;
+
+pub use row::Row;
+
+/// Document 01's longest source and longest resolved text.
+pub const LONGEST: usize = 65_536;
+
+/// A refusal's number and place, and the need that 6 (rows) and 13 (bytes) tell.
+#[derive(Clone, Copy, PartialEq, Eq, Debug)]
+pub struct Refusal {
+    pub number: u64,
+    pub place: usize,
+    pub need: usize,
+}
+
+impl Refusal {
+    fn new(number: u64, place: usize) -> Self {
+        Refusal { number, place, need: 0 }
+    }
+
+    fn short(number: u64, need: usize) -> Self {
+        Refusal { number, place: 0, need }
+    }
+}
+
+/// What an accepted source holds: its rows, and how many question numbers are free.
+#[derive(Clone, PartialEq, Eq, Debug)]
+pub struct Reading {
+    pub rows: Vec<Row>,
+    pub free: u64,
+}
+
+/// The quick check's events: none is of interest.
+struct Unheard;
+
+impl parser::Events<'_> for Unheard {}
+
+fn check_length(source: &[u8]) -> Result<(), Refusal> {
+    if source.len() > LONGEST {
+        return Err(Refusal::new(1, 0));
+    }
+    Ok(())
+}
+
+/// Stages 1 to 5.
+pub fn check(source: &[u8]) -> Result<(), Refusal> {
+    check_length(source)?;
+    parser::parse(source, &mut Unheard)
+}
+
+/// Stages 1 to 5 as one number: the refusal's number times 2^32 plus its place, or 0.
+pub fn quick_check(source: &[u8]) -> u64 {
+    match check(source) {
+        Ok(()) => 0,
+        Err(refusal) => refusal.number << 32 | refusal.place as u64,
+    }
+}
+
+/// Reads a source, with this many rows lent.
+pub fn read(source: &[u8], rows_lent: usize) -> Result<Reading, Refusal> {
+    check_length(source)?;
+    let mut record = record::Record::new();
+    parser::parse(source, &mut record)?;
+    if record.rows.len() > rows_lent {
+        return Err(Refusal::short(6, record.rows.len()));
+    }
+    record.check()?;
+    let free = record.finish();
+    Ok(Reading { rows: record.rows, free })
+}
+
+/// Reads a source and gives its resolved text, with this many rows and bytes lent.
+pub fn resolve(source: &[u8], rows_lent: usize, bytes_lent: usize) -> Result<(Reading, String), Refusal> {
+    let reading = read(source, rows_lent)?;
+    let text = text::text(&reading.rows);
+    if text.len() > bytes_lent.min(LONGEST) {
+        return Err(Refusal::short(13, text.len()));
+    }
+    Ok((reading, text))
+}

@@ -1,0 +1,222 @@
+//! Rows as they come, and stages 7 to 12 over what the parser tells.
+
+use crate::parser::{At, Events, Head, Target};
+use crate::row::{column, Row};
+use crate::Refusal;
+use std::collections::{HashMap, HashSet};
+use std::hash::{BuildHasherDefault, Hasher};
+
+const RULES: u64 = 255;
+
+/// A quick hash for short names and for numbers; every input is shorter than 64 KB.
+#[derive(Default)]
+struct Hash(u64);
+
+impl Hasher for Hash {
+    fn write(&mut self, bytes: &[u8]) {
+        bytes.iter().for_each(|&byte| self.write_u64(u64::from(byte)));
+    }
+    fn write_usize(&mut self, number: usize) {
+        self.write_u64(number as u64);
+    }
+    fn write_u64(&mut self, number: u64) {
+        self.0 = (self.0.rotate_left(5) ^ number).wrapping_mul(0x517c_c1b7_2722_0a95);
+    }
+    fn finish(&self) -> u64 {
+        self.0 ^ self.0 >> 32
+    }
+}
+
+type Quick = BuildHasherDefault<Hash>;
+
+/// A set of numbers of 0 to 65,535.
+struct Numbers([u64; 1024]);
+
+impl Numbers {
+    fn has(&self, number: u64) -> bool {
+        self.0[number as usize / 64] >> (number % 64) & 1 == 1
+    }
+
+    /// Whether the number is new.
+    fn insert(&mut self, number: u64) -> bool {
+        let new = !self.has(number);
+        self.0[number as usize / 64] |= 1 << (number % 64);
+        new
+    }
+
+    fn count(&self) -> u64 {
+        self.0.iter().map(|word| u64::from(word.count_ones())).sum()
+    }
+}
+
+struct Reference<'a> {
+    target: Target<'a>,
+    row: usize,
+    place: usize,
+}
+
+/// The places of the first faults that are met while reading, a field for a stage.
+#[derive(Default)]
+struct Faults {
+    form: Option<usize>,
+    number: Option<usize>,
+    name: Option<usize>,
+    rule: Option<usize>,
+    choice: Option<usize>,
+}
+
+/// All that stages 6 to 12 need of a source.
+pub struct Record<'a> {
+    pub rows: Vec<Row>,
+    faults: Faults,
+    forms: Numbers,
+    used: Numbers,
+    questions: Vec<usize>,
+    question_names: HashMap<&'a [u8], usize, Quick>,
+    rules: u64,
+    rule_names: HashMap<&'a [u8], u64, Quick>,
+    references: Vec<Reference<'a>>,
+    /// Of the oneof that is read: its values, and whether it has a DEFAULT.
+    values: HashSet<u64, Quick>,
+    has_default: bool,
+}
+
+impl<'a> Record<'a> {
+    pub fn new() -> Self {
+        Record {
+            rows: Vec::with_capacity(64),
+            faults: Faults::default(),
+            forms: Numbers([0; 1024]),
+            used: Numbers([0; 1024]),
+            questions: Vec::new(),
+            question_names: HashMap::default(),
+            rules: 0,
+            rule_names: HashMap::default(),
+            references: Vec::new(),
+            values: HashSet::default(),
+            has_default: false,
+        }
+    }
+
+    /// Stages 7 to 12.
+    pub fn check(&self) -> Result<(), Refusal> {
+        let stages = [
+            (7, self.faults.form),
+            (8, self.faults.number),
+            (9, self.faults.name),
+            (10, self.faults.rule),
+            (11, self.lost_reference()),
+            (12, self.faults.choice),
+        ];
+        match stages.into_iter().find_map(|(number, place)| Some((number, place?))) {
+            Some((number, place)) => Err(Refusal::new(number, place)),
+            None => Ok(()),
+        }
+    }
+
+    fn lost_reference(&self) -> Option<usize> {
+        let lost = |reference: &&Reference| match reference.target {
+            Target::Form(number) => !self.forms.has(number),
+            Target::Question(number) => !self.used.has(number),
+            Target::QuestionName(name) => !self.question_names.contains_key(name),
+            Target::RuleName(name) => !self.rule_names.contains_key(name),
+        };
+        self.references.iter().find(lost).map(|reference| reference.place)
+    }
+
+    /// Gives numbers to unnumbered questions and to references by name; answers how many are free.
+    pub fn finish(&mut self) -> u64 {
+        let mut next = 1;
+        for &row in &self.questions {
+            let number = &mut self.rows[row][column::NUMBER];
+            if *number == 0 {
+                while !self.used.insert(next) {
+                    next += 1;
+                }
+                *number = next;
+            }
+        }
+        for reference in &self.references {
+            match reference.target {
+                Target::Form(_) | Target::Question(_) => {}
+                Target::QuestionName(name) => {
+                    let question = self.question_names[name];
+                    self.rows[reference.row][column::A] = self.rows[question][column::NUMBER];
+                }
+                Target::RuleName(name) => {
+                    self.rows[reference.row][column::A] = self.rule_names[name];
+                }
+            }
+        }
+        65_535 - self.used.count()
+    }
+}
+
+impl<'a> Events<'a> for Record<'a> {
+    fn row(&mut self, row: Row) -> usize {
+        self.rows.push(row);
+        self.rows.len() - 1
+    }
+
+    fn form(&mut self, number: u64, place: usize) {
+        if !self.forms.insert(number) {
+            self.faults.form.get_or_insert(place);
+        }
+    }
+
+    fn question(&mut self, row: usize, head: &Head<'a>) {
+        self.questions.push(row);
+        if let Some(number) = head.number {
+            if !self.used.insert(number.value) {
+                self.faults.number.get_or_insert(number.place);
+            }
+        }
+        if let Some(name) = head.name {
+            if self.question_names.insert(name.value, row).is_some() {
+                self.faults.name.get_or_insert(name.place);
+            }
+        }
+    }
+
+    fn rule(&mut self, row: usize, place: usize, name: &'a [u8], name_place: usize) {
+        self.rules += 1;
+        self.rows[row][column::NUMBER] = self.rules;
+        if self.rules == RULES + 1 {
+            self.faults.rule = Some(place);
+        }
+        if self.rule_names.insert(name, self.rules).is_some() {
+            self.faults.name.get_or_insert(name_place);
+        }
+    }
+
+    fn reference(&mut self, target: Target<'a>, row: usize, place: usize) {
+        self.references.push(Reference { target, row, place });
+    }
+
+    fn limits(&mut self, minimum: u64, maximum: At<u64>, default: Option<At<u64>>) {
+        if maximum.value < minimum {
+            self.faults.choice.get_or_insert(maximum.place);
+        }
+        if let Some(default) = default {
+            if !(minimum..=maximum.value).contains(&default.value) {
+                self.faults.choice.get_or_insert(default.place);
+            }
+        }
+    }
+
+    fn oneof(&mut self) {
+        self.values.clear();
+        self.has_default = false;
+    }
+
+    fn option(&mut self, value: At<u64>, default: Option<usize>) {
+        if !self.values.insert(value.value) {
+            self.faults.choice.get_or_insert(value.place);
+        }
+        if let Some(place) = default {
+            if std::mem::replace(&mut self.has_default, true) {
+                self.faults.choice.get_or_insert(place);
+            }
+        }
+    }
+}

@@ -1,0 +1,6 @@
+pub mod Outputs
+pub mod DigitLaws
+pub mod SpellingLaws
+pub mod PhraseLaws
+pub mod Patterns
+pub mod StatementLaws

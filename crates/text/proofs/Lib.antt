@@ -1,0 +1,10 @@
+pub mod OperatorLaws
+pub mod ExpressionLaws
+pub mod ItemLaws
+pub mod AnswerLaws
+pub mod Forests
+pub mod HeldRows
+pub mod Lengths
+pub mod AcceptedText
+pub mod ResolveLaws
+pub mod Demands

@@ -1,0 +1,46 @@
+-- `text::expressions::put_atom` meets its contract.
+-- Assumes nothing.
+use borrow.Author.Tests.{lt-ltb, le-ltb}
+use Rattle.text.specs.Operators.{atomWords}
+use borrow.Author.Needs.{needs}
+use Rattle.text.proofs.expressions.put_atom.Statement.{statement}
+use Rattle.text.proofs.expressions.put_atom.Tie as tie
+
+cell-requires : tie.Need-cell-requires
+cell-requires c κs = search needs
+
+class-of-requires : tie.Need-class-of-requires
+class-of-requires c κs = search needs
+
+put-word-requires : tie.Need-put-word-requires
+put-word-requires c κs = search needs
+
+same-length : tie.Need-same-length
+same-length c = search needs
+
+returns : tie.Need-returns
+unfolding atomWords
+returns c = rw (← c .before .before .before .before .before .before .cell .ensures, ← c .before .before .before .before .before .class-of .ensures, lt-ltb _ 72 (c .before .before .before .before .if1 .taken)) (c .before .before .put-word .ensures)
+
+put-operand-requires : tie.Need-put-operand-requires
+put-operand-requires c κs = search needs
+
+same-length-2 : tie.Need-same-length-2
+same-length-2 c = search needs
+
+returns-2 : tie.Need-returns-2
+unfolding atomWords
+returns-2 c = rw (← c .before .before .before .before .before .before .cell .ensures, ← c .before .before .before .before .before .class-of .ensures, le-ltb _ 72 (c .before .before .before .before .if1 .left)) (c .before .before .put-operand .ensures)
+
+pub put-atom-spec : {M : Type 1} → statement M
+put-atom-spec =
+    tie.close
+    (tie.spec
+    cell-requires
+    class-of-requires
+    put-word-requires
+    same-length
+    returns
+    put-operand-requires
+    same-length-2
+    returns-2)

@@ -1,0 +1,39 @@
+-- `text::expressions::put_atom_before` meets its contract.
+-- Assumes nothing.
+use Rattle.text.proofs.ExpressionLaws.{operand-before}
+use borrow.Author.Needs.{needs}
+use Rattle.text.proofs.expressions.put_atom_before.Statement.{statement}
+use Rattle.text.proofs.expressions.put_atom_before.Tie as tie
+
+start-of-requires : tie.Need-start-of-requires
+start-of-requires c κs = search needs
+
+slice-aggregate-put-atom : tie.Need-slice-aggregate-put-atom
+slice-aggregate-put-atom c = search needs
+
+put-atom-requires : tie.Need-put-atom-requires
+put-atom-requires c κs = search needs
+
+start-of-requires-2 : tie.Need-start-of-requires-2
+start-of-requires-2 c κs = search needs
+
+put-atom-requires-2 : tie.Need-put-atom-requires-2
+put-atom-requires-2 c κs = search needs
+
+same-length : tie.Need-same-length
+same-length c = search needs
+
+returns : tie.Need-returns
+returns c = operand-before (c .before .before .before .before .before .before .before .before .before .before .before .args .table .now) _ (c .before .before .before .before .before .before .before .before .start-of .ensures) (c .before .before .before .before .before .before .put-atom .ensures) (c .before .before .before .before .start-of2 .ensures) (c .before .before .put-atom2 .ensures)
+
+pub put-atom-before-spec : {M : Type 1} → statement M
+put-atom-before-spec =
+    tie.close
+    (tie.spec
+    start-of-requires
+    slice-aggregate-put-atom
+    put-atom-requires
+    start-of-requires-2
+    put-atom-requires-2
+    same-length
+    returns)

@@ -1,0 +1,56 @@
+-- `text::print_rows` meets its contract.
+-- Assumes nothing.
+use mathlib.Core.Path.{refl}
+use Rattle.text.proofs.AnswerLaws.{too-long, long-enough}
+use borrow.Author.Needs.{needs}
+use Rattle.text.proofs.print_rows.Statement.{statement}
+use Rattle.text.proofs.print_rows.Tie as tie
+
+put-text-requires : tie.Need-put-text-requires
+put-text-requires c κs = search needs
+
+room-requires : tie.Need-room-requires
+room-requires c κs = search needs
+
+clear-requires : tie.Need-clear-requires
+clear-requires c κs = search needs
+
+clear-requires-2 : tie.Need-clear-requires-2
+clear-requires-2 c κs = search needs
+
+same-length : tie.Need-same-length
+same-length c = search needs
+
+same-length-2 : tie.Need-same-length-2
+same-length-2 c = search needs
+
+returns : tie.Need-returns
+returns c = too-long (c .before .before .before .before .before .before .before .before .before .before .before .before .put-text .ensures) (search needs) (rw (c .before .before .before .before .before .before .before .before .before .room .ensures) at (c .before .before .before .before .before .before .before .before .if1 .taken)) (c .before .before .before .before .before .before .clear .ensures) (c .before .before .clear2 .ensures)
+
+clear-requires-3 : tie.Need-clear-requires-3
+clear-requires-3 c κs = search needs
+
+same-length-3 : tie.Need-same-length-3
+same-length-3 c = search needs
+
+same-length-4 : tie.Need-same-length-4
+same-length-4 c = search needs
+
+returns-2 : tie.Need-returns-2
+returns-2 c = long-enough (c .before .before .before .before .before .before .before .before .put-text .ensures) (search needs) (rw (c .before .before .before .before .before .room .ensures) at (c .before .before .before .before .if1 .left)) refl (c .before .before .clear3 .ensures)
+
+pub print-rows-spec : {M : Type 1} → statement M
+print-rows-spec =
+    tie.close
+    (tie.spec
+    put-text-requires
+    room-requires
+    clear-requires
+    clear-requires-2
+    same-length
+    same-length-2
+    returns
+    clear-requires-3
+    same-length-3
+    same-length-4
+    returns-2)

@@ -1,0 +1,78 @@
+-- `text::resolve` meets its contract.
+-- Assumes nothing.
+use native.Mathlib.Omega.{arith}
+use mathlib.Core.Path.{sym, ap, _∙_}
+use Rattle.read.specs.Answers as read
+use Rattle.text.proofs.ResolveLaws.{resolved, unresolved-refused, unresolved-short}
+use borrow.Author.Needs.{needs}
+use Rattle.text.proofs.resolve.Statement.{statement}
+use Rattle.text.proofs.resolve.Tie as tie
+
+read-requires : tie.Need-read-requires
+read-requires c κs = search needs
+
+enum-known-answer : tie.Need-enum-known-answer
+enum-known-answer c = search needs
+
+print-rows-requires : tie.Need-print-rows-requires
+print-rows-requires c κs = search needs
+
+enum-known-answer-2 : tie.Need-enum-known-answer-2
+enum-known-answer-2 c = search needs
+
+clear-requires : tie.Need-clear-requires
+clear-requires c κs = search needs
+
+enum-known-answer-3 : tie.Need-enum-known-answer-3
+enum-known-answer-3 c = search needs
+
+clear-requires-2 : tie.Need-clear-requires-2
+clear-requires-2 c κs = search needs
+
+same-length : tie.Need-same-length
+same-length c = search needs
+
+same-length-2 : tie.Need-same-length-2
+same-length-2 c = search needs
+
+returns : tie.Need-returns
+returns c = resolved (c .before .before .before .before .before .before .before .before .before .before .before .before .before .before .before .before .before .args .src .now) _ (ap read.told (sym (c .before .before .before .before .before .before .before .before .answer .given .1)) ∙ c .before .before .before .before .before .before .before .before .before .before .before .before .read .ensures .0) (c .before .before .before .before .before .before .before .before .before .before .before .before .read .ensures .1) (search needs) (λ i. omega (arith, c .before .before .before .before .before .before .before .before .before .before .slice-known3 .given i)) (c .before .before .before .before .print-rows .ensures)
+
+same-length-3 : tie.Need-same-length-3
+same-length-3 c = search needs
+
+same-length-4 : tie.Need-same-length-4
+same-length-4 c = search needs
+
+returns-2 : tie.Need-returns-2
+returns-2 c = unresolved-refused (c .before .before .before .before .before .before .before .before .before .before .before .before .before .before .args .src .now) _ (c .before .before .before .before .before .before .before .before .before .before .before .before .before .before .args .out .now) (ap read.told (sym (c .before .before .before .before .before .answer2 .given .1)) ∙ c .before .before .before .before .before .before .before .before .before .read .ensures .0) (c .before .before .before .before .before .before .before .before .before .read .ensures .1) (c .before .before .clear .ensures)
+
+same-length-5 : tie.Need-same-length-5
+same-length-5 c = search needs
+
+same-length-6 : tie.Need-same-length-6
+same-length-6 c = search needs
+
+returns-3 : tie.Need-returns-3
+returns-3 c = unresolved-short (c .before .before .before .before .before .before .before .before .before .before .before .before .before .before .args .src .now) _ (c .before .before .before .before .before .before .before .before .before .before .before .before .before .before .args .out .now) (ap read.told (sym (c .before .before .before .before .before .answer3 .given .1)) ∙ c .before .before .before .before .before .before .before .before .before .read .ensures .0) (c .before .before .before .before .before .before .before .before .before .read .ensures .1) (c .before .before .clear2 .ensures)
+
+pub resolve-spec : {M : Type 1} → statement M
+resolve-spec =
+    tie.close
+    (tie.spec
+    read-requires
+    enum-known-answer
+    print-rows-requires
+    enum-known-answer-2
+    clear-requires
+    enum-known-answer-3
+    clear-requires-2
+    same-length
+    same-length-2
+    returns
+    same-length-3
+    same-length-4
+    returns-2
+    same-length-5
+    same-length-6
+    returns-3)

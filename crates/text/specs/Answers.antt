@@ -1,0 +1,42 @@
+-- Document 01's number and values of each case of the answer, and what the table and the output then hold.
+-- Assumes nothing.
+use Prim.Native.Nat.{ℕ, _-_, _≤_}
+use mathlib.Core.Path.{_≡_}
+use mathlib.Core.Bool.{cond}
+use mathlib.Core.List.{List, _++_}
+use lib.Dec.{eqb}
+use lib.ListN.{length, replicate}
+use Rattle.rows.specs.Codes as code
+use Rattle.rows.specs.Table.{rowAt}
+use Rattle.grammar.specs.Answer.{accepts}
+use Rattle.grammar.specs.Resolution.{Resolution, resolvedInto}
+use Rattle.grammar.specs.Text.{opening, textOf}
+use Rattle.print.specs.Output.{MOST}
+use Rattle.print.specs.Statements.{closing}
+use Rattle.text.specs.declared.Answer.{Answer}
+use Rattle.text.specs.declared.Answer.the-variants.{Resolved, Refused, Short, Long}
+use Rattle.text.specs.Items.{Items, itemWords}
+use Rattle.text.specs.Laid.{Stops, Laid}
+
+abbrev pub told : Answer → Resolution
+told (Resolved rows free bytes) = record { number = 0; place = 0; rows = rows; free = free; bytes = bytes }
+told (Refused number place) = record { number = number; place = place; rows = 0; free = 0; bytes = 0 }
+told (Short need) = record { number = 6; place = 0; rows = need; free = 0; bytes = 0 }
+told (Long need) = record { number = 13; place = 0; rows = need; free = 0; bytes = 0 }
+
+-- the first `count` rows of the table t are a form set's, of which this is the text
+pub record HasText (t : List ℕ) (count : ℕ) (text : List ℕ) : Type 0 where
+  pub found : ℕ → List ℕ
+  pub place : ℕ
+  pub forms : Items
+  pub end : ℕ
+  pub row : rowAt t 0 ≡ found place
+  pub laid : Laid t count found 0 1 forms end
+  pub stops : Stops t count 0 end
+  pub is : text ≡ textOf (opening (found place) ++ (itemWords found forms ++ closing code.FORM-SET))
+
+-- the answer for so many finished rows in the table t: the table then is t′ and the output, which was o, is o′
+pub record RowsPrinted (t : List ℕ) (count free : ℕ) (o : List ℕ) (r : Answer) (t′ o′ : List ℕ) : Type 0 where
+  pub answer : (text : List ℕ) → HasText t count text → length text ≤ MOST → told r ≡ resolvedInto (length o) (length text) (accepts count free)
+  pub table : (text : List ℕ) → HasText t count text → length text ≤ MOST → t′ ≡ cond (eqb (told r .number) 0) t (replicate (length t) 0)
+  pub output : (text : List ℕ) → HasText t count text → length text ≤ MOST → o′ ≡ cond (eqb (told r .number) 0) (text ++ replicate (length o - length text) 0) (replicate (length o) 0)

@@ -1,0 +1,75 @@
+// The resolved text of a source (document 01, Resolved text).
+mod expressions;
+mod items;
+mod operators;
+
+use crate::items::put_text;
+ghost use mathlib.Core.Path.{_≡_};
+ghost use lib.ListN.{length};
+ghost use Rattle.rows.specs.Table.{cleared};
+ghost use Rattle.grammar.specs.Resolution.{room, resolution, resolvedTable, resolvedOutput};
+ghost use Rattle.text.specs.Answers.{told, RowsPrinted};
+
+// The longest text.
+const LONGEST: usize = 65536;
+
+// What resolving answers: rows, free numbers and bytes; a refusal's number and place; the rows needed, where fewer whole
+// ones are lent (No. 6); the bytes needed, where the output or the longest text is shorter (No. 13).
+pub enum Answer {
+    Resolved(usize, u64, usize),
+    Refused(u64, usize),
+    Short(usize),
+    Long(usize),
+}
+
+fn clear(out: &mut [u8], from: usize)
+    ensures { λ _. ⌜ now (out .exit) ≡ cleared (now (out .entry)) from ⌝ }
+{
+    for k in from..out.len() {
+        out[k] = 0;
+    }
+}
+
+// The longest text for so many bytes lent.
+fn room(lent: usize) -> usize
+    ensures { λ r. ⌜ r ≡ room lent ⌝ }
+{
+    if lent < LONGEST {
+        return lent;
+    }
+    LONGEST
+}
+
+// The answer for so many finished rows in the table.
+fn print_rows(table: &mut [u64], out: &mut [u8], rows: usize, free: u64) -> Answer
+    ensures { λ r. ⌜ RowsPrinted (now (table .entry)) rows free (now (out .entry)) r (now (table .exit)) (now (out .exit)) ⌝ }
+{
+    let bytes = put_text(out, table, rows);
+    if room(out.len()) < bytes {
+        rows::clear(table, 0);
+        clear(out, 0);
+        return Answer::Long(bytes);
+    }
+    clear(out, bytes);
+    Answer::Resolved(rows, free, bytes)
+}
+
+// Reads a source into a table and prints its text into an output.
+pub fn resolve(src: &[u8], table: &mut [u64], out: &mut [u8]) -> Answer
+    ensures { λ r. ⌜ told r ≡ resolution (now (src .entry)) (length (now (table .entry))) (length (now (out .entry))) ⌝ }
+    ensures { λ _. ⌜ now (table .exit) ≡ resolvedTable (now (src .entry)) (length (now (table .entry))) (length (now (out .entry))) ⌝ }
+    ensures { λ _. ⌜ now (out .exit) ≡ resolvedOutput (now (src .entry)) (length (now (table .entry))) (length (now (out .entry))) ⌝ }
+{
+    let answer = read::read(src, table);
+    match answer {
+        read::Answer::Accepted(rows, free) => print_rows(table, out, rows, free),
+        read::Answer::Refused(number, place) => {
+            clear(out, 0);
+            Answer::Refused(number, place)
+        }
+        read::Answer::Short(need) => {
+            clear(out, 0);
+            Answer::Short(need)
+        }
+    }
+}

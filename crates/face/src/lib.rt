@@ -1,10 +1,13 @@
-// The interface for C: the quick check and reading, on slices and numbers. A slice passes as a pointer and a length.
+// The interface for C: the quick check, reading and resolving, on slices and numbers. A slice passes as a pointer and a
+// length.
 use read::Answer;
 ghost use mathlib.Core.Path.{_≡_};
 ghost use lib.ListN.{length, set};
 ghost use Rattle.grammar.specs.Answer.{quickCheck, readAnswer, readTable};
 ghost use Rattle.read.specs.Answers.{told};
-ghost use Rattle.face.specs.Numbers.{answerIn};
+ghost use Rattle.grammar.specs.Resolution.{resolution, resolvedTable, resolvedOutput};
+ghost use Rattle.text.specs.Answers as text;
+ghost use Rattle.face.specs.Numbers.{answerIn, resolutionIn};
 
 // The number at an index, where there is one.
 fn put(out: &mut [u64], at: usize, value: u64)
@@ -51,4 +54,40 @@ pub extern "C" fn vfr_read(src: &[u8], table: &mut [u64], answer: &mut [u64])
 {
     let a = read::read(src, table);
     put_answer(answer, a);
+}
+
+// The five numbers of a resolving answer: those of reading, and the byte count.
+fn put_resolution(out: &mut [u64], answer: text::Answer)
+    ensures { λ _. ⌜ now (out .exit) ≡ resolutionIn (now (out .entry)) (text.told answer) ⌝ }
+{
+    match answer {
+        text::Answer::Resolved(rows, free, bytes) => {
+            put_four(out, 0, 0, rows as u64, free);
+            put(out, 4, bytes as u64);
+        }
+        text::Answer::Refused(number, place) => {
+            put_four(out, number, place as u64, 0, 0);
+            put(out, 4, 0);
+        }
+        text::Answer::Short(need) => {
+            put_four(out, 6, 0, need as u64, 0);
+            put(out, 4, 0);
+        }
+        text::Answer::Long(need) => {
+            put_four(out, 13, 0, need as u64, 0);
+            put(out, 4, 0);
+        }
+    }
+}
+
+// Reads a source into a table and prints its resolved text into an output; the answer's numbers are written as far as
+// there is room.
+#[no_mangle]
+pub extern "C" fn vfr_resolve(src: &[u8], table: &mut [u64], out: &mut [u8], answer: &mut [u64])
+    ensures { λ _. ⌜ now (table .exit) ≡ resolvedTable (now (src .entry)) (length (now (table .entry))) (length (now (out .entry))) ⌝ }
+    ensures { λ _. ⌜ now (out .exit) ≡ resolvedOutput (now (src .entry)) (length (now (table .entry))) (length (now (out .entry))) ⌝ }
+    ensures { λ _. ⌜ now (answer .exit) ≡ resolutionIn (now (answer .entry)) (resolution (now (src .entry)) (length (now (table .entry))) (length (now (out .entry)))) ⌝ }
+{
+    let a = text::resolve(src, table, out);
+    put_resolution(answer, a);
 }

@@ -1,5 +1,4 @@
-/* Checks the C interface of the library: a line for each check, then the total. The exit status is 0 if all agree.
- * With WITH_RESOLVE resolving is checked too. */
+/* Checks the C interface of the library: a line for each check, then the total. The exit status is 0 if all agree. */
 
 #include "../../include/drnkavec.h"
 
@@ -176,8 +175,6 @@ static void check_short_answers(void)
               all(answer, 2, VFR_READ_ANSWER + 1, OLD));
 }
 
-#ifdef WITH_RESOLVE
-
 static const char RESOLVED[] =
     "formset guid = { 0x00000001 , 0x0002 , 0x0003 , { 0x04 , 0x05 , 0x06 , 0x07 , 0x08 , 0x09 , 0x0a , 0x0b } } , "
     "title = STRING_TOKEN ( 2 ) , help = STRING_TOKEN ( 3 ) , form formid = 16 , title = STRING_TOKEN ( 4 ) ;\n"
@@ -211,8 +208,6 @@ static void check_resolve(void)
     check("and nothing past the output is written", out[need - 1] == 'x' && out[need] == 'x');
 }
 
-#endif
-
 int main(void)
 {
     check_example();
@@ -221,9 +216,7 @@ int main(void)
     check_empty_sources();
     check_source_untouched();
     check_short_answers();
-#ifdef WITH_RESOLVE
     check_resolve();
-#endif
     printf("%d checks passed, %d failed\n", passed, failed);
     return failed != 0;
 }

@@ -1,6 +1,6 @@
 -- Expressions: the steps of the atom and of a level.
 -- Assumes nothing.
-use Prim.Native.Nat.{ℕ, suc, _+_, _-_, _≤_, _<_}
+use Prim.Native.Nat.{ℕ, zero, suc, _+_, _-_, _≤_, _<_}
 use mathlib.Core.Path.{_≡_, refl, sym, ap, _∙_, subst}
 use mathlib.Core.Bool.{true, false}
 use mathlib.Core.List.{List, [], _∷_, _++_}
@@ -322,14 +322,71 @@ pub room-operator :
     → Room s st → st .no ≡ 0 → n < LEVELS → levelOf (st .token .class) ≡ n → p ≡ passed s st → Room s p
 room-operator {n = n} {st = st} m z h e pe = rw pe (room-passed m z (operator-known n (st .token .class) h e))
 
--- whoever ends the operators from here ends them from their start
-pub record OperatorLoop (s : List ℕ) (left n parent : ℕ) (t₀ : List ℕ) (st₀ : State) (t₁ : List ℕ) (st : State) : Type 0 where
+-- what ends the operators of one level, and Q for what comes after
+pub record TailThen (s : List ℕ) (left parent n : ℕ) (Q : State → List ℕ → Type 0) (st : State) (t : List ℕ) : Type 0 where
+  pub here : State
+  pub table : List ℕ
+  pub first : Groups s left (tail n) (Counted (Tailing s parent)) st here t table
+  pub rest : Q here table
+
+-- from st to r′ the tails of k levels, of which `least` is the loosest, one after another, the tightest first
+unfoldable pub Tails : List ℕ → ℕ → ℕ → ℕ → ℕ → State → List ℕ → State → List ℕ → Type 0
+Tails s left parent least zero r′ t′ st t = (st ≡ r′) × (t ≡ t′)
+Tails s left parent least (suc k) r′ t′ st t = TailThen s left parent (least + k) (Tails s left parent least k r′ t′) st t
+
+module _ {s : List ℕ} {left parent : ℕ} (least : ℕ) where
+  -- an operand of a tight level, and the tails of all levels from there to a looser one
+  pub tails-whole :
+      (k : ℕ) {st c r′ : State} {t₀ t₁ t₂ : List ℕ}
+      → least + k ≤ LEVELS → Spells s left (level (least + k)) parent st c t₀ t₁ → Tails s left parent least k r′ t₂ c t₁
+      → Spells s left (level least) parent st r′ t₀ t₂
+  unfolding Tails
+  tails-whole zero {st} {r′ = r′} {t₀ = t₀} {t₂ = t₂} h w (p, q) =
+      let e : least + 0 ≡ least = omega arith in
+      subst (λ (n : ℕ). Spells s left (level n) parent st r′ t₀ t₂) e (rw (p, q) at w)
+  tails-whole (suc k) {st} {c} {t₀ = t₀} {t₁ = t₁} h w v =
+      let e : least + suc k ≡ least + k + 1 = omega arith in
+      let operand : Spells s left (level (least + k + 1)) parent st c t₀ t₁ = subst (λ (n : ℕ). Spells s left (level n) parent st c t₀ t₁) e w in
+      tails-whole k (omega arith) (level-whole (omega arith) operand (v .first)) (v .rest)
+
+  -- an atom, and the tails of all levels from the tightest to `least`
+  pub level-climbs :
+      {st c r′ : State} {t₀ t₁ t₂ : List ℕ}
+      → least ≤ LEVELS → Spells s left <atom> parent st c t₀ t₁ → Tails s left parent least (LEVELS - least) r′ t₂ c t₁
+      → Spells s left (level least) parent st r′ t₀ t₂
+  level-climbs h w v = tails-whole (LEVELS - least) (omega arith) (level-atom (omega arith) (omega arith) w) v
+
+  -- each tail ends where it starts
+  pub tails-none :
+      (k : ℕ) {st : State} {t : List ℕ}
+      → ((n : ℕ) → least ≤ n → n < least + k → Groups s left (tail n) (Counted (Tailing s parent)) st st t t) → Tails s left parent least k st t st t
+  unfolding Tails
+  tails-none zero f = (refl, refl)
+  tails-none (suc k) {st} {t} f = record { here = st; table = t; first = f (least + k) (omega arith) (omega arith); rest = tails-none k (λ n a b. f n a (omega arith)) }
+
+  -- an operator, its right operand, its row, and the tails from its level on
+  pub tails-more :
+      (j k : ℕ) (r′ : State) (t₃ : List ℕ) {st p x y : State} {t₀ t₁ t₂ : List ℕ}
+      → j < k → least + k ≤ LEVELS → left ≤ maxGroups → st .no ≡ 0 → levelOf (st .token .class) ≡ least + j → p ≡ passed s st
+      → Spells s left (level (least + j + 1)) parent p x t₀ t₁ → WithRow parent (st .token) x y t₁ t₂
+      → Tails s left parent least (suc j) r′ t₃ y t₂ → Tails s left parent least k r′ t₃ st t₀
+  unfolding Tails
+  tails-more j zero r′ t₃ a h g z e pe w v u = absurd (omega arith)
+  tails-more j (suc k) r′ t₃ {st} {t₀ = t₀} a h g z e pe w v u = by (λ b. tails-more j k r′ t₃ b (omega arith) g z e pe w v u) (ℕ-discrete j k)
+    where
+      by : (j < k → Tails s left parent least k r′ t₃ st t₀) → Dec (j ≡ k) → Tails s left parent least (suc k) r′ t₃ st t₀
+      by f (yes q) = rw (← q) (record { here = u .here; table = u .table; first = tail-more (omega arith) g z e pe w v (u .first); rest = u .rest })
+      by f (no q) = record { here = st; table = t₀; first = tail-end (omega arith) (λ f. absurd (q (omega arith))); rest = f (omega arith) }
+
+-- whoever ends the operators from here ends them from their start; those of level `bound` and tighter ones are ended
+pub record OperatorLoop (s : List ℕ) (left least parent : ℕ) (t₀ : List ℕ) (st₀ : State) (t₁ : List ℕ) (st : State) (bound : ℕ) : Type 0 where
   pub len : length t₁ ≡ length t₀
   pub room : Room s st
   pub fewer : ahead s st ≤ ahead s st₀
+  pub high : bound ≤ LEVELS
   pub rest :
       (r′ : State) (t₂ : List ℕ)
-      → Groups s left (tail n) (Counted (Tailing s parent)) st r′ t₁ t₂ → Groups s left (tail n) (Counted (Tailing s parent)) st₀ r′ t₀ t₂
+      → Tails s left parent least (bound - least) r′ t₂ st t₁ → Tails s left parent least (LEVELS - least) r′ t₂ st₀ t₀
 
 module _ {s : List ℕ} {left n parent : ℕ} {st p x y : State} {t₁ t₂ t₃ : List ℕ} (h : n < LEVELS) (g : left ≤ maxGroups) (z : st .no ≡ 0) (e : levelOf (st .token .class) ≡ n) (pe : p ≡ passed s st) (w : Spells s left (level (n + 1)) parent p x t₁ t₂) (v : WithRow parent (st .token) x y t₂ t₃) where
   turn : Walked s (depth 0 (maxGroups - left)) (t (st .token .class) ∷ r (level (n + 1)) ∷ []) (Finished s parent (st .token .class) (st .token .start)) st y t₁ t₃
@@ -339,6 +396,22 @@ module _ {s : List ℕ} {left n parent : ℕ} {st p x y : State} {t₁ t₂ t₃
   turn-less = ahead-less refl z turn
 
   pub turn-again :
-      {t₀ : List ℕ} {st₀ : State}
-      → OperatorLoop s left n parent t₀ st₀ t₁ st → length t₃ ≡ length t₁ → OperatorLoop s left n parent t₀ st₀ t₃ y
-  turn-again i l = record { len = l ∙ i .len; fewer = let a = i .fewer in let b = turn-less in omega arith; room = room-by (λ f ds k m. (m .few, rw (m .no-rules) (omega arith))) (i .room) turn; rest = λ r′ t₄ u. i .rest r′ t₄ (tail-more h g z e pe w v u) }
+      {t₀ : List ℕ} {st₀ : State} {least bound : ℕ}
+      → OperatorLoop s left least parent t₀ st₀ t₁ st bound → least ≤ n → n < bound → length t₃ ≡ length t₁
+      → OperatorLoop s left least parent t₀ st₀ t₃ y (n + 1)
+  turn-again {least = least} {bound = bound} i a b l =
+      let j = n - least in
+      let k = bound - least in
+      let m : n ≡ least + j = omega arith in
+      let f = i .fewer in
+      let less = turn-less in
+      let high = i .high in
+      record {
+        len = l ∙ i .len;
+        fewer = omega arith;
+        room = room-by (λ f ds k m. (m .few, rw (m .no-rules) (omega arith))) (i .room) turn;
+        high = omega arith;
+        rest = λ r′ t₄ u.
+            let q : n + 1 - least ≡ suc j = omega arith in
+            i .rest r′ t₄ (tails-more least j k r′ t₄ (omega arith) (omega arith) g z (e ∙ m) pe (rw m at w) v (rw q at u));
+      }

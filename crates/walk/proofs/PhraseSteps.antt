@@ -113,10 +113,10 @@ module _ (s : List ℕ) {α : List Symbol} (parent : ℕ) (st : State) {l : List
       rw (h .class, h .place, kept-entries (entries (x .trees)) (x .kept) (x .few))
 
   pub row-on :
-      {cells t t′ : List ℕ}
-      → c .no ≡ 0 → cells ≡ encoded row → t′ ≡ withRow t (st .rows) cells → Reads s α (Counted (Rowed s parent)) st (rowed st c) t t′
+      {t t′ : List ℕ}
+      → c .no ≡ 0 → t′ ≡ withRow t (st .rows) (encoded row) → Reads s α (Counted (Rowed s parent)) st (rowed st c) t t′
   unfolding put
-  row-on {t = t} z f e =
+  row-on {t = t} z e =
       record {
         walked = λ d o.
             record {
@@ -133,7 +133,7 @@ module _ (s : List ℕ) {α : List Symbol} (parent : ℕ) (st : State) {l : List
                     fits = x .fits;
                     reads = x .reads;
                     means = record { means = record { row = ap (λ (y : Draft). y ∷ []) (row-is x); no-rules = refl }; few = h .some; fewer = omega arith };
-                    table = e ∙ ap (withRow t (st .rows)) f;
+                    table = e;
                     rows = refl;
                     counted = sym (add-zero (st .rules));
                     bad = x .bad-is;

@@ -71,25 +71,29 @@ fn atom(src: &[u8], table: &mut [u64], s: State, parent: usize, left: usize) -> 
     leaf(src, table, s, parent)
 }
 
-// Operands of the next tighter level, with the operators of this level between them, grouping to the left.
+// An atom, and the operators of the level or tighter ones with their right operands, grouping to the left: after an
+// operator only those of its own level or looser ones are left for this reader.
 fn level(src: &[u8], table: &mut [u64], s: State, parent: usize, left: usize, at: u8) -> State
     requires { ⌜ Room (now src) s × (left ≤ maxGroups) × (at ≤ LEVELS) ⌝ }
     ensures { λ s′. ⌜ Spells (now (src .entry)) left (level at) parent s s′ (now (table .entry)) (now (table .exit)) ⌝ }
 {
-    if LEVELS <= at {
-        return atom(src, table, s, parent, left);
-    }
-    let mut s = level(src, table, s, parent, left, at + 1);
+    let mut s = atom(src, table, s, parent, left);
+    let mut bound = LEVELS;
     loop {
         let token = s.token;
+        let own = level_of(token.class);
         if s.no != 0 {
             return s;
         }
-        if level_of(token.class) != at {
+        if own < at {
             return s;
         }
-        let right = level(src, table, past(src, s), parent, left, at + 1);
+        if bound <= own {
+            return s;
+        }
+        let right = level(src, table, past(src, s), parent, left, own + 1);
         s = with_row(table, right, parent, token);
+        bound = own + 1;
     }
 }
 

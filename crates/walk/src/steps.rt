@@ -13,6 +13,10 @@ ghost use Rattle.lex.specs.Classes.{BAD};
 ghost use Rattle.ll1.specs.Machine.{allNullable};
 ghost use Rattle.grammar.specs.Grammar.{rules};
 ghost use Rattle.grammar.specs.Notation.{t};
+ghost use Rattle.grammar.specs.Source.{numberAt};
+ghost use Rattle.grammar.specs.Drafts.{encoded};
+ghost use Rattle.rows.specs.Table.{withRow};
+ghost use Rattle.fields.specs.Phrases.{kept, phraseDraft};
 ghost use Rattle.phrases.specs.Stream.{Within};
 ghost use Rattle.phrases.specs.Symbols.{symbolsOf};
 ghost use Rattle.walk.specs.Meanings.{Counted, Worded};
@@ -75,6 +79,22 @@ pub fn close(src: &[u8], s: State, phrase: u8) -> State
     )
 }
 
+// Writes the row of a phrase that starts with the token, where a whole one fits; else it is not made.
+fn put_phrase_row(
+    src: &[u8],
+    table: &mut [u64],
+    row: usize,
+    first: Token,
+    parent: usize,
+    entries: [u64; KEPT],
+)
+    ensures { λ _. ⌜ now (table .exit) ≡ withRow (now (table .entry)) row (encoded (phraseDraft (numberAt (now (src .entry))) (first .class) parent (first .start) (kept entries))) ⌝ }
+{
+    if row < rows::whole_rows(table) {
+        rows::put_row(table, row, phrase_row(src, first, parent, entries));
+    }
+}
+
 // A phrase that makes a row.
 pub fn flat(src: &[u8], table: &mut [u64], s: State, parent: usize, phrase: u8) -> State
     requires { ⌜ Room (now src) s × (allNullable rules (symbolsOf phrase) ≡ false) ⌝ }
@@ -86,7 +106,7 @@ pub fn flat(src: &[u8], table: &mut [u64], s: State, parent: usize, phrase: u8) 
     if c.no != 0 {
         return at_end(s, c);
     }
-    rows::put_row(table, s.rows, phrase_row(src, first, parent, kept));
+    put_phrase_row(src, table, s.rows, first, parent, kept);
     let token = c.token;
     State {
         no: 0,

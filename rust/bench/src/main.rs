@@ -136,19 +136,19 @@ fn growth() {
 }
 
 /// Resolving: the output lent is the longest.
-#[cfg(feature = "resolve")]
 fn resolving() {
     println!(
         "\nResolving, nanoseconds a byte of the source; 65,536 bytes of output are lent and cleared by the call.\n"
     );
     println!("{:38} {:>6} {:>6} | {:>8} {:>9} {:>6}", "source", "bytes", "answer", "library", "reference", "ratio");
+    let longest = (KINDS[0].build)(54 * KB);
+    resolve_line("realistic, 54 KB", longest.as_bytes());
     for kind in &KINDS {
         let source = (kind.build)(20 * KB);
-        resolve_line(kind.name, source.as_bytes());
+        resolve_line(&format!("{}, 20 KB", kind.name), source.as_bytes());
     }
 }
 
-#[cfg(feature = "resolve")]
 fn resolve_line(name: &str, source: &[u8]) {
     let rows = need(source);
     let (mut table, mut out) = (vec![0; 12 * rows], vec![0; reference::LONGEST]);
@@ -164,6 +164,5 @@ fn resolve_line(name: &str, source: &[u8]) {
 fn main() {
     table();
     growth();
-    #[cfg(feature = "resolve")]
     resolving();
 }

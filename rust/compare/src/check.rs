@@ -72,7 +72,6 @@ pub fn short_answer_difference(source: &[u8], table_len: usize, answer_len: usiz
 }
 
 /// The same for resolving, with an output of this length.
-#[cfg(feature = "resolve")]
 pub fn resolve_difference(source: &[u8], table_len: usize, out_len: usize) -> Option<String> {
     let resolved = reference::resolve(source, table_len / 12, out_len);
     let (answer, table) = expected(resolved.as_ref().map(|(reading, _)| reading), table_len);
@@ -88,7 +87,6 @@ pub fn resolve_difference(source: &[u8], table_len: usize, out_len: usize) -> Op
 }
 
 /// How an output with the guard past its end differs from a text and the zeros past it.
-#[cfg(feature = "resolve")]
 fn text_difference(given: &[u8], text: &[u8]) -> Option<String> {
     let (out, guard) = given.split_at(given.len() - GUARD);
     if guard != [OLD as u8; GUARD] {

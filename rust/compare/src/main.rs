@@ -3,9 +3,7 @@
 
 #![forbid(unsafe_code)]
 
-#[cfg(feature = "resolve")]
-use compare::check::resolve_difference;
-use compare::check::{difference, quick_difference, short_answer_difference};
+use compare::check::{difference, quick_difference, resolve_difference, short_answer_difference};
 use compare::edits::every_edit;
 use compare::random::Random;
 use compare::sources;
@@ -45,7 +43,6 @@ enum Check {
     Quick,
     Table(usize),
     Answer(usize, usize),
-    #[cfg(feature = "resolve")]
     Resolve(usize, usize),
 }
 
@@ -54,7 +51,6 @@ fn fault(source: &[u8], check: Check) -> Option<String> {
         Check::Quick => quick_difference(source),
         Check::Table(length) => difference(source, length),
         Check::Answer(table, answer) => short_answer_difference(source, table, answer),
-        #[cfg(feature = "resolve")]
         Check::Resolve(table, out) => resolve_difference(source, table, out),
     }
 }
@@ -65,14 +61,12 @@ fn checks(source: &[u8], random: &mut Random) -> Vec<Check> {
     if random.once_in(8) {
         checks.push(Check::Answer(lengths[0], random.below(8)));
     }
-    #[cfg(feature = "resolve")]
     checks.extend(lengths.iter().map(|&length| Check::Resolve(length, output_length(source, random))));
     checks.extend(lengths.into_iter().map(Check::Table));
     checks
 }
 
 /// The length of an output: none, a byte short, exact, more than enough, or any.
-#[cfg(feature = "resolve")]
 fn output_length(source: &[u8], random: &mut Random) -> usize {
     let need = match reference::resolve(source, usize::MAX, 0) {
         Err(refusal) if refusal.number == 13 => refusal.need,

@@ -4,7 +4,6 @@
 extern "C" {
     fn vfr_quick_check(src: *const u8, src_len: usize) -> u64;
     fn vfr_read(src: *const u8, src_len: usize, table: *mut u64, table_len: usize, answer: *mut u64, answer_len: usize);
-    #[cfg(feature = "resolve")]
     fn vfr_resolve(
         src: *const u8,
         src_len: usize,
@@ -32,7 +31,6 @@ pub fn read_into(source: &[u8], table: &mut [u64], answer: &mut [u64]) {
 }
 
 /// Reads a source into a table and writes its resolved text; the answer's numbers are written as far as there is room.
-#[cfg(feature = "resolve")]
 pub fn resolve_into(source: &[u8], table: &mut [u64], out: &mut [u8], answer: &mut [u64]) {
     // As above.
     unsafe {

@@ -2,9 +2,7 @@
 
 mod c;
 
-#[cfg(feature = "resolve")]
-pub use c::resolve_into;
-pub use c::{quick_check, read_into};
+pub use c::{quick_check, read_into, resolve_into};
 
 /// The four numbers of an answer.
 #[derive(Clone, Copy, PartialEq, Eq, Debug)]
@@ -24,7 +22,6 @@ pub fn read(source: &[u8], table: &mut [u64]) -> Answer {
 }
 
 /// Reads a source into a lent table and writes its resolved text to a lent output; also answers the text's bytes.
-#[cfg(feature = "resolve")]
 pub fn resolve(source: &[u8], table: &mut [u64], out: &mut [u8]) -> (Answer, u64) {
     let mut numbers = [u64::MAX; 5];
     resolve_into(source, table, out, &mut numbers);

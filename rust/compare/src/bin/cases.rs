@@ -1,11 +1,9 @@
-//! `cases FOLDER`: the reference against given answers (resolved text, rows, quick check), and the library too
-//! where it has the function. The folder has `NNNN.vfr` with `NNNN.expected`, and `rows.jsonl`.
+//! `cases FOLDER`: the reference against given answers (resolved text, rows, quick check), and the library
+//! against the reference. The folder has `NNNN.vfr` with `NNNN.expected`, and `rows.jsonl`.
 
 #![forbid(unsafe_code)]
 
-#[cfg(feature = "resolve")]
-use compare::check::resolve_difference;
-use compare::check::{difference, quick_difference};
+use compare::check::{difference, quick_difference, resolve_difference};
 use compare::json::{base64, Json};
 use reference::{Reading, Refusal};
 use std::path::Path;
@@ -57,7 +55,6 @@ fn text_cases(folder: &Path, tally: &mut Tally) -> std::io::Result<()> {
         let name = path.display().to_string();
         tally.note(&name, text_case(&source, &expected));
         tally.note(&name, difference(&source, 12 * PROGRAM_ROWS));
-        #[cfg(feature = "resolve")]
         tally.note(&name, resolve_difference(&source, 12 * PROGRAM_ROWS, PROGRAM_BYTES));
         tally.note(&name, quick_difference(&source));
     }
@@ -106,7 +103,6 @@ fn row_cases(folder: &Path, tally: &mut Tally) -> std::io::Result<()> {
         tally.note(&name, differ("quick check", reference::quick_check(&source), case.field("quick").number()));
         tally.note(&name, resolve_case(&source, rows, bytes, case.field("resolve")));
         tally.note(&name, difference(&source, 12 * rows));
-        #[cfg(feature = "resolve")]
         tally.note(&name, resolve_difference(&source, 12 * rows, bytes));
         tally.note(&name, quick_difference(&source));
     }

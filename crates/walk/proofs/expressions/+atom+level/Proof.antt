@@ -1,5 +1,5 @@
--- `walk::expressions::atom` and `level` meet their contracts. Both end since fewer tokens are left at each call, or a tighter level is.
--- The loop's invariant: whoever ends the operators of the level from here ends them from their start.
+-- `walk::expressions::atom` and `level` meet their contracts. Both end since fewer tokens are left at each call, but where a level starts with its atom.
+-- The loop's invariant: whoever ends the operators from here ends them from their start.
 -- Assumes nothing.
 use mathlib.Core.Path.{refl, sym, _∙_}
 use borrow.Author.Needs.{needs}
@@ -7,7 +7,7 @@ use native.Mathlib.Omega.{arith}
 use Prim.Native.Nat.{ℕ, _+_, _-_, _*_, _<_}
 use Rattle.grammar.specs.Rules.{<atom>}
 use Rattle.walk.proofs.Rooms.{room-passed, ahead, ahead-passed}
-use Rattle.walk.proofs.ExpressionSteps.{groups-off, not-deep, group-deep, atom-not, atom-group, atom-leaf, room-groups, room-operator, groups-fewer, operator-known, level-atom, level-whole, tail-end, OperatorLoop, turn-less, turn-again}
+use Rattle.walk.proofs.ExpressionSteps.{groups-off, not-deep, group-deep, atom-not, atom-group, atom-leaf, room-groups, room-operator, groups-fewer, operator-known, level-climbs, tail-end, tails-none, OperatorLoop, turn-less, turn-again}
 use borrow.Fn.Kinds.{In}
 use borrow.Fn.PlainCycle.{Measures, is, falls, and}
 use Rattle.walk.proofs.expressions.atom.Reads as atom
@@ -26,10 +26,10 @@ use Rattle.walk.proofs.expressions.+atom+level.{statement}
 use Rattle.walk.proofs.expressions.+atom+level.Tie.{close}
 
 abbrev μ-atom : Measures 2 atom-kinds.ps ℕ
-μ-atom κs a = ahead (a .0 .now) (a .1 .1 .0) * 11
+μ-atom κs a = ahead (a .0 .now) (a .1 .1 .0) * 2
 
 abbrev μ-level : Measures 2 level-kinds.ps ℕ
-μ-level κs a = ahead (a .0 .now) (a .1 .1 .0) * 11 + (9 - a .1 .1 .1 .1 .1 .0) + 1
+μ-level κs a = ahead (a .0 .now) (a .1 .1 .0) * 2 + 1
 
 abbrev atom-at : ℕ → In 2 atom-kinds.ps
 atom-at t = and 2 atom-kinds.ps (is 2 atom-kinds.ps μ-atom t) atom.Pre
@@ -47,7 +47,7 @@ abbrev atom-claims : ℕ → atom-lts.Claims
 atom-claims t = (too-deep-reads.Asked, too-deep-reads.Learnt, past-reads.Asked, past-reads.Learnt, atom-below t, atom.Post, with-row-reads.Asked, with-row-reads.Learnt, level-below t, level.Post, close-reads.Asked, close-reads.Learnt, leaf-reads.Asked, leaf-reads.Learnt)
 
 abbrev level-claims : ℕ → level-lts.Claims
-level-claims t = (atom-below t, atom.Post, level-below t, level.Post, level-of-reads.Asked, level-of-reads.Learnt, past-reads.Asked, past-reads.Learnt, with-row-reads.Asked, with-row-reads.Learnt)
+level-claims t = (atom-below t, atom.Post, level-of-reads.Asked, level-of-reads.Learnt, past-reads.Asked, past-reads.Learnt, level-below t, level.Post, with-row-reads.Asked, with-row-reads.Learnt)
 
 atom-returns : (t : ℕ) → atom-lts.Need-returns (atom-claims t) (atom-at t) atom.Post
 atom-returns t c = groups-off <atom> _ (c .if1 .taken)
@@ -151,119 +151,131 @@ atom-returns-6 t c =
     atom-leaf (pre .1 .1) (c .before .before .leaf .ensures)
 
 abbrev level-Inv-loop : level-lts.InvT-loop
-level-Inv-loop src table₀ parent left at s₀ table s = OperatorLoop src left at parent table₀ s₀ table s
+level-Inv-loop src table₀ parent left at s₀ bound₀ table s bound = OperatorLoop src left at parent table₀ s₀ table s bound
 
 abbrev level-μ-loop : level-lts.MeasureT-loop
-level-μ-loop src table₀ parent left at s₀ table s = ahead src s
+level-μ-loop src table₀ parent left at s₀ bound₀ table s bound = ahead src s
 
 level-atom-requires : (t : ℕ) → level-lts.Need-atom-requires (level-claims t) (level-at t) level.Post level-Inv-loop level-μ-loop
 level-atom-requires t c κs =
-    let pre = c .before .before .before .before .pre in
+    let pre = c .before .before .before .pre in
     (omega (arith, pre .0), (pre .1 .0, pre .1 .1))
-
-level-same-length : (t : ℕ) → level-lts.Need-same-length (level-claims t) (level-at t) level.Post level-Inv-loop level-μ-loop
-level-same-length t c = search needs
-
-level-returns : (t : ℕ) → level-lts.Need-returns (level-claims t) (level-at t) level.Post level-Inv-loop level-μ-loop
-level-returns t c =
-    let pre = c .before .before .before .before .before .before .before .pre in
-    let if1 = c .before .before .before .before .if1 in
-    level-atom (pre .1 .2) (if1 .taken) (c .before .before .atom .ensures)
-
-level-add-level : (t : ℕ) → level-lts.Need-add-level (level-claims t) (level-at t) level.Post level-Inv-loop level-μ-loop
-level-add-level t c = omega (arith, c .before .if1 .left)
-
-level-level-requires : (t : ℕ) → level-lts.Need-level-requires (level-claims t) (level-at t) level.Post level-Inv-loop level-μ-loop
-level-level-requires t c κs =
-    let pre = c .before .before .before .before .pre in
-    (omega (arith, pre .0, c .before .if1 .left), (pre .1 .0, pre .1 .1, omega (arith, c .before .if1 .left)))
 
 level-loop-holds : (t : ℕ) → level-lts.Need-loop-holds (level-claims t) (level-at t) level.Post level-Inv-loop level-μ-loop
 level-loop-holds t c =
-    let pre = c .before .before .before .before .before .before .before .pre in
-    record { len = refl; room = room-groups (pre .1 .0) (c .before .before .level .ensures); fewer = omega arith; rest = λ r t' h. h }
-
-level-same-length-2 : (t : ℕ) → level-lts.Need-same-length-2 (level-claims t) (level-at t) level.Post level-Inv-loop level-μ-loop
-level-same-length-2 t c =
-    let level = c .before .before .before .before .before .before .level in
-    c .before .before .before .loop .inv .len ∙ level .kept .1 .0
-
-level-returns-2 : (t : ℕ) → level-lts.Need-returns-2 (level-claims t) (level-at t) level.Post level-Inv-loop level-μ-loop
-level-returns-2 t c =
-    let if1 = c .before .before .before .before .before .before .before .before .if1 in
-    let level = c .before .before .before .before .before .before .level in
-    level-whole (omega (arith, if1 .left)) (level .ensures) (c .before .before .before .loop .inv .rest _ _ (groups-off _ _ (c .if2 .taken)))
+    let pre = c .before .before .before .before .before .before .pre in
+    let atom = c .before .before .atom in
+    record { len = refl; room = room-groups (pre .1 .0) (atom .ensures); fewer = omega arith; high = omega arith; rest = λ r t' h. h }
 
 level-level-of-requires : (t : ℕ) → level-lts.Need-level-of-requires (level-claims t) (level-at t) level.Post level-Inv-loop level-μ-loop
 level-level-of-requires t c κs = search needs
 
+level-same-length : (t : ℕ) → level-lts.Need-same-length (level-claims t) (level-at t) level.Post level-Inv-loop level-μ-loop
+level-same-length t c =
+    let loop = c .before .before .before .before .loop in
+    let atom = c .before .before .before .before .before .before .before .atom in
+    loop .inv .len ∙ atom .kept .1 .0
+
+level-returns : (t : ℕ) → level-lts.Need-returns (level-claims t) (level-at t) level.Post level-Inv-loop level-μ-loop
+level-returns t c =
+    let pre = c .before .before .before .before .before .before .before .before .before .before .before .pre in
+    let loop = c .before .before .before .before .loop in
+    let atom = c .before .before .before .before .before .before .before .atom in
+    let if1 = c .if1 in
+    level-climbs _ (pre .1 .2) (atom .ensures) (loop .inv .rest _ _ (tails-none _ _ (λ n a b. groups-off _ _ (if1 .taken))))
+
+level-same-length-2 : (t : ℕ) → level-lts.Need-same-length-2 (level-claims t) (level-at t) level.Post level-Inv-loop level-μ-loop
+level-same-length-2 t c =
+    let loop = c .before .before .before .before .before .loop in
+    let atom = c .before .before .before .before .before .before .before .before .atom in
+    loop .inv .len ∙ atom .kept .1 .0
+
+level-returns-2 : (t : ℕ) → level-lts.Need-returns-2 (level-claims t) (level-at t) level.Post level-Inv-loop level-μ-loop
+level-returns-2 t c =
+    let pre = c .before .before .before .before .before .before .before .before .before .before .before .before .pre in
+    let loop = c .before .before .before .before .before .loop in
+    let atom = c .before .before .before .before .before .before .before .before .atom in
+    let level-of = c .before .before .before .level-of in
+    let if2 = c .if2 in
+    level-climbs _ (pre .1 .2) (atom .ensures) (loop .inv .rest _ _ (tails-none _ _ (λ n a b. tail-end (omega (arith, loop .inv .high)) (λ q. omega (arith, level-of .ensures, if2 .taken)))))
+
 level-same-length-3 : (t : ℕ) → level-lts.Need-same-length-3 (level-claims t) (level-at t) level.Post level-Inv-loop level-μ-loop
 level-same-length-3 t c =
-    let loop = c .before .before .before .before .before .loop in
-    let level = c .before .before .before .before .before .before .before .before .level in
-    loop .inv .len ∙ level .kept .1 .0
+    let loop = c .before .before .before .before .before .before .loop in
+    let atom = c .before .before .before .before .before .before .before .before .before .atom in
+    loop .inv .len ∙ atom .kept .1 .0
 
 level-returns-3 : (t : ℕ) → level-lts.Need-returns-3 (level-claims t) (level-at t) level.Post level-Inv-loop level-μ-loop
 level-returns-3 t c =
-    let if1 = c .before .before .before .before .before .before .before .before .before .before .if1 in
-    let level = c .before .before .before .before .before .before .before .before .level in
-    let loop = c .before .before .before .before .before .loop in
-    level-whole (omega (arith, if1 .left)) (level .ensures) (loop .inv .rest _ _ (tail-end (omega (arith, if1 .left)) (λ q. c .if3 .taken (c .before .level-of .ensures ∙ q))))
+    let pre = c .before .before .before .before .before .before .before .before .before .before .before .before .before .pre in
+    let loop = c .before .before .before .before .before .before .loop in
+    let atom = c .before .before .before .before .before .before .before .before .before .atom in
+    let level-of = c .before .before .before .before .level-of in
+    let if3 = c .if3 in
+    level-climbs _ (pre .1 .2) (atom .ensures) (loop .inv .rest _ _ (tails-none _ _ (λ n a b. tail-end (omega (arith, loop .inv .high)) (λ q. omega (arith, level-of .ensures, if3 .taken)))))
 
 level-past-requires : (t : ℕ) → level-lts.Need-past-requires (level-claims t) (level-at t) level.Post level-Inv-loop level-μ-loop
 level-past-requires t c κs = search needs
 
-level-add-level-2 : (t : ℕ) → level-lts.Need-add-level-2 (level-claims t) (level-at t) level.Post level-Inv-loop level-μ-loop
-level-add-level-2 t c =
-    let if1 = c .before .before .before .before .before .before .before .before .before .before .before .before .if1 in
-    omega (arith, if1 .left)
+level-add-level : (t : ℕ) → level-lts.Need-add-level (level-claims t) (level-at t) level.Post level-Inv-loop level-μ-loop
+level-add-level t c =
+    let loop = c .before .before .before .before .before .before .before .before .loop in
+    let if3 = c .before .before .if3 in
+    omega (arith, loop .inv .high, if3 .left)
 
-level-level-requires-2 : (t : ℕ) → level-lts.Need-level-requires-2 (level-claims t) (level-at t) level.Post level-Inv-loop level-μ-loop
-level-level-requires-2 t c κs =
-    let pre = c .before .before .before .before .before .before .before .before .before .before .before .before .before .before .before .pre in
-    let level = c .before .before .before .before .before .before .before .before .before .before .level in
-    let loop = c .before .before .before .before .before .before .before .loop in
+level-level-requires : (t : ℕ) → level-lts.Need-level-requires (level-claims t) (level-at t) level.Post level-Inv-loop level-μ-loop
+level-level-requires t c κs =
     let args = c .before .before .before .before .before .before .before .before .before .before .before .before .before .before .before .args in
-    let if2 = c .before .before .before .before .if2 in
-    let if1 = c .before .before .before .before .before .before .before .before .before .before .before .before .if1 in
-    let here = sym (c .before .before .before .level-of .ensures) ∙ c .before .before .if3 .left in
-    (omega (arith, pre .0, groups-fewer (level .ensures), loop .inv .fewer, ahead-passed (args .src .now) (loop .s) (if2 .left) (operator-known _ _ (omega (arith, if1 .left)) here) (c .past .ensures)), (room-operator (loop .inv .room) (if2 .left) (omega (arith, if1 .left)) here (c .past .ensures), pre .1 .1, omega (arith, if1 .left)))
+    let pre = c .before .before .before .before .before .before .before .before .before .before .before .before .before .before .before .pre in
+    let atom = c .before .before .before .before .before .before .before .before .before .before .before .atom in
+    let loop = c .before .before .before .before .before .before .before .before .loop in
+    let level-of = c .before .before .before .before .before .before .level-of in
+    let if1 = c .before .before .before .before .if1 in
+    let if3 = c .before .before .if3 in
+    let past = c .past in
+    (omega (arith, pre .0, groups-fewer (atom .ensures), loop .inv .fewer, ahead-passed (args .src .now) (loop .s) (if1 .left) (operator-known _ _ (omega (arith, loop .inv .high, if3 .left)) (sym (level-of .ensures))) (past .ensures)), (room-operator (loop .inv .room) (if1 .left) (omega (arith, loop .inv .high, if3 .left)) (sym (level-of .ensures)) (past .ensures), pre .1 .1, omega (arith, loop .inv .high, if3 .left)))
 
 level-with-row-requires : (t : ℕ) → level-lts.Need-with-row-requires (level-claims t) (level-at t) level.Post level-Inv-loop level-μ-loop
 level-with-row-requires t c κs =
-    let level-of = c .before .before .before .before .before .before .before .level-of in
-    let if3 = c .before .before .before .before .before .before .if3 in
-    let loop = c .before .before .before .before .before .before .before .before .before .before .before .loop in
-    let if2 = c .before .before .before .before .before .before .before .before .if2 in
-    let if1 = c .before .before .before .before .before .before .before .before .before .before .before .before .before .before .before .before .if1 in
-    let past = c .before .before .before .before .past in
     let good = c .before .before .before .before .before .before .before .before .before .before .before .before .before .before .before .before .before .before .before .good in
-    let here = sym (level-of .ensures) ∙ if3 .left in
-    λ q. omega (arith, room-groups (room-operator (loop .inv .room) (if2 .left) (omega (arith, if1 .left)) here (past .ensures)) (c .before .before .before .level2 .ensures) .rows q, good)
+    let loop = c .before .before .before .before .before .before .before .before .before .before .before .before .loop in
+    let level-of = c .before .before .before .before .before .before .before .before .before .before .level-of in
+    let if1 = c .before .before .before .before .before .before .before .before .if1 in
+    let if3 = c .before .before .before .before .before .before .if3 in
+    let past = c .before .before .before .before .past in
+    let level = c .before .before .before .level in
+    λ q. omega (arith, room-groups (room-operator (loop .inv .room) (if1 .left) (omega (arith, loop .inv .high, if3 .left)) (sym (level-of .ensures)) (past .ensures)) (level .ensures) .rows q, good)
+
+level-add-bound : (t : ℕ) → level-lts.Need-add-bound (level-claims t) (level-at t) level.Post level-Inv-loop level-μ-loop
+level-add-bound t c =
+    let loop = c .before .before .before .before .before .before .before .before .before .before .before .before .before .before .before .loop in
+    let if3 = c .before .before .before .before .before .before .before .before .before .if3 in
+    omega (arith, loop .inv .high, if3 .left)
 
 level-loop-less : (t : ℕ) → level-lts.Need-loop-less (level-claims t) (level-at t) level.Post level-Inv-loop level-μ-loop
 level-loop-less t c =
-    let if1 = c .before .before .before .before .before .before .before .before .before .before .before .before .before .before .before .before .before .before .before .if1 in
     let pre = c .before .before .before .before .before .before .before .before .before .before .before .before .before .before .before .before .before .before .before .before .before .before .pre in
-    let if2 = c .before .before .before .before .before .before .before .before .before .before .before .if2 in
-    let level-of = c .before .before .before .before .before .before .before .before .before .before .level-of in
+    let loop = c .before .before .before .before .before .before .before .before .before .before .before .before .before .before .before .loop in
+    let level-of = c .before .before .before .before .before .before .before .before .before .before .before .before .before .level-of in
+    let if1 = c .before .before .before .before .before .before .before .before .before .before .before .if1 in
     let if3 = c .before .before .before .before .before .before .before .before .before .if3 in
     let past = c .before .before .before .before .before .before .before .past in
-    let level2 = c .before .before .before .before .before .before .level2 in
-    turn-less (omega (arith, if1 .left)) (pre .1 .1) (if2 .left) (sym (level-of .ensures) ∙ if3 .left) (past .ensures) (level2 .ensures) (c .before .before .with-row .ensures)
+    let level = c .before .before .before .before .before .before .level in
+    let with-row = c .before .before .with-row in
+    turn-less (omega (arith, loop .inv .high, if3 .left)) (pre .1 .1) (if1 .left) (sym (level-of .ensures)) (past .ensures) (level .ensures) (with-row .ensures)
 
 level-loop-again : (t : ℕ) → level-lts.Need-loop-again (level-claims t) (level-at t) level.Post level-Inv-loop level-μ-loop
 level-loop-again t c =
-    let if1 = c .before .before .before .before .before .before .before .before .before .before .before .before .before .before .before .before .before .before .before .if1 in
     let pre = c .before .before .before .before .before .before .before .before .before .before .before .before .before .before .before .before .before .before .before .before .before .before .pre in
-    let if2 = c .before .before .before .before .before .before .before .before .before .before .before .if2 in
-    let level-of = c .before .before .before .before .before .before .before .before .before .before .level-of in
+    let loop = c .before .before .before .before .before .before .before .before .before .before .before .before .before .before .before .loop in
+    let level-of = c .before .before .before .before .before .before .before .before .before .before .before .before .before .level-of in
+    let if1 = c .before .before .before .before .before .before .before .before .before .before .before .if1 in
+    let if2 = c .before .before .before .before .before .before .before .before .before .before .if2 in
     let if3 = c .before .before .before .before .before .before .before .before .before .if3 in
     let past = c .before .before .before .before .before .before .before .past in
-    let level2 = c .before .before .before .before .before .before .level2 in
+    let level = c .before .before .before .before .before .before .level in
     let with-row = c .before .before .with-row in
-    let loop = c .before .before .before .before .before .before .before .before .before .before .before .before .before .before .loop in
-    turn-again (omega (arith, if1 .left)) (pre .1 .1) (if2 .left) (sym (level-of .ensures) ∙ if3 .left) (past .ensures) (level2 .ensures) (with-row .ensures) (loop .inv) (with-row .kept .0 ∙ level2 .kept .1 .0)
+    turn-again (omega (arith, loop .inv .high, if3 .left)) (pre .1 .1) (if1 .left) (sym (level-of .ensures)) (past .ensures) (level .ensures) (with-row .ensures) (loop .inv) (omega (arith, if2 .left)) (omega (arith, if3 .left)) (with-row .kept .0 ∙ level .kept .1 .0)
 
 pub +atom+level-spec : {M : Type 1} → statement M
 +atom+level-spec = close μ-atom μ-level (λ t. atom-lts.spec (atom-claims t)
@@ -295,19 +307,18 @@ pub +atom+level-spec : {M : Type 1} → statement M
     level-Inv-loop
     level-μ-loop
     (level-atom-requires t)
+    (level-loop-holds t)
+    (level-level-of-requires t)
     (level-same-length t)
     (level-returns t)
-    (level-add-level t)
-    (level-level-requires t)
-    (level-loop-holds t)
     (level-same-length-2 t)
     (level-returns-2 t)
-    (level-level-of-requires t)
     (level-same-length-3 t)
     (level-returns-3 t)
     (level-past-requires t)
-    (level-add-level-2 t)
-    (level-level-requires-2 t)
+    (level-add-level t)
+    (level-level-requires t)
     (level-with-row-requires t)
+    (level-add-bound t)
     (level-loop-less t)
     (level-loop-again t)

@@ -21,18 +21,15 @@ returns c =
     let read = c .before .before .before .before .read in
     rw (c .at-end .ensures) (row-off _ _ _ (pre .1) (read .ensures (pre .0 .within)) (c .before .if1 .taken))
 
-phrase-row-requires : tie.Need-phrase-row-requires
-phrase-row-requires c κs = search needs
+put-phrase-row-requires : tie.Need-put-phrase-row-requires
+put-phrase-row-requires c κs = search needs
 
-put-row-requires : tie.Need-put-row-requires
-put-row-requires c κs = search needs
-
-add-t18 : tie.Need-add-t18
-add-t18 c =
-    let pre = c .before .before .before .before .before .before .before .before .before .before .before .before .before .before .before .pre in
-    let read = c .before .before .before .before .before .before .before .before .before .before .read in
-    let if1 = c .before .before .before .before .before .before .before .if1 in
-    let good = c .before .before .before .before .before .before .before .before .before .before .before .before .before .before .before .good in
+add-t17 : tie.Need-add-t17
+add-t17 c =
+    let pre = c .before .before .before .before .before .before .before .before .before .before .before .before .before .before .pre in
+    let read = c .before .before .before .before .before .before .before .before .before .read in
+    let if1 = c .before .before .before .before .before .before .if1 in
+    let good = c .before .before .before .before .before .before .before .before .before .before .before .before .before .before .good in
     omega (arith, pre .0 .rows (read .ensures (pre .0 .within) .got (if1 .left) .before), good)
 
 same-length : tie.Need-same-length
@@ -40,12 +37,11 @@ same-length c = search needs
 
 returns-2 : tie.Need-returns-2
 returns-2 c =
-    let pre = c .before .before .before .before .before .before .before .before .before .before .before .before .before .before .before .pre in
-    let read = c .before .before .before .before .before .before .before .before .before .before .read in
-    let if1 = c .before .before .before .before .before .before .before .if1 in
-    let phrase-row = c .before .before .before .before .before .phrase-row in
-    let put-row = c .before .before .before .before .put-row in
-    row-on _ _ _ (pre .1) (read .ensures (pre .0 .within)) (if1 .left) (phrase-row .ensures) (put-row .ensures)
+    let pre = c .before .before .before .before .before .before .before .before .before .before .before .before .before .before .pre in
+    let read = c .before .before .before .before .before .before .before .before .before .read in
+    let if1 = c .before .before .before .before .before .before .if1 in
+    let put-phrase-row = c .before .before .before .before .put-phrase-row in
+    row-on _ _ _ (pre .1) (read .ensures (pre .0 .within)) (if1 .left) (put-phrase-row .ensures)
 
 pub flat-spec : {M : Type 1} → statement M
 flat-spec =
@@ -55,8 +51,7 @@ flat-spec =
     read-requires
     at-end-requires
     returns
-    phrase-row-requires
-    put-row-requires
-    add-t18
+    put-phrase-row-requires
+    add-t17
     same-length
     returns-2)

@@ -24,10 +24,9 @@ use Rattle.grammar.specs.Stages.{cell, is, asks, writes, any, faultIf, faultsAf
 use Rattle.grammar.specs.Drafts.{encoded}
 use Rattle.stages.specs.Fits.{AllFit}
 use Rattle.stages.specs.Sound.{Sound, AllSound, no-rows, add-row, SoundRows}
-use Rattle.stages.specs.Names.{findIn, entries, declaresMark, firstRow}
+use Rattle.stages.specs.Names.{findIn, declaresMark, firstRow, Indexes}
 use Rattle.stages.proofs.CodingLaws.{sound-fits, sound-fit, are-encoded}
 use Rattle.stages.proofs.RowTests.{any-same}
-use Rattle.stages.proofs.NameFaults.{finds-first}
 use Rattle.stages.proofs.RepeatFaults.{bears}
 use Rattle.finish.specs.Finish.{ownsIn, withOwns, stripped, resolved}
 use Rattle.finish.proofs.RowLoops.{length-stripped}
@@ -159,7 +158,7 @@ module _ (t : List ℕ) {rs : List (List ℕ)} (w : AreRows rs) (h : length rs �
 abbrev withTheirs : List Draft → List Draft
 withTheirs ds = withNumbers (numbered (ownNumbers ds)) ds
 
-module _ {ds : List Draft} (v : SoundRows ds) (s : List ℕ) (found : unfound s ds ≡ []) {es : List ℕ} (index : es ≡ entries s 0 ds) {ws : List ℕ} (holds : Holds ws (ownNumbers ds))
+module _ {ds : List Draft} (v : SoundRows ds) (s : List ℕ) (found : unfound s ds ≡ []) {es : List ℕ} (index : Indexes s ds es) {ws : List ℕ} (holds : Holds ws (ownNumbers ds))
     (t : List ℕ) (room : length ds ≤ wholeRows t) (held : rowsFrom t 0 (length ds) ≡ map encoded ds) where
   fit : AllFit (withTheirs ds)
   fit = fit-with (sound-fit (v .each)) (numbered (ownNumbers ds))
@@ -184,7 +183,7 @@ module _ {ds : List Draft} (v : SoundRows ds) (s : List ℕ) (found : unfound s 
     rows-made =
         let own : List ℕ = numbered (ownNumbers ds) in
         rows-finished s es t₁ (withTheirs ds)
-        (λ m rule h. rw index (finds-first s (v .each) 0 (omega (arith, v .few)) m rule (λ e. omega arith) ∙ sym (first-with (declaresMark s m rule) (λ d x. declares-with d x s m rule) ds own 0)))
+        (λ m rule h. index .finds m rule h ∙ sym (first-with (declaresMark s m rule) (λ d x. declares-with d x s m rule) ds own 0))
         (owns-held fit t₁ 0 rows-numbered)
         (all-refer s ds (withTheirs ds) (writes-with (v .each) own (numbering (ownNumbers ds) .stands)) (v .each) own [] found)
 

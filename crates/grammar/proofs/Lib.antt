@@ -8,6 +8,7 @@ pub mod WorkedExample
 pub mod Decided
 pub mod Printed
 pub mod Alternatives
+pub mod Statements
 pub mod Totals
 pub mod SourceTokens
 pub mod NoBadLeaf

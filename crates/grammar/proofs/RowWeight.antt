@@ -2,54 +2,37 @@
 -- Assumes nothing.
 use mathlib.Core.Path.{_≡_, refl}
 use mathlib.Core.List.{List, [], _∷_, _++_}
-use mathlib.Core.Bool.{Bool, true, false, cond, not, _&&_, _||_}
+use mathlib.Core.Bool.{Bool, true, false, cond, not}
 use Prim.Native.Nat.{ℕ, zero, suc, _+_, _≤_}
 use native.Mathlib.Omega.{arith}
 use lib.Dec.{eqb, ltb}
-use borrow.Author.Tests.{eqb-true, ne-eqb, not-true}
+use borrow.Author.Tests.{eqb-true, not-true}
 use Rattle.lex.proofs.Lists.{either}
 use Rattle.ll1.specs.Trees.{Trees, Symbol, terminal, nonterminal, Fits, fits-nil, fits-leaf, fits-node}
-use Rattle.ll1.specs.ParseTable.{member}
-use Rattle.ll1.proofs.Basics.{clash, both, implied}
-use Rattle.grammar.specs.Rules.{<source>, <form>*, <form>, <item-or-rule>*, <rule>, <item>, <option>*, <item>*, <option>, <or>}
+use Rattle.ll1.proofs.Basics.{clash, both}
+use Rattle.grammar.specs.Rules.{<source>, <form>, <rule>, <item>, <option>, <or>}
 use Rattle.grammar.specs.Grammar.{rules}
 use Rattle.grammar.specs.Parts.{child}
 use Rattle.grammar.specs.Expression.{expression}
 use Rattle.grammar.proofs.Alternatives.{everywhere, at-alternative}
+use Rattle.grammar.proofs.Statements.{statements, states, apart, free, no-statements}
 use Rattle.grammar.specs.Places.{ownPlaces, treePlaces, total}
 use Rattle.grammar.proofs.Totals.{total-append, load}
 use Rattle.grammar.proofs.ExpressionWeight.{weight, weight-total, heads, first-head, expression-light}
 
 -- ---- rules with no rows in them
 
--- the rules of statements and of their lists
-abbrev statements : List ℕ
-statements = <source> ∷ <form>* ∷ <form> ∷ <item-or-rule>* ∷ <rule> ∷ <item> ∷ <option>* ∷ <item>* ∷ <option> ∷ []
-
-abbrev noStatement : List Symbol → Bool
-noStatement [] = true
-noStatement (terminal k ∷ σ) = noStatement σ
-noStatement (nonterminal A ∷ σ) = not (member A statements) && noStatement σ
-
--- a rule that is no statement's has none under it
-none-under : everywhere (λ A i a. not (not (member A statements)) || noStatement (a .symbols)) ≡ true
-unfolding rules
-none-under = refl
-
-other : (A B : ℕ) → not (member A statements) ≡ true → member B statements ≡ true → eqb A B ≡ false
-other A B h m = ne-eqb A B (λ e. clash (cc (not-true (member A statements) h)))
-
-own-none : (A i : ℕ) (c : Trees) → not (member A statements) ≡ true → ownPlaces A i c ≡ []
+own-none : (A i : ℕ) (c : Trees) → states A ≡ false → ownPlaces A i c ≡ []
 unfolding ownPlaces
-own-none A i c h = rw (other A <item> h refl, other A <option> h refl, other A <rule> h refl, other A <form> h refl, other A <source> h refl)
+own-none A i c h = rw (apart A <item> h refl, apart A <option> h refl, apart A <rule> h refl, apart A <form> h refl, apart A <source> h refl)
 
-pub none-places : {σ : List Symbol} {f : Trees} → Fits rules σ f → noStatement σ ≡ true → treePlaces f ≡ []
+pub none-places : {σ : List Symbol} {f : Trees} → Fits rules σ f → free statements σ ≡ true → treePlaces f ≡ []
 unfolding treePlaces
 none-places fits-nil h = refl
 none-places (fits-leaf r) h = none-places r h
-none-places (fits-node {A = A} {i = i} {c = c} e r₁ r₂) h =
-    let t = both (not (member A statements)) _ h in
-    rw (own-none A i c (t .0), none-places r₁ (implied (not (member A statements)) _ (at-alternative _ none-under e) (t .0)), none-places r₂ (t .1))
+none-places (fits-node {A = A} {i = i} {a = a} {c = c} e r₁ r₂) h =
+    let t = both (not (states A)) _ h in
+    rw (own-none A i c (not-true (states A) (t .0)), none-places r₁ (no-statements A i a e (rw (t .0))), none-places r₂ (t .1))
 
 -- ---- what a node's own rows take of the trees under it
 
@@ -120,8 +103,8 @@ module _ (w : ℕ → ℕ) where
   taken-light (words (suc m)) (fits-node e r₁ r₂) h = clash cc
   taken-light (words-and-expression zero) (fits-node {A = A} {i = i} {a = a} {c = c} {f = f} e r₁ r₂) h =
       let is : A ≡ <or> = eqb-true A <or> h in
-      let none : not (member A statements) ≡ true = rw is in
-      let under = none-places r₁ (implied (not (member A statements)) _ (at-alternative _ none-under e) none) in
+      let none : states A ≡ false = rw is in
+      let under = none-places r₁ (no-statements A i a e (rw none)) in
       let beside = taken-light (words zero) r₂ refl in
       rw (own-none A i c none, under) (omega (arith, expression-light w i a c (rw is at e) r₁))
   taken-light (words-and-expression (suc m)) (fits-node e r₁ r₂) h = clash cc

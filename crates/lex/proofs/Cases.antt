@@ -1,24 +1,37 @@
 -- The token definitions, case by case, by the facts that the code's branches have.
 -- Assumes nothing.
 use mathlib.Core.Path.{_≡_, refl, sym, ap, _∙_}
-use mathlib.Core.Bool.{Bool, true, false, cond}
+use mathlib.Core.Bool.{Bool, true, false, cond, _&&_}
 use mathlib.Core.List.{List, [], _∷_}
-use Prim.Native.Nat.{ℕ, _+_, _≤_, _<_}
-use native.Mathlib.Nat.{add-zero}
+use Prim.Native.Nat.{ℕ, zero, suc, _+_, _-_, _≤_, _<_}
+use native.Mathlib.Nat.{add-zero, le-of-suc-le-suc}
 use native.Mathlib.Omega.{arith}
 use lib.Dec.{ltb}
-use lib.ListN.{length, getD, drop, length-drop}
+use lib.ListN.{length, getD, take, drop, length-drop}
 use lib.Seq.{drop-drop, getD-drop}
 use borrow.Author.Tests.{eq-eqb, ne-eqb, lt-ltb, le-ltb}
 use Rattle.lex.specs.declared.Token.{Token}
-use Rattle.lex.specs.Bytes.{isWordByte}
-use Rattle.lex.specs.Classes.{SIGNS, BAD, END}
-use Rattle.lex.specs.Lexemes.{signs}
-use Rattle.lex.specs.Tokens.{gap, same, placeOf, empty, word, wordClass, wordToken, signClass, signToken, tokenFrom, tokenAfterGap, tokenAt}
-use Rattle.lex.proofs.Lists.{either-less, from-end, from-next}
+use Rattle.lex.specs.Bytes.{isDigit, isWordByte}
+use Rattle.lex.specs.Classes.{SIGNS, NAME, DECIMAL, BAD, END}
+use Rattle.lex.specs.Lexemes.{signs, reserved}
+use Rattle.lex.specs.Lookup.{LikelyEnd}
+use Rattle.lex.specs.Tokens.{run, all, gap, same, placeOf, empty, word, wordClass, wordToken, signClass, signToken, tokenFrom, tokenAfterGap, tokenAt}
+use Rattle.lex.proofs.Lists.{either-less, and-true, from-end, from-next}
 use Rattle.lex.proofs.Comments.{gap-le}
 use Rattle.lex.proofs.Missed.{byte-missed}
-use Rattle.lex.proofs.Equality.{place-at}
+use Rattle.lex.proofs.Equality.{place-at, place-le}
+use Rattle.lex.proofs.Steps.{run-all, run-is, digits-run, digit-word}
+use Rattle.lex.proofs.WordParts.{word-length, first-byte}
+
+-- every byte of these texts belongs to a word
+abbrev allWords : List (List ℕ) → Bool
+allWords [] = true
+allWords (v ∷ vs) = all isWordByte v && allWords vs
+
+word-bytes : (k : ℕ) (ws : List (List ℕ)) → allWords ws ≡ true → k < length ws → all isWordByte (getD ws k []) ≡ true
+word-bytes k [] h l = absurd (omega arith)
+word-bytes zero (v ∷ vs) h l = and-true (all isWordByte v) (allWords vs) h .0
+word-bytes (suc k) (v ∷ vs) h l = word-bytes k vs (and-true (all isWordByte v) (allWords vs) h .1) (le-of-suc-le-suc l)
 
 -- a word of the class k
 module _ (w : List ℕ) (at k : ℕ) (is-k : k ≡ wordClass w) where
@@ -30,6 +43,47 @@ module _ (w : List ℕ) (at k : ℕ) (is-k : k ≡ wordClass w) where
   unfolding wordToken
   word-good b e is-e = rw (← is-k, ne-eqb k BAD b, is-e)
 
+-- the number at a place that is all digits up to e
+module _ (s : List ℕ) (at e : ℕ) (digit : isDigit (getD s at 0) ≡ true) (is-e : e ≡ at + run isDigit (drop at s)) (ends : isWordByte (getD s e 0) ≡ false) where
+  digits-word : run isWordByte (drop at s) ≡ run isDigit (drop at s)
+  digits-word = digits-run (drop at s) (rw (getD-drop, ← is-e) ends)
+
+  decimal-class : DECIMAL ≡ wordClass (word (drop at s))
+  unfolding wordClass
+  decimal-class =
+      let first : isDigit (getD (word (drop at s)) 0 0) ≡ true = rw (first-byte s at (digit-word (getD s at 0) digit)) digit in
+      rw (first, digits-word, run-all isDigit (drop at s))
+
+  pub decimal-token : _≡_ {A = Token} (record { class = DECIMAL; start = at; end = e }) (wordToken (word (drop at s)) at)
+  decimal-token =
+      word-good (word (drop at s)) at DECIMAL decimal-class (λ bad. omega arith) e (omega (arith, word-length (drop at s), digits-word))
+
+-- the word at a place, which starts with no digit, tried up to e
+module _ (s : List ℕ) (at : ℕ) (start : isWordByte (getD s at 0) ≡ true) (no-digit : isDigit (getD s at 0) ≡ false) where
+  pub name-token : (k e : ℕ) → k ≡ SIGNS + placeOf (word (drop at s)) reserved → e ≡ at + run isWordByte (drop at s) →
+      _≡_ {A = Token} (record { class = k; start = at; end = e }) (wordToken (word (drop at s)) at)
+  unfolding wordClass reserved
+  name-token k e is-k is-e =
+      let first : isDigit (getD (word (drop at s)) 0 0) ≡ false = rw (first-byte s at start) no-digit in
+      let is-class : k ≡ wordClass (word (drop at s)) = rw first is-k in
+      word-good (word (drop at s)) at k is-class (λ bad. omega (arith, place-le (word (drop at s)) reserved)) e (omega (arith, word-length (drop at s)))
+
+  -- a reserved word before a byte of no word is the whole word
+  module _ (k e : ℕ) (likely : LikelyEnd s at e) (is-k : k ≡ SIGNS + placeOf (take (e - at) (drop at s)) reserved) (known : k < NAME) where
+    known-run : run isWordByte (drop at s) ≡ e - at
+    unfolding reserved all
+    known-run =
+        let part = take (e - at) (drop at s) in
+        let inside : placeOf part reserved < length reserved = omega arith in
+        let whole : all isWordByte part ≡ true = rw (← place-at part reserved inside) (word-bytes (placeOf part reserved) reserved refl inside) in
+        run-is isWordByte (e - at) (drop at s) (omega (arith, length-drop at s, likely .after, likely .inside)) whole (rw (getD-drop, past) (likely .ends))
+      where
+        past : at + (e - at) ≡ e
+        past = omega (arith, likely .after)
+
+    pub known-token : _≡_ {A = Token} (record { class = k; start = at; end = e }) (wordToken (word (drop at s)) at)
+    known-token = name-token k e (rw known-run is-k) (omega (arith, known-run, likely .after))
+
 -- the sign that a list starts with, by its first two bytes and by its first; 0 is no sign's second byte
 cond-same : {A : Type 0} (t : Bool) (x : A) → cond t x x ≡ x
 cond-same true x = refl
@@ -40,6 +94,30 @@ sign-class : (b : ℕ) (s : List ℕ) →
 unfolding signClass signs same
 sign-class b [] = rw (byte-missed b (0 ∷ []) signs tt, cond-same)
 sign-class b (next ∷ s) = refl
+
+-- no sign has this second byte
+pub no-second : (b next : ℕ) → (next ≡ 61 → ⊥) → (next ≡ 60 → ⊥) → (next ≡ 62 → ⊥) → placeOf (b ∷ next ∷ []) signs ≡ SIGNS
+unfolding signs same
+no-second b next e l g = byte-missed b (next ∷ []) signs (rw (ne-eqb next 61 e, ne-eqb next 60 l, ne-eqb next 62 g) tt)
+
+-- no sign of two bytes starts with one of `{`, `}`, `(`, `)`, `,`, `;`, which are the first six signs
+by-class : (k b next : ℕ) → k ≤ 5 → b ≡ getD (getD signs k []) 0 0 → placeOf (b ∷ next ∷ []) signs ≡ SIGNS
+unfolding signs same placeOf
+by-class zero b next h e = rw e
+by-class (suc zero) b next h e = rw e
+by-class (suc (suc zero)) b next h e = rw e
+by-class (suc (suc (suc zero))) b next h e = rw e
+by-class (suc (suc (suc (suc zero)))) b next h e = rw e
+by-class (suc (suc (suc (suc (suc zero))))) b next h e = rw e
+by-class (suc (suc (suc (suc (suc (suc k)))))) b next h e = absurd (omega arith)
+
+pub no-first : (b next one : ℕ) → one ≡ placeOf (b ∷ []) signs → one ≤ 5 → placeOf (b ∷ next ∷ []) signs ≡ SIGNS
+unfolding signs
+no-first b next one is-one h =
+    by-class one b next h (rw is-one (sym (ap (λ (v : List ℕ). getD v 0 0) (place-at (b ∷ []) signs (some one is-one h)))))
+  where
+    some : (k : ℕ) → k ≡ placeOf (b ∷ []) signs → k ≤ 5 → placeOf (b ∷ []) signs < length signs
+    some k is-k h = omega arith
 
 sign-size : (w : List ℕ) (k : ℕ) → k ≡ placeOf w signs → k < SIGNS → length (getD signs k []) ≡ length w
 unfolding signs
@@ -76,9 +154,6 @@ module _ (s : List ℕ) (at start : ℕ) (is-start : start ≡ at + gap false (d
   unfolding tokenAt tokenAfterGap
   token-from h = rw (lt-ltb at (length s) h, drop-drop, ← is-start)
 
-  at-before : start < length s → at < length s
-  at-before h = omega arith
-
   from-past : length s ≤ start → tokenFrom (drop start s) start ≡ empty END start
   unfolding tokenFrom
   from-past h = rw (from-end s start h)
@@ -92,10 +167,12 @@ module _ (s : List ℕ) (at start : ℕ) (is-start : start ≡ at + gap false (d
       ap (empty END) is-end ∙ sym (token-from l ∙ from-past h))
       (λ l. rw (le-ltb at (length s) l))
 
-  pub token-word : start < length s → isWordByte (getD s start 0) ≡ true → wordToken (word (drop start s)) start ≡ tokenAt s at
+-- the token that starts at a place
+module _ (s : List ℕ) (at : ℕ) (inside : at < length s) where
+  pub from-word : isWordByte (getD s at 0) ≡ true → wordToken (word (drop at s)) at ≡ tokenFrom (drop at s) at
   unfolding tokenFrom
-  token-word h e = rw (token-from (at-before h), from-next s start 0 h, e)
+  from-word e = rw (from-next s at 0 inside, e)
 
-  pub token-sign : start < length s → isWordByte (getD s start 0) ≡ false → signToken (drop start s) start ≡ tokenAt s at
+  pub from-sign : isWordByte (getD s at 0) ≡ false → signToken (drop at s) at ≡ tokenFrom (drop at s) at
   unfolding tokenFrom
-  token-sign h e = rw (token-from (at-before h), from-next s start 0 h, e)
+  from-sign e = rw (from-next s at 0 inside, e)

@@ -4,7 +4,7 @@ use mathlib.Core.Path.{_≡_, refl}
 use mathlib.Core.Bool.{Bool, true, false, not, _||_, false≢true}
 use mathlib.Core.List.{List, [], _∷_}
 use Prim.Native.Nat.{ℕ, suc, _+_, _≤_, _<_, zero-le, suc-le-suc}
-use native.Mathlib.Nat.{add-zero, zero-add}
+use native.Mathlib.Nat.{add-zero}
 use native.Mathlib.Omega.{arith}
 use lib.Dec.{eqb}
 use lib.ListN.{length, getD, drop}
@@ -12,8 +12,8 @@ use lib.Seq.{drop-drop, getD-drop}
 use borrow.Author.Tests.{eqb-true}
 use Rattle.lex.specs.Bytes.{isBlank}
 use Rattle.lex.specs.Tokens.{run, isGap, inComment, gap, opensComment}
-use Rattle.lex.proofs.Lists.{either, and-true, inside}
-use Rattle.lex.proofs.Steps.{run-yes, run-stops}
+use Rattle.lex.proofs.Lists.{either, and-true, inside, from-end, from-next}
+use Rattle.lex.proofs.Steps.{run-yes}
 
 -- a byte that does not end a comment
 abbrev pub inLine : ℕ → Bool
@@ -39,11 +39,10 @@ no-comment b next blank = either (eqb b 47) (λ e. absurd (no-slash (eqb-true b 
     no-slash : b ≡ 47 → ⊥
     no-slash e = let never : false ≡ true = rw e at blank in false≢true never
 
-gap-blanks : (s : List ℕ) → gap false s ≡ run isBlank s + gap false (drop (run isBlank s) s)
-unfolding gap isGap inComment run
-gap-blanks [] = refl
-gap-blanks (b ∷ s) =
-    either (isBlank b) (λ e. rw (e, no-comment b (getD s 0 0) e) (omega (arith, gap-blanks s))) (λ e. rw (e, zero-add, e))
+-- a blank at i
+pub after-blank : (s : List ℕ) (i : ℕ) → i < length s → isBlank (getD s i 0) ≡ true → gap false (drop i s) ≡ suc (gap false (drop (i + 1) s))
+unfolding gap isGap inComment
+after-blank s i h e = rw (from-next s i 0 h, e, no-comment (getD s i 0) (getD (drop (i + 1) s) 0 0) e)
 
 gap-comment : (s : List ℕ) → gap true s ≡ run inLine s + gap false (drop (run inLine s) s)
 unfolding gap isGap inComment run
@@ -58,14 +57,6 @@ gap-slashes : (s : List ℕ) → (getD s 0 0 ≡ 47) × (getD s 1 0 ≡ 47) → 
 unfolding gap isGap inComment run
 gap-slashes [] h = refl
 gap-slashes (b ∷ s) h = rw (h .0, h .1) (omega (arith, gap-comment s))
-
--- the place e after the blanks at i
-module _ (s : List ℕ) (i e : ℕ) (is-e : e ≡ i + run isBlank (drop i s)) where
-  pub after-blanks : i + gap false (drop i s) ≡ e + gap false (drop e s)
-  after-blanks = rw is-e (omega (arith, rw drop-drop at (gap-blanks (drop i s))))
-
-  pub no-blank : run isBlank (drop e s) ≡ 0
-  no-blank = rw is-e (rw drop-drop at (run-stops isBlank (drop i s)))
 
 -- the end of the line of a comment at i
 module _ (s : List ℕ) (i : ℕ) (opens : opensComment (getD s i 0) (getD s (i + 1) 0) ≡ true) where
@@ -82,10 +73,14 @@ module _ (s : List ℕ) (i : ℕ) (opens : opensComment (getD s i 0) (getD s (i 
   comment-moves = omega (arith, run-yes inLine s i comment-inside (rw (slashes (getD s i 0) (getD s (i + 1) 0) opens .0)))
 
 -- neither a blank nor a comment at i
-gap-other : (s : List ℕ) → run isBlank s ≡ 0 → opensComment (getD s 0 0) (getD s 1 0) ≡ false → gap false s ≡ 0
-unfolding gap isGap run
+gap-other : (s : List ℕ) → isBlank (getD s 0 0) ≡ false → opensComment (getD s 0 0) (getD s 1 0) ≡ false → gap false s ≡ 0
+unfolding gap isGap
 gap-other [] h o = refl
-gap-other (b ∷ s) h o = either (isBlank b) (λ e. let never : suc (run isBlank s) ≡ 0 = rw e at h in absurd (omega arith)) (λ e. rw (e, o))
+gap-other (b ∷ s) h o = rw (h, o)
 
-pub gap-none : (s : List ℕ) (i : ℕ) → run isBlank (drop i s) ≡ 0 → opensComment (getD s i 0) (getD s (i + 1) 0) ≡ false → gap false (drop i s) ≡ 0
-gap-none s i h o = gap-other (drop i s) h (simp (getD-drop, add-zero) o)
+pub gap-none : (s : List ℕ) (i : ℕ) → isBlank (getD s i 0) ≡ false → opensComment (getD s i 0) (getD s (i + 1) 0) ≡ false → gap false (drop i s) ≡ 0
+gap-none s i h o = gap-other (drop i s) (simp (getD-drop, add-zero) h) (simp (getD-drop, add-zero) o)
+
+pub gap-past : (s : List ℕ) (i : ℕ) → length s ≤ i → gap false (drop i s) ≡ 0
+unfolding gap
+gap-past s i h = rw (from-end s i h)

@@ -12,7 +12,7 @@ pub mod Shape
 pub mod Lists
 mod Steps
 mod Comments
-mod WordTable
+mod Packing
 mod Missed
 pub mod WordParts
 mod Cases

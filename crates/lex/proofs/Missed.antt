@@ -5,8 +5,9 @@ use mathlib.Core.Bool.{Bool, true, false, cond, _&&_, _||_, true≢false}
 use mathlib.Core.List.{List, [], _∷_}
 use Prim.Native.Nat.{ℕ, suc}
 use lib.Dec.{eqb}
-use lib.ListN.{length}
-use borrow.Author.Tests.{ne-eqb}
+use lib.ListN.{length, take}
+use borrow.Author.Tests.{ne-eqb, eqb-false}
+use Rattle.lex.specs.Lookup.{packed, codePlace}
 use Rattle.lex.specs.Tokens.{same, placeOf}
 use Rattle.lex.proofs.Lists.{either, and-true, and-false}
 use Rattle.lex.proofs.Steps.{same-length}
@@ -43,6 +44,26 @@ place-none b rest ((x ∷ v) ∷ vs) h =
 
 pub byte-missed : (b : ℕ) (rest : List ℕ) (ws : List (List ℕ)) → Missed Unit (firstBytes rest ws) b → placeOf (b ∷ rest) ws ≡ length ws
 byte-missed b rest ws h = place-none b rest ws (no-member (firstBytes rest ws) b h .1)
+
+-- the first eight bytes of the texts of n bytes
+abbrev pub firstCodes : ℕ → List (List ℕ) → List ℕ
+firstCodes n [] = []
+firstCodes n (v ∷ vs) = let more = firstCodes n vs in cond (eqb (length v) n) (packed (take 8 v) ∷ more) more
+
+code-none : (n x y : ℕ) (ws : List (List ℕ)) → member x (firstCodes n ws) ≡ false → codePlace n x y ws ≡ length ws
+unfolding codePlace
+code-none n x y [] h = refl
+code-none n x y (v ∷ vs) h =
+    either (eqb (length v) n)
+    (λ e.
+    let among : eqb x (packed (take 8 v)) || member x (firstCodes n vs) ≡ false = rw e at h in
+    either (eqb x (packed (take 8 v)))
+    (λ t. absurd (true≢false (rw t at among)))
+    (λ t. rw (e, ne-eqb (packed (take 8 v)) x (λ same. eqb-false x _ t (sym same))) (ap suc (code-none n x y vs (rw t at among)))))
+    (λ e. rw e (ap suc (code-none n x y vs (rw e at h))))
+
+pub code-missed : (n x y : ℕ) (ws : List (List ℕ)) → Missed Unit (firstCodes n ws) x → codePlace n x y ws ≡ length ws
+code-missed n x y ws h = code-none n x y ws (no-member (firstCodes n ws) x h .1)
 
 -- the length of each text is one of the keys, or another that is not in question
 abbrev pub lengthsIn : (ℕ → Bool) → List ℕ → List (List ℕ) → Bool

@@ -1,16 +1,21 @@
 -- The value of digits, one digit after the other, against what 64 bits hold.
 -- Assumes nothing.
-use mathlib.Core.Path.{_≡_}
+use mathlib.Core.Path.{_≡_, sym, ap}
+use mathlib.Core.Bool.{true, false}
 use mathlib.Core.List.{List, [], _∷_}
-use Prim.Native.Nat.{ℕ, _+_, _*_, _^_, _≤_, _<_}
+use Prim.Native.Nat.{ℕ, zero, suc, _+_, _-_, _*_, _^_, _≤_, _<_}
 use native.Mathlib.Nat.{le-refl, le-trans, le-mul-of-pos-right, mul-le-mul-right}
 use native.Mathlib.Omega.{arith}
-use lib.ListN.{length, getD, drop}
-use borrow.Author.Tests.{lt-ltb, le-ltb}
+use lib.ListN.{length, getD, take, drop}
+use lib.Seq.{getD-drop}
+use borrow.Author.Tests.{lt-ltb, le-ltb, ne-eqb}
 use Rattle.lex.specs.declared.Value.the-variants.{Fits, TooLarge}
-use Rattle.lex.specs.Tokens.{word}
-use Rattle.lex.specs.Numbers.{digitValue, valueFrom, numeral, fitted, valueAt}
+use Rattle.lex.specs.Bytes.{isDigit, isWordByte}
+use Rattle.lex.specs.Tokens.{run, word}
+use Rattle.lex.specs.Numbers.{digitValue, valueFrom, marksHex, numeral, fitted, valueAt}
 use Rattle.lex.proofs.Lists.{either-less, from-end, from-next}
+use Rattle.lex.proofs.Steps.{digit-word, digit-range}
+use Rattle.lex.proofs.WordParts.{word-next, word-empty}
 
 pub fitted-fits : (v : ℕ) → v < 2 ^ 64 → fitted v ≡ Fits v
 fitted-fits v h = rw (lt-ltb v (2 ^ 64) h)
@@ -46,6 +51,40 @@ pub value-large : (base v : ℕ) (s : List ℕ) (i d : ℕ) →
     0 < base → d ≡ digitValue (getD s i 0) → i < length s → 2 ^ 64 ≤ v * base + d → 2 ^ 64 ≤ valueFrom base v (drop i s)
 value-large base v s i d pos is-d h large =
     omega (arith, value-next base v s i d is-d h, value-ge base pos (drop (i + 1) s) (v * base + d))
+
+-- ---- decimal digits, up to the end of the word
+
+module _ (s : List ℕ) (i v : ℕ) where
+  pub value-digit : (d : ℕ) → isDigit (getD s i 0) ≡ true → d ≡ getD s i 0 - 48 → valueFrom 10 v (word (drop i s)) ≡ valueFrom 10 (v * 10 + d) (word (drop (i + 1) s))
+  unfolding valueFrom
+  value-digit d digit is-d =
+      let small : getD s i 0 < 58 = omega (arith, digit-range (getD s i 0) digit) in
+      let is-digit : digitValue (getD s i 0) ≡ d = rw (lt-ltb (getD s i 0) 58 small) (sym is-d) in
+      rw (word-next s i (digit-word (getD s i 0) digit)) (ap (λ (x : ℕ). valueFrom 10 (v * 10 + x) (word (drop (i + 1) s))) is-digit)
+
+  pub value-word-end : isWordByte (getD s i 0) ≡ false → valueFrom 10 v (word (drop i s)) ≡ v
+  unfolding valueFrom
+  value-word-end e = rw (word-empty s i e)
+
+-- the second byte of a word is the source's, or there is none
+second-byte : (n : ℕ) (t : List ℕ) → (getD t 1 0 ≡ 120 → ⊥) → getD (take n t) 1 0 ≡ 120 → ⊥
+second-byte zero t d e = omega arith
+second-byte (suc n) [] d e = omega arith
+second-byte (suc zero) (x ∷ t) d e = omega arith
+second-byte (suc (suc n)) (x ∷ []) d e = omega arith
+second-byte (suc (suc n)) (x ∷ y ∷ t) d e = d e
+
+module _ (s : List ℕ) (at : ℕ) where
+  pub no-hex : (getD s (at + 1) 0 ≡ 120 → ⊥) → marksHex (word (drop at s)) ≡ false
+  no-hex h = ne-eqb _ 120 (second-byte (run isWordByte (drop at s)) (drop at s) (λ e. h (rw getD-drop at e)))
+
+  pub value-start : marksHex (word (drop at s)) ≡ false → valueAt s at ≡ fitted (valueFrom 10 0 (word (drop at s)))
+  unfolding valueAt numeral
+  value-start e = rw e
+
+  pub value-past : length s ≤ at → Fits 0 ≡ valueAt s at
+  unfolding valueAt numeral valueFrom run
+  value-past h = rw (from-end s at h)
 
 -- ---- the number at a place
 

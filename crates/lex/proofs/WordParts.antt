@@ -7,12 +7,12 @@ use Prim.Native.Nat.{ℕ, _+_, _-_, _≤_, _<_}
 use native.Mathlib.Omega.{arith}
 use lib.Dec.{eqb}
 use lib.ListN.{length, getD, take, drop, length-drop, List·getD-eq-default}
-use lib.Seq.{length-take-le}
+use lib.Seq.{length-take-le, drop-drop}
 use borrow.Author.Tests.{eq-eqb, eqb-true, eqb-false}
 use Rattle.lex.specs.Bytes.{isWordByte}
 use Rattle.lex.specs.Tokens.{run, same, word, sameWord}
 use Rattle.lex.proofs.Lists.{either, either-less, inside, from-end, from-next}
-use Rattle.lex.proofs.Steps.{run-le, same-first}
+use Rattle.lex.proofs.Steps.{run-le, run-yes, run-stops, same-first}
 
 pub word-length : (s : List ℕ) → length (word s) ≡ run isWordByte s
 word-length s = length-take-le (run isWordByte s) s (run-le isWordByte s)
@@ -37,16 +37,27 @@ module _ (s : List ℕ) (i : ℕ) where
   abbrev pub first : ℕ
   first = getD (word (drop i s)) 0 0
 
-  byte-inside : isWordByte (getD s i 0) ≡ true → i < length s
+  pub byte-inside : isWordByte (getD s i 0) ≡ true → i < length s
   byte-inside e = inside s i (λ zero. let never : false ≡ true = rw zero at e in false≢true never)
 
-  word-next : isWordByte (getD s i 0) ≡ true → word (drop i s) ≡ getD s i 0 ∷ word (drop (i + 1) s)
+  pub word-next : isWordByte (getD s i 0) ≡ true → word (drop i s) ≡ getD s i 0 ∷ word (drop (i + 1) s)
   unfolding run
   word-next e = rw (from-next s i 0 (byte-inside e), e)
 
-  word-empty : isWordByte (getD s i 0) ≡ false → word (drop i s) ≡ []
+  pub word-empty : isWordByte (getD s i 0) ≡ false → word (drop i s) ≡ []
   unfolding run
   word-empty e = either-less i (length s) (λ h. rw (from-next s i 0 h, e)) (λ h. rw (from-end s i h))
+
+  -- no word byte follows a word
+  pub word-stops : isWordByte (getD s (i + run isWordByte (drop i s)) 0) ≡ false
+  word-stops =
+      either (isWordByte (getD s (i + run isWordByte (drop i s)) 0))
+      (λ e.
+      let past = i + run isWordByte (drop i s) in
+      let stop : run isWordByte (drop past s) ≡ 0 = rw drop-drop at (run-stops isWordByte (drop i s)) in
+      let here : past < length s = inside s past (λ zero. let never : false ≡ true = rw zero at e in false≢true never) in
+      absurd (omega (arith, run-yes isWordByte s past here e)))
+      (λ e. e)
 
   pub first-byte : isWordByte (getD s i 0) ≡ true → first ≡ getD s i 0
   first-byte e = rw (word-next e)
@@ -64,9 +75,6 @@ module _ (s : List ℕ) (i : ℕ) where
       (λ e. let never : false ≡ true = rw (sym (first-byte e) ∙ h) at e in absurd (false≢true never))
       (λ e. word-empty e)
 
-  pub first-inside : (first ≡ 0 → ⊥) → i < length s
-  first-inside h = byte-inside (word-byte h)
-
   pub word-goes-on : (first ≡ 0 → ⊥) → word (drop i s) ≡ first ∷ word (drop (i + 1) s)
   word-goes-on h = rw (first-byte (word-byte h)) (word-next (word-byte h))
 
@@ -76,13 +84,30 @@ module _ (s : List ℕ) (i j : ℕ) where
   unfolding sameWord
   words-differ h = same-first (word (drop i s)) (word (drop j s)) h
 
-  pub words-end : first s i ≡ 0 → first s j ≡ 0 → sameWord s i j ≡ true
+  words-end : first s i ≡ 0 → first s j ≡ 0 → sameWord s i j ≡ true
   unfolding sameWord same
   words-end h l = rw (word-ends s i h, word-ends s j l)
 
-  pub words-go-on : first s i ≡ first s j → (first s i ≡ 0 → ⊥) → sameWord s i j ≡ sameWord s (i + 1) (j + 1)
-  unfolding sameWord same
-  words-go-on e h = rw (word-goes-on s i h, word-goes-on s j (λ zero. h (e ∙ zero)), eq-eqb (first s i) (first s j) e)
+  -- where their bytes differ they are the same only if both end
+  pub words-apart : (getD s i 0 ≡ getD s j 0 → ⊥) → eqb (first s i) (first s j) ≡ sameWord s i j
+  words-apart h =
+      either (eqb (first s i) (first s j))
+      (λ e.
+      let q = eqb-true (first s i) (first s j) e in
+      either (eqb (first s i) 0)
+      (λ z. let none = eqb-true (first s i) 0 z in e ∙ sym (words-end none (sym q ∙ none)))
+      (λ z.
+      let some = eqb-false (first s i) 0 z in
+      absurd (h (sym (first-byte s i (word-byte s i some)) ∙ q ∙ first-byte s j (word-byte s j (λ zero. some (q ∙ zero)))))))
+      (λ e. e ∙ sym (words-differ (eqb-false (first s i) (first s j) e)))
+
+  module _ (e : getD s i 0 ≡ getD s j 0) where
+    pub words-end-here : isWordByte (getD s i 0) ≡ false → sameWord s i j ≡ true
+    words-end-here h = words-end (first-none s i h) (first-none s j (rw e at h))
+
+    pub words-go-on : isWordByte (getD s i 0) ≡ true → sameWord s i j ≡ sameWord s (i + 1) (j + 1)
+    unfolding sameWord same
+    words-go-on h = let l : isWordByte (getD s j 0) ≡ true = rw e at h in rw (word-next s i h, word-next s j l, eq-eqb (getD s i 0) (getD s j 0) e)
 
   -- past the source there is no word
   pub words-past : length s ≤ i → eqb (first s j) 0 ≡ sameWord s i j

@@ -14,6 +14,9 @@ isDigit b = leb 48 b && leb b 57
 abbrev pub isHexDigit : ℕ → Bool
 isHexDigit b = leb 48 b && leb b 57 || leb 65 b && leb b 70 || leb 97 b && leb b 102
 
+abbrev pub isLetter : ℕ → Bool
+isLetter b = leb 65 b && leb b 90 || leb 97 b && leb b 122
+
 -- a letter, a digit or `_`
 abbrev pub isWordByte : ℕ → Bool
 isWordByte b = leb 48 b && leb b 57 || leb 65 b && leb b 90 || leb 97 b && leb b 122 || eqb b 95

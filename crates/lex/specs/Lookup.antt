@@ -1,26 +1,27 @@
--- How the code finds a reserved word: in a table of the words of one length, with their classes beside it. No public contract cites this.
+-- How the code finds a reserved word: by its length and its bytes packed into two numbers. No public contract cites this.
 -- Assumes nothing.
-use Prim.Native.Nat.{ℕ, suc}
-use mathlib.Core.Bool.{cond}
-use mathlib.Core.List.{List, [], _∷_, _++_}
+use mathlib.Core.Path.{_≡_}
+use Prim.Native.Nat.{ℕ, suc, _+_, _*_, _≤_}
+use mathlib.Core.Bool.{false, cond, _&&_}
+use mathlib.Core.List.{List, [], _∷_}
 use lib.Dec.{eqb}
-use lib.ListN.{length, take, drop}
-use Rattle.lex.specs.Classes.{NAME}
-use Rattle.lex.specs.Tokens.{same}
+use lib.ListN.{length, getD, take, drop}
+use Rattle.lex.specs.Bytes.{isWordByte}
 
--- the class beside the entry that is w, each entry as long as w; NAME where there is none
-unfoldable pub lookup : List ℕ → List ℕ → List ℕ → ℕ
-lookup w table [] = NAME
-lookup w table (class ∷ classes) =
-    let later = lookup w (drop (length w) table) classes in
-    cond (same w (take (length w) table)) class later
+-- bytes as a number; the lowest byte comes first
+unfoldable pub packed : List ℕ → ℕ
+packed [] = 0
+packed (b ∷ s) = b + 256 * packed s
 
--- the words of n bytes, one after the other
-unfoldable pub tableOf : ℕ → List (List ℕ) → List ℕ
-tableOf n [] = []
-tableOf n (v ∷ vs) = let more = tableOf n vs in cond (eqb (length v) n) (v ++ more) more
+-- the place of the word of n bytes whose first eight bytes are x and whose others are y, or the list's length where it is not there
+unfoldable pub codePlace : ℕ → ℕ → ℕ → List (List ℕ) → ℕ
+codePlace n x y [] = 0
+codePlace n x y (v ∷ vs) =
+    let later = suc (codePlace n x y vs) in
+    cond (eqb (length v) n && eqb (packed (take 8 v)) x && eqb (packed (drop 8 v)) y) 0 later
 
--- their places, the first word's being k
-unfoldable pub classesOf : ℕ → ℕ → List (List ℕ) → List ℕ
-classesOf n k [] = []
-classesOf n k (v ∷ vs) = let more = classesOf n (suc k) vs in cond (eqb (length v) n) (k ∷ more) more
+-- a place e of the source s, at or after a place, where no word goes on
+pub record LikelyEnd (s : List ℕ) (at e : ℕ) : Type 0 where
+  pub after : at ≤ e
+  pub inside : e ≤ length s
+  pub ends : isWordByte (getD s e 0) ≡ false

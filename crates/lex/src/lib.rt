@@ -8,12 +8,16 @@ pub mod values;
 mod words;
 
 ghost use mathlib.Core.Path.{_≡_};
+ghost use mathlib.Core.Bool.{true, false};
 ghost use Prim.Native.Nat.{_<_};
 ghost use lib.ListN.{length, getD, drop};
-ghost use Rattle.lex.specs.Bytes.{isWordByte};
-ghost use Rattle.lex.specs.Tokens.{word, wordToken, signToken, tokenAt, firstBad, sameWord};
+ghost use Rattle.lex.specs.Bytes.{isDigit, isWordByte};
+ghost use Rattle.lex.specs.Tokens.{word, wordToken, signToken, tokenFrom, tokenAt, firstBad, sameWord};
 use crate::classes::BAD;
+use crate::classes::DECIMAL;
 use crate::classes::END;
+use crate::classes::NAME;
+use crate::classes::SEMICOLON;
 use crate::classes::SIGNS;
 
 // A class of `classes`; start and end, both the first byte of a bad token, and the source's length at the end.
@@ -47,13 +51,41 @@ fn empty(class: u8, at: usize) -> Token
     }
 }
 
-// The word or number at a place.
+// The word at a place, which starts with no digit.
 fn word_token(src: &[u8], at: usize) -> Token
-    requires { ⌜ at < length (now src) ⌝ }
+    requires { ⌜ (at < length (now src)) × (isWordByte (getD (now src) at 0) ≡ true) × (isDigit (getD (now src) at 0) ≡ false) ⌝ }
+    ensures { λ r. ⌜ r ≡ wordToken (word (drop at (now (src .entry)))) at ⌝ }
+{
+    let mut end = words::likely_end(src, at);
+    let mut sure = false;
+    loop {
+        let class = reserved::class_of(&src[at..end]);
+        if class < NAME {
+            return Token {
+                class,
+                start: at,
+                end,
+            };
+        }
+        if sure {
+            return Token {
+                class: NAME,
+                start: at,
+                end,
+            };
+        }
+        end = words::word_end(src, at + 1);
+        sure = true;
+    }
+}
+
+// The number at a place, whatever it is.
+fn any_number(src: &[u8], at: usize) -> Token
+    requires { ⌜ (at < length (now src)) × (isDigit (getD (now src) at 0) ≡ true) ⌝ }
     ensures { λ r. ⌜ r ≡ wordToken (word (drop at (now (src .entry)))) at ⌝ }
 {
     let end = words::word_end(src, at);
-    let class = words::word_class(&src[at..end]);
+    let class = words::number_class(&src[at..end]);
     if class == BAD {
         return empty(BAD, at);
     }
@@ -64,12 +96,49 @@ fn word_token(src: &[u8], at: usize) -> Token
     }
 }
 
+// The number at a place; a decimal one in one pass.
+fn number_token(src: &[u8], at: usize) -> Token
+    requires { ⌜ (at < length (now src)) × (isDigit (getD (now src) at 0) ≡ true) ⌝ }
+    ensures { λ r. ⌜ r ≡ wordToken (word (drop at (now (src .entry)))) at ⌝ }
+{
+    let mut i = at + 1;
+    while i < src.len() {
+        let b = src[i];
+        if bytes::is_digit(b) {
+            i += 1;
+        } else {
+            if bytes::in_word(b) {
+                return any_number(src, at);
+            }
+            return Token {
+                class: DECIMAL,
+                start: at,
+                end: i,
+            };
+        }
+    }
+    Token {
+        class: DECIMAL,
+        start: at,
+        end: i,
+    }
+}
+
 // The sign at a place; the longest one is taken.
 fn sign_token(src: &[u8], at: usize) -> Token
     requires { ⌜ at < length (now src) ⌝ }
     ensures { λ r. ⌜ r ≡ signToken (drop at (now (src .entry))) at ⌝ }
 {
-    let two = signs::two_bytes(src[at], bytes::byte_at(src, at + 1));
+    let b = src[at];
+    let one = signs::one_byte(b);
+    if one <= SEMICOLON {
+        return Token {
+            class: one,
+            start: at,
+            end: at + 1,
+        };
+    }
+    let two = signs::two_bytes(b, bytes::byte_at(src, at + 1));
     if two < SIGNS {
         return Token {
             class: two,
@@ -77,7 +146,6 @@ fn sign_token(src: &[u8], at: usize) -> Token
             end: at + 2,
         };
     }
-    let one = signs::one_byte(src[at]);
     if one < SIGNS {
         return Token {
             class: one,
@@ -88,18 +156,38 @@ fn sign_token(src: &[u8], at: usize) -> Token
     empty(BAD, at)
 }
 
+// The token that starts at a place.
+fn token_from(src: &[u8], at: usize) -> Token
+    requires { ⌜ at < length (now src) ⌝ }
+    ensures { λ r. ⌜ r ≡ tokenFrom (drop at (now (src .entry))) at ⌝ }
+{
+    let b = src[at];
+    if bytes::in_word(b) {
+        if bytes::is_digit(b) {
+            return number_token(src, at);
+        }
+        return word_token(src, at);
+    }
+    sign_token(src, at)
+}
+
 // The first token at or after a place; past the source it is the end.
 pub fn token_at(src: &[u8], at: usize) -> Token
     ensures { λ r. ⌜ r ≡ tokenAt (now (src .entry)) at ⌝ }
 {
-    let start = gaps::gap_end(src, at);
-    if src.len() <= start {
-        return empty(END, src.len());
+    let mut i = at;
+    while i < src.len() {
+        if bytes::is_blank(src[i]) {
+            i += 1;
+        } else {
+            if gaps::starts_comment(src, i) {
+                i = gaps::line_end(src, i);
+            } else {
+                return token_from(src, i);
+            }
+        }
     }
-    if bytes::is_word_byte(src[start]) {
-        return word_token(src, start);
-    }
-    sign_token(src, start)
+    empty(END, src.len())
 }
 
 // The place of the first bad token.
@@ -134,15 +222,17 @@ pub fn same_word(src: &[u8], p: usize, q: usize) -> bool
     let mut i = p;
     let mut j = q;
     while i < src.len() {
-        let b = word_byte(src, i);
-        if b != word_byte(src, j) {
-            return false;
+        let b = src[i];
+        if b != bytes::byte_at(src, j) {
+            // The same only where both end.
+            return word_byte(src, i) == word_byte(src, j);
         }
-        if b == 0 {
+        if bytes::is_word_byte(b) {
+            i += 1;
+            j += 1;
+        } else {
             return true;
         }
-        i += 1;
-        j += 1;
     }
     word_byte(src, j) == 0
 }

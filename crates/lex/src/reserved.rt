@@ -1,215 +1,280 @@
-// The reserved words: a table for each length, the words in byte order, and beside it their classes.
+// The reserved words: for each length the words in byte order, their bytes as numbers of which the lowest byte comes first.
 ghost use mathlib.Core.Path.{_≡_};
-ghost use Prim.Native.Nat.{_+_, _*_, _≤_, _<_};
-ghost use lib.ListN.{length, take, drop};
+ghost use Prim.Native.Nat.{_+_, _≤_, _<_};
+ghost use lib.ListN.{take, drop};
 ghost use Rattle.lex.specs.Classes.{SIGNS};
 ghost use Rattle.lex.specs.Lexemes.{reserved};
-ghost use Rattle.lex.specs.Lookup.{lookup};
-ghost use Rattle.lex.specs.Tokens.{placeOf, same};
+ghost use Rattle.lex.specs.Lookup.{packed, codePlace};
+ghost use Rattle.lex.specs.Tokens.{placeOf};
 use crate::bytes;
 use crate::classes::*;
 
-const WORDS_2: [u8; 2] = *b"\
-OR";
-
-const CLASSES_2: [u8; 1] = [OR];
-
-const WORDS_3: [u8; 9] = *b"\
-AND\
-NOT\
-ONE";
-
-const CLASSES_3: [u8; 3] = [AND, NOT, ONE];
-
-const WORDS_4: [u8; 44] = *b"\
-ONES\
-TRUE\
-ZERO\
-form\
-goto\
-guid\
-help\
-name\
-rule\
-step\
-text";
-
-const CLASSES_4: [u8; 11] = [
-    ONES,
-    TRUE,
-    ZERO,
-    KW_FORM,
-    KW_GOTO,
-    KW_GUID,
-    KW_HELP,
-    KW_NAME,
-    KW_RULE,
-    KW_STEP,
-    KW_TEXT,
-];
-
-const WORDS_5: [u8; 35] = *b"\
-FALSE\
-endif\
-flags\
-label\
-oneof\
-title\
-value";
-
-const CLASSES_5: [u8; 7] = [
-    FALSE,
-    KW_ENDIF,
-    KW_FLAGS,
-    KW_LABEL,
-    KW_ONEOF,
-    KW_TITLE,
-    KW_VALUE,
-];
-
-const WORDS_6: [u8; 18] = *b"\
-formid\
-option\
-prompt";
-
-const CLASSES_6: [u8; 3] = [KW_FORMID, KW_OPTION, KW_PROMPT];
-
-const WORDS_7: [u8; 63] = *b"\
-DEFAULT\
-default\
-endform\
-endrule\
-formset\
-maximum\
-minimum\
-numeric\
-ruleref";
-
-const CLASSES_7: [u8; 9] = [
-    DEFAULT,
-    KW_DEFAULT,
-    KW_ENDFORM,
-    KW_ENDRULE,
-    KW_FORMSET,
-    KW_MAXIMUM,
-    KW_MINIMUM,
-    KW_NUMERIC,
-    KW_RULEREF,
-];
-
-const WORDS_8: [u8; 24] = *b"\
-checkbox\
-endoneof\
-subtitle";
-
-const CLASSES_8: [u8; 3] = [KW_CHECKBOX, KW_ENDONEOF, KW_SUBTITLE];
-
-const WORDS_9: [u8; 36] = *b"\
-READ_ONLY\
-UNDEFINED\
-disableif\
-grayoutif";
-
-const CLASSES_9: [u8; 4] = [READ_ONLY, UNDEFINED, KW_DISABLEIF, KW_GRAYOUTIF];
-
-const WORDS_10: [u8; 40] = *b"\
-endformset\
-endnumeric\
-questionid\
-suppressif";
-
-const CLASSES_10: [u8; 4] = [KW_ENDFORMSET, KW_ENDNUMERIC, KW_QUESTIONID, KW_SUPPRESSIF];
-
-const WORDS_11: [u8; 33] = *b"\
-INTERACTIVE\
-endcheckbox\
-questionref";
-
-const CLASSES_11: [u8; 3] = [INTERACTIVE, KW_ENDCHECKBOX, KW_QUESTIONREF];
-
-const WORDS_12: [u8; 12] = *b"\
-STRING_TOKEN";
-
-const CLASSES_12: [u8; 1] = [STRING_TOKEN];
-
-const WORDS_14: [u8; 14] = *b"\
-RESET_REQUIRED";
-
-const CLASSES_14: [u8; 1] = [RESET_REQUIRED];
-
-// The part of a table that starts at `from` is the word.
-fn is_entry(w: &[u8], table: &[u8], from: usize) -> bool
-    requires { ⌜ from + length (now w) ≤ length (now table) ⌝ }
-    ensures { λ r. ⌜ r ≡ same (now (w .entry)) (take (length (now (w .entry))) (drop from (now (table .entry)))) ⌝ }
+// The class of a word of two bytes.
+fn two_class(first: u64) -> u8
+    ensures { λ r. ⌜ r ≡ SIGNS + codePlace 2 first 0 reserved ⌝ }
 {
-    let mut j = 0;
-    while j < w.len() {
-        if w[j] == table[from + j] {
-            j += 1;
+    match first {
+        // OR
+        0x524F => OR,
+        _ => NAME,
+    }
+}
+
+// The class of a word of three bytes.
+fn three_class(first: u64) -> u8
+    ensures { λ r. ⌜ r ≡ SIGNS + codePlace 3 first 0 reserved ⌝ }
+{
+    match first {
+        // AND
+        0x44_4E41 => AND,
+        // NOT
+        0x54_4F4E => NOT,
+        // ONE
+        0x45_4E4F => ONE,
+        _ => NAME,
+    }
+}
+
+// The class of a word of four bytes.
+fn four_class(first: u64) -> u8
+    ensures { λ r. ⌜ r ≡ SIGNS + codePlace 4 first 0 reserved ⌝ }
+{
+    match first {
+        // ONES
+        0x5345_4E4F => ONES,
+        // TRUE
+        0x4555_5254 => TRUE,
+        // ZERO
+        0x4F52_455A => ZERO,
+        // form
+        0x6D72_6F66 => KW_FORM,
+        // goto
+        0x6F74_6F67 => KW_GOTO,
+        // guid
+        0x6469_7567 => KW_GUID,
+        // help
+        0x706C_6568 => KW_HELP,
+        // name
+        0x656D_616E => KW_NAME,
+        // rule
+        0x656C_7572 => KW_RULE,
+        // step
+        0x7065_7473 => KW_STEP,
+        // text
+        0x7478_6574 => KW_TEXT,
+        _ => NAME,
+    }
+}
+
+// The class of a word of five bytes.
+fn five_class(first: u64) -> u8
+    ensures { λ r. ⌜ r ≡ SIGNS + codePlace 5 first 0 reserved ⌝ }
+{
+    match first {
+        // FALSE
+        0x45_534C_4146 => FALSE,
+        // endif
+        0x66_6964_6E65 => KW_ENDIF,
+        // flags
+        0x73_6761_6C66 => KW_FLAGS,
+        // label
+        0x6C_6562_616C => KW_LABEL,
+        // oneof
+        0x66_6F65_6E6F => KW_ONEOF,
+        // title
+        0x65_6C74_6974 => KW_TITLE,
+        // value
+        0x65_756C_6176 => KW_VALUE,
+        _ => NAME,
+    }
+}
+
+// The class of a word of six bytes.
+fn six_class(first: u64) -> u8
+    ensures { λ r. ⌜ r ≡ SIGNS + codePlace 6 first 0 reserved ⌝ }
+{
+    match first {
+        // formid
+        0x6469_6D72_6F66 => KW_FORMID,
+        // option
+        0x6E6F_6974_706F => KW_OPTION,
+        // prompt
+        0x7470_6D6F_7270 => KW_PROMPT,
+        _ => NAME,
+    }
+}
+
+// The class of a word of seven bytes.
+fn seven_class(first: u64) -> u8
+    ensures { λ r. ⌜ r ≡ SIGNS + codePlace 7 first 0 reserved ⌝ }
+{
+    match first {
+        // DEFAULT
+        0x54_4C55_4146_4544 => DEFAULT,
+        // default
+        0x74_6C75_6166_6564 => KW_DEFAULT,
+        // endform
+        0x6D_726F_6664_6E65 => KW_ENDFORM,
+        // endrule
+        0x65_6C75_7264_6E65 => KW_ENDRULE,
+        // formset
+        0x74_6573_6D72_6F66 => KW_FORMSET,
+        // maximum
+        0x6D_756D_6978_616D => KW_MAXIMUM,
+        // minimum
+        0x6D_756D_696E_696D => KW_MINIMUM,
+        // numeric
+        0x63_6972_656D_756E => KW_NUMERIC,
+        // ruleref
+        0x66_6572_656C_7572 => KW_RULEREF,
+        _ => NAME,
+    }
+}
+
+// The class of a word of eight bytes.
+fn eight_class(first: u64) -> u8
+    ensures { λ r. ⌜ r ≡ SIGNS + codePlace 8 first 0 reserved ⌝ }
+{
+    match first {
+        // checkbox
+        0x786F_626B_6365_6863 => KW_CHECKBOX,
+        // endoneof
+        0x666F_656E_6F64_6E65 => KW_ENDONEOF,
+        // subtitle
+        0x656C_7469_7462_7573 => KW_SUBTITLE,
+        _ => NAME,
+    }
+}
+
+// The class of a word of nine bytes.
+fn nine_class(first: u64, rest: u64) -> u8
+    ensures { λ r. ⌜ r ≡ SIGNS + codePlace 9 first rest reserved ⌝ }
+{
+    match first {
+        // READ_ONLY
+        0x4C4E_4F5F_4441_4552 => if rest == 0x59 { READ_ONLY } else { NAME },
+        // UNDEFINED
+        0x454E_4946_4544_4E55 => if rest == 0x44 { UNDEFINED } else { NAME },
+        // disableif
+        0x6965_6C62_6173_6964 => if rest == 0x66 { KW_DISABLEIF } else { NAME },
+        // grayoutif
+        0x6974_756F_7961_7267 => if rest == 0x66 { KW_GRAYOUTIF } else { NAME },
+        _ => NAME,
+    }
+}
+
+// The class of a word of ten bytes.
+fn ten_class(first: u64, rest: u64) -> u8
+    ensures { λ r. ⌜ r ≡ SIGNS + codePlace 10 first rest reserved ⌝ }
+{
+    match first {
+        // endformset
+        0x736D_726F_6664_6E65 => if rest == 0x7465 { KW_ENDFORMSET } else { NAME },
+        // endnumeric
+        0x7265_6D75_6E64_6E65 => if rest == 0x6369 { KW_ENDNUMERIC } else { NAME },
+        // questionid
+        0x6E6F_6974_7365_7571 => if rest == 0x6469 { KW_QUESTIONID } else { NAME },
+        // suppressif
+        0x7373_6572_7070_7573 => if rest == 0x6669 { KW_SUPPRESSIF } else { NAME },
+        _ => NAME,
+    }
+}
+
+// The class of a word of eleven bytes.
+fn eleven_class(first: u64, rest: u64) -> u8
+    ensures { λ r. ⌜ r ≡ SIGNS + codePlace 11 first rest reserved ⌝ }
+{
+    match first {
+        // INTERACTIVE
+        0x5443_4152_4554_4E49 => if rest == 0x45_5649 { INTERACTIVE } else { NAME },
+        // endcheckbox
+        0x6B63_6568_6364_6E65 => if rest == 0x78_6F62 {
+            KW_ENDCHECKBOX
         } else {
-            return false;
-        }
-    }
-    true
-}
-
-// The class beside the word's entry in a table of words of its length, or NAME.
-fn find(w: &[u8], table: &[u8], classes: &[u8]) -> u8
-    requires { ⌜ length (now table) ≡ length (now classes) * length (now w) ⌝ }
-    ensures { λ r. ⌜ r ≡ lookup (now (w .entry)) (now (table .entry)) (now (classes .entry)) ⌝ }
-{
-    let mut k = 0;
-    let mut from = 0;
-    while k < classes.len() {
-        if is_entry(w, table, from) {
-            return classes[k];
-        }
-        k += 1;
-        from += w.len();
-    }
-    NAME
-}
-
-// The class of a word of at most six bytes.
-fn short_class(w: &[u8]) -> u8
-    requires { ⌜ length (now w) ≤ 6 ⌝ }
-    ensures { λ r. ⌜ r ≡ SIGNS + placeOf (now (w .entry)) reserved ⌝ }
-{
-    let n = w.len();
-    match n {
-        2 => find(w, &WORDS_2, &CLASSES_2),
-        3 => find(w, &WORDS_3, &CLASSES_3),
-        4 => find(w, &WORDS_4, &CLASSES_4),
-        5 => find(w, &WORDS_5, &CLASSES_5),
-        6 => find(w, &WORDS_6, &CLASSES_6),
+            NAME
+        },
+        // questionref
+        0x6E6F_6974_7365_7571 => if rest == 0x66_6572 {
+            KW_QUESTIONREF
+        } else {
+            NAME
+        },
         _ => NAME,
     }
 }
 
-// The class of a word of more than six bytes.
-fn long_class(w: &[u8]) -> u8
-    requires { ⌜ 6 < length (now w) ⌝ }
-    ensures { λ r. ⌜ r ≡ SIGNS + placeOf (now (w .entry)) reserved ⌝ }
+// The class of a word of twelve bytes.
+fn twelve_class(first: u64, rest: u64) -> u8
+    ensures { λ r. ⌜ r ≡ SIGNS + codePlace 12 first rest reserved ⌝ }
 {
-    let n = w.len();
-    match n {
-        7 => find(w, &WORDS_7, &CLASSES_7),
-        8 => find(w, &WORDS_8, &CLASSES_8),
-        9 => find(w, &WORDS_9, &CLASSES_9),
-        10 => find(w, &WORDS_10, &CLASSES_10),
-        11 => find(w, &WORDS_11, &CLASSES_11),
-        12 => find(w, &WORDS_12, &CLASSES_12),
-        14 => find(w, &WORDS_14, &CLASSES_14),
+    match first {
+        // STRING_TOKEN
+        0x545F_474E_4952_5453 => if rest == 0x4E45_4B4F {
+            STRING_TOKEN
+        } else {
+            NAME
+        },
         _ => NAME,
     }
+}
+
+// The class of a word of fourteen bytes.
+fn fourteen_class(first: u64, rest: u64) -> u8
+    ensures { λ r. ⌜ r ≡ SIGNS + codePlace 14 first rest reserved ⌝ }
+{
+    match first {
+        // RESET_REQUIRED
+        0x4552_5F54_4553_4552 => if rest == 0x4445_5249_5551 {
+            RESET_REQUIRED
+        } else {
+            NAME
+        },
+        _ => NAME,
+    }
+}
+
+// The two bytes from an index on as a number, 0 for each past the end.
+fn pack_two(w: &[u8], from: usize) -> u64
+    requires { ⌜ from ≤ 14 ⌝ }
+    ensures { λ r. ⌜ (r ≡ packed (take 2 (drop from (now (w .entry))))) × (r < 65536) ⌝ }
+{
+    bytes::byte_at(w, from) as u64 + 256 * bytes::byte_at(w, from + 1) as u64
+}
+
+// The same of four bytes.
+fn pack_four(w: &[u8], from: usize) -> u64
+    requires { ⌜ from ≤ 12 ⌝ }
+    ensures { λ r. ⌜ (r ≡ packed (take 4 (drop from (now (w .entry))))) × (r < 4294967296) ⌝ }
+{
+    pack_two(w, from) + 65536 * pack_two(w, from + 2)
+}
+
+// The same of eight bytes.
+fn pack_eight(w: &[u8], from: usize) -> u64
+    requires { ⌜ from ≤ 8 ⌝ }
+    ensures { λ r. ⌜ r ≡ packed (take 8 (drop from (now (w .entry)))) ⌝ }
+{
+    pack_four(w, from) + 4294967296 * pack_four(w, from + 4)
 }
 
 // The class of a word that does not start with a digit.
 pub fn class_of(w: &[u8]) -> u8
     ensures { λ r. ⌜ r ≡ SIGNS + placeOf (now (w .entry)) reserved ⌝ }
 {
-    if w.len() <= 6 {
-        return short_class(w);
+    let n = w.len();
+    match n {
+        2 => two_class(pack_eight(w, 0)),
+        3 => three_class(pack_eight(w, 0)),
+        4 => four_class(pack_eight(w, 0)),
+        5 => five_class(pack_eight(w, 0)),
+        6 => six_class(pack_eight(w, 0)),
+        7 => seven_class(pack_eight(w, 0)),
+        8 => eight_class(pack_eight(w, 0)),
+        9 => nine_class(pack_eight(w, 0), pack_eight(w, 8)),
+        10 => ten_class(pack_eight(w, 0), pack_eight(w, 8)),
+        11 => eleven_class(pack_eight(w, 0), pack_eight(w, 8)),
+        12 => twelve_class(pack_eight(w, 0), pack_eight(w, 8)),
+        14 => fourteen_class(pack_eight(w, 0), pack_eight(w, 8)),
+        _ => NAME,
     }
-    long_class(w)
 }

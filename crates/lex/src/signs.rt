@@ -47,6 +47,9 @@ fn before_equals(b: u8) -> u8
 pub fn two_bytes(b: u8, next: u8) -> u8
     ensures { λ r. ⌜ r ≡ placeOf (b ∷ next ∷ []) signs ⌝ }
 {
+    if next < b'<' {
+        return SIGNS;
+    }
     if next == b'=' {
         return before_equals(b);
     }

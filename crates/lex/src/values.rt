@@ -1,7 +1,10 @@
 // The value of a number, and a GUID part's digits.
 ghost use mathlib.Core.Path.{_≡_};
 ghost use Prim.Native.Nat.{_<_, _≤_, _+_, _*_, _^_};
-ghost use Rattle.lex.specs.Numbers.{digitValue, valueFrom, numeral, fitted, valueAt, digitsAt};
+ghost use mathlib.Core.Bool.{false};
+ghost use lib.ListN.{length, drop};
+ghost use Rattle.lex.specs.Numbers.{digitValue, valueFrom, marksHex, numeral, fitted, valueAt, digitsAt};
+ghost use Rattle.lex.specs.Tokens.{word};
 use crate::Value;
 use crate::bytes;
 use crate::words;
@@ -70,6 +73,40 @@ fn number_value(w: &[u8]) -> Value
     value_in(w, 10, MAX_TENTHS)
 }
 
+// The value of the number that starts at a place, whatever it is.
+fn any_value_at(src: &[u8], at: usize) -> Value
+    requires { ⌜ at < length (now src) ⌝ }
+    ensures { λ r. ⌜ r ≡ valueAt (now (src .entry)) at ⌝ }
+{
+    let end = words::word_end(src, at);
+    number_value(&src[at..end])
+}
+
+// The value of the decimal number that starts at a place, in one pass; MAX where it is not decimal or may be too large.
+fn decimal_at(src: &[u8], at: usize) -> u64
+    requires { ⌜ marksHex (word (drop at (now src))) ≡ false ⌝ }
+    ensures { λ r. ⌜ (r < 18446744073709551615 → valueAt (now (src .entry)) at ≡ fitted r) ⌝ }
+{
+    let mut value: u64 = 0;
+    let mut i = at;
+    while i < src.len() {
+        let b = src[i];
+        if bytes::is_digit(b) {
+            if MAX_TENTHS <= value {
+                return MAX;
+            }
+            value = value * 10 + wide(b - 48);
+            i += 1;
+        } else {
+            if bytes::in_word(b) {
+                return MAX;
+            }
+            return value;
+        }
+    }
+    value
+}
+
 // The value of the number that starts at a place.
 pub fn value_at(src: &[u8], at: usize) -> Value
     ensures { λ r. ⌜ r ≡ valueAt (now (src .entry)) at ⌝ }
@@ -77,8 +114,13 @@ pub fn value_at(src: &[u8], at: usize) -> Value
     if src.len() <= at {
         return Value::Fits(0);
     }
-    let end = words::word_end(src, at);
-    number_value(&src[at..end])
+    if bytes::byte_at(src, at + 1) != b'x' {
+        let value = decimal_at(src, at);
+        if value < MAX {
+            return Value::Fits(value);
+        }
+    }
+    any_value_at(src, at)
 }
 
 // How many digits follow the `0x` of the number that starts at a place.

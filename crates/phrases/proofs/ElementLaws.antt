@@ -8,7 +8,7 @@ use mathlib.Core.Logic.{_⊎_, inl, inr, _≢_}
 use native.Mathlib.Omega.{arith}
 use native.Mathlib.Decide.{ℕ-discrete}
 use lib.Dec.{eqb, ltb, leb}
-use borrow.Author.Tests.{eq-eqb, ne-eqb, lt-ltb, le-ltb, eqb-true, ltb-true, leb-true}
+use borrow.Author.Tests.{eq-eqb, ne-eqb, lt-ltb, le-ltb, lt-leb, eqb-true, ltb-true, leb-true}
 use Rattle.lex.specs.Classes.{«DEFAULT», «FALSE», «TRUE», NAME, HEX, DECIMAL, BAD}
 use Rattle.ll1.specs.ParseTable.{member}
 use Rattle.ll1.specs.Test.{all}
@@ -73,6 +73,11 @@ word-or s false range p = refl
 pub when-le : (b : Bool) (n : ℕ) → when b n ≤ n
 when-le true n = omega arith
 when-le false n = omega arith
+
+-- ---- a sign or a reserved word keeps nothing
+
+pub not-kept : (k : ℕ) → k < NAME → isKept k ≡ false
+not-kept k h = rw (ne-eqb k NAME (λ e. omega arith)) (lt-leb ID k (omega arith))
 
 -- ---- an element that keeps something is a token with bytes
 

@@ -16,7 +16,7 @@ use Rattle.phrases.specs.declared.flags.Words.{Words}
 use Rattle.phrases.specs.Words.{noWords, withWord, bitsOf}
 use Rattle.phrases.specs.Stream.{stream}
 use Rattle.phrases.specs.Elements.{flagWords}
-use Rattle.phrases.specs.Phrase.{Reader, Kept, withEntry, refusing, flagsFrom, takingFlags}
+use Rattle.phrases.specs.Phrase.{Reader, Kept, withEntry, ready, refusing, flagsFrom, takingFlags}
 use Rattle.phrases.proofs.Streams.{stream-falls}
 use Rattle.phrases.proofs.FlagWords.{flag-below}
 
@@ -39,7 +39,7 @@ module _ (s : List ℕ) (x : Reader) (u : Token) (w : Words) where
   refused-at zero m = refl
   refused-at (suc n) m = rw m
 
-  last-at : (n : ℕ) → length (stream s u) ≤ n → member (u .class) flagWords ≡ true → bar .class ≢ «|» → flagsFrom n s x u w ≡ record { no = 0; token = bar; bad = x .bad; skip = 0; kept = withEntry (x .kept) (bitsOf (withWord w (u .class))) }
+  last-at : (n : ℕ) → length (stream s u) ≤ n → member (u .class) flagWords ≡ true → bar .class ≢ «|» → flagsFrom n s x u w ≡ ready bar (x .bad) (withEntry (x .kept) (bitsOf (withWord w (u .class))))
   unfolding flagsFrom
   last-at zero h m e = absurd (omega (arith, stream-falls s u (flag-below (u .class) m)))
   last-at (suc n) h m e = rw (m, ne-eqb (bar .class) «|» e)
@@ -57,7 +57,7 @@ module _ (s : List ℕ) (x : Reader) (u : Token) (w : Words) where
     pub flags-refused : member (u .class) flagWords ≡ false → takingFlags s x ≡ refusing x u
     flags-refused m = g .same ∙ refused-at (g .turns) m
 
-    pub flags-last : member (u .class) flagWords ≡ true → bar .class ≢ «|» → takingFlags s x ≡ record { no = 0; token = bar; bad = x .bad; skip = 0; kept = withEntry (x .kept) (bitsOf (withWord w (u .class))) }
+    pub flags-last : member (u .class) flagWords ≡ true → bar .class ≢ «|» → takingFlags s x ≡ ready bar (x .bad) (withEntry (x .kept) (bitsOf (withWord w (u .class))))
     flags-last m e = g .same ∙ last-at (g .turns) (g .enough) m e
 
     pub flags-more : member (u .class) flagWords ≡ true → bar .class ≡ «|» → Going s x (tokenAt s (bar .end)) (withWord w (u .class))
@@ -65,8 +65,8 @@ module _ (s : List ℕ) (x : Reader) (u : Token) (w : Words) where
 
 -- the same with what the code has in hand: the token after the word, the words then, their bits
 module _ {s : List ℕ} {x : Reader} {u t : Token} {w : Words} (g : Going s x u w) (at-bar : t ≡ tokenAt s (u .end)) (m : member (u .class) flagWords ≡ true) where
-  pub loop-last : {w′ : Words} {b : ℕ} {k : Kept} → t .class ≢ «|» → w′ ≡ withWord w (u .class) → b ≡ bitsOf w′ → k ≡ withEntry (x .kept) b → record { no = 0; token = t; bad = x .bad; skip = 0; kept = k } ≡ takingFlags s x
-  loop-last e q v h = rw (h, v, q, at-bar) (sym (flags-last s x u w g m (λ z. e (ap (λ (a : Token). a .class) at-bar ∙ z))))
+  pub loop-last : {w′ : Words} {b : ℕ} {k : Kept} → t .class ≢ «|» → w′ ≡ withWord w (u .class) → b ≡ bitsOf w′ → k ≡ withEntry (x .kept) b → ready (tokenAt s (u .end)) (x .bad) k ≡ takingFlags s x
+  loop-last e q v h = rw (h, v, q) (sym (flags-last s x u w g m (λ z. e (ap (λ (a : Token). a .class) at-bar ∙ z))))
 
   pub loop-fewer : {v : Token} → t .class ≡ «|» → v ≡ tokenAt s (t .end) → length (stream s v) < length (stream s u)
   loop-fewer e h = rw (h, at-bar) (fewer s x u w m (ap (λ (a : Token). a .class) (sym at-bar) ∙ e))

@@ -19,7 +19,7 @@ use Rattle.grammar.specs.Reading.{verdictFrom}
 use Rattle.grammar.specs.Ranges.{free, rangeOf, keeps, outOfRange}
 use Rattle.phrases.specs.Stream.{stream, resume}
 use Rattle.phrases.specs.Entries.{nodeEntries, entries}
-use Rattle.phrases.specs.Phrase.{Reader, withEntry, withEntries}
+use Rattle.phrases.specs.Phrase.{Reader, ready, withEntry, withEntries}
 use Rattle.phrases.proofs.Streams.{stream-on}
 use Rattle.phrases.proofs.Keeping.{marked-none}
 use Rattle.phrases.proofs.Resume.{resume-on, resume-like, skipped-here}
@@ -61,7 +61,7 @@ pub record Optional (A k : ℕ) (β : List Symbol) : Type 0 where
 
 -- without a part that is absent
 abbrev pub without : Reader → Reader
-without c = record { no = 0; token = c .token; bad = c .bad; skip = 0; kept = withEntry (c .kept) 0 }
+without c = ready (c .token) (c .bad) (withEntry (c .kept) 0)
 
 module _ (s : List ℕ) {A : ℕ} where
   -- the tree of a rule over the trees of its alternative

@@ -1,24 +1,28 @@
 -- The loop over a pattern's elements, turn by turn.
 -- Assumes nothing.
 use Prim.Native.Nat.{ℕ, zero, suc, _+_, _≤_, _<_}
-use mathlib.Core.Path.{_≡_, refl, sym, ap, _∙_}
+use mathlib.Core.Path.{_≡_, refl, sym, ap, _∙_, subst}
 use mathlib.Core.Bool.{Bool, true, false, cond}
 use mathlib.Core.List.{List}
+use mathlib.Core.Logic.{_≢_}
 use native.Mathlib.Numerals.{add-one}
 use native.Mathlib.Omega.{arith}
 use lib.Dec.{eqb}
 use lib.ListN.{length, getD, drop, drop-of-length-le}
-use lib.Seq.{drop-cons, getD-drop}
+use lib.Seq.{drop-cons, drop-drop, getD-drop}
+use borrow.Author.Tests.{eq-eqb, ne-eqb}
 use Rattle.lex.specs.declared.Token.{Token}
-use Rattle.lex.specs.Classes.{«|»}
+use Rattle.lex.specs.Classes.{«|», NAME}
 use Rattle.lex.specs.Tokens.{tokenAt}
 use Rattle.ll1.specs.ParseTable.{member}
+use Rattle.phrases.specs.declared.Cursor.{Cursor}
 use Rattle.phrases.specs.declared.flags.Words.{Words}
 use Rattle.phrases.specs.Words.{withWord}
 use Rattle.phrases.specs.Stream.{Within}
-use Rattle.phrases.specs.Elements.{FLAG-LIST, MAYBE, flagWords, startsOf, isKept}
-use Rattle.phrases.specs.Phrase.{Reader, taking, flagsFrom, takingFlags, reading, stepOf, phraseFrom}
+use Rattle.phrases.specs.Elements.{FLAG-LIST, MAYBE, GROUP, flagWords, startsOf, isKept}
+use Rattle.phrases.specs.Phrase.{Kept, keptAt, withEntry, Reader, reader, ready, onward, skipping, refusing, taking, flagsFrom, takingFlags, fitting, stepOf, phraseFrom}
 use Rattle.phrases.proofs.Streams.{within-at}
+use Rattle.phrases.proofs.ReadingLaws.{reads-group, leaves-group, reads-tokens, takes-word, refuses-word, step-on, left-out, handed-on}
 
 -- ---- every token that is reached starts within the source
 
@@ -38,20 +42,15 @@ module _ (s : List ℕ) where
       let more = flags-inside n x (tokenAt s (bar .end)) (withWord w (u .class)) (within-at s (bar .end)) in
       either-way (member (u .class) flagWords) (either-way (eqb (bar .class) «|») more (record { within = within-at s (u .end) })) (record { within = h })
 
-  module _ (x : Reader) (e next : ℕ) (h : Within s (x .token)) where
+  module _ (x : Reader) (e : ℕ) (h : Within s (x .token)) where
     taking-inside : Inside s (taking s x e)
     unfolding taking
     taking-inside = let next = within-at s (x .token .end) in either-way (isKept e) (record { within = next }) (record { within = next })
 
-    reading-inside : Inside s (reading s x e next)
-    unfolding reading takingFlags
-    reading-inside =
-        either-way (eqb e MAYBE) (either-way (eqb (x .token .class) next) (record { within = h }) (record { within = h }))
-        (either-way (member (x .token .class) (startsOf e)) (either-way (eqb e FLAG-LIST) (flags-inside _ x (x .token) _ h) taking-inside) (record { within = h }))
-
-    step-inside : Inside s (stepOf s x e next)
-    unfolding stepOf
-    step-inside = either-way (eqb (x .skip) 0) (either-way (eqb (x .no) 0) reading-inside (record { within = h })) (record { within = h })
+    fitting-inside : Inside s (fitting s x e)
+    unfolding takingFlags
+    fitting-inside =
+        either-way (member (x .token .class) (startsOf e)) (either-way (eqb e FLAG-LIST) (flags-inside _ x (x .token) _ h) taking-inside) (record { within = h })
 
 -- ---- the turns
 
@@ -64,15 +63,64 @@ pub turns-none : (s p : List ℕ) (x : Reader) → Within s (x .token) → Turns
 turns-none s p x h = record { same = refl; within = h }
 
 module _ {s p : List ℕ} {x y : Reader} {k : ℕ} (w : Turns s p x k y) where
-  pub turns-more : {y′ : Reader} {next : ℕ} → k < length p → next ≡ getD p (k + 1) 0 → y′ ≡ stepOf s y (getD p k 0) next → Turns s p x (k + 1) y′
+  turns-more : {y′ : Reader} → k < length p → y′ ≡ stepOf s y (getD p k 0) (getD p (k + 1) 0) → Within s (y′ .token) → Turns s p x (k + 1) y′
   unfolding phraseFrom
-  turns-more {next = next} h n e =
-      let q : getD (drop (suc k) p) 0 0 ≡ next = rw (getD-drop (suc k) p 0 0) (ap (λ (j : ℕ). getD p j 0) (omega arith) ∙ sym n) in
-      record {
-        same = w .same ∙ rw (drop-cons p k 0 h, add-one k) (ap (phraseFrom s (drop (suc k) p)) (ap (stepOf s y (getD p k 0)) q ∙ sym e));
-        within = rw e (step-inside s y (getD p k 0) next (w .within) .within);
-      }
+  turns-more h e within =
+      let q : getD (drop (suc k) p) 0 0 ≡ getD p (k + 1) 0 = rw (getD-drop (suc k) p 0 0) (ap (λ (j : ℕ). getD p j 0) (omega arith)) in
+      record { same = w .same ∙ rw (drop-cons p k 0 h, add-one k) (ap (phraseFrom s (drop (suc k) p)) (ap (stepOf s y (getD p k 0)) q ∙ sym e)); within = within }
 
-  pub turns-all : length p ≤ k → y ≡ phraseFrom s p x
+  turns-off : y .skip ≡ 0 → y .no ≢ 0 → y ≡ phraseFrom s p x
+  turns-off z h = sym (w .same ∙ handed-on s (drop k p) y z h)
+
+turns-skip : {s p : List ℕ} {x : Reader} (y : Reader) {k : ℕ} (n : ℕ) → Turns s p x k (skipping y n) → Turns s p x (k + n) (skipping y 0)
+turns-skip {s} {p} y {k} n w = record { same = w .same ∙ (left-out s n (drop k p) y ∙ ap (λ (q : List ℕ). phraseFrom s q (skipping y 0)) (drop-drop n k p)); within = w .within }
+
+-- the turns of the code, from the token t, the mark, and what is kept
+module _ {s p : List ℕ} {x : Reader} {k : ℕ} {t : Token} {bad : ℕ} {kept : Kept} (w : Turns s p x k (ready t bad kept)) where
+  abbrev here : Reader
+  here = ready t bad kept
+
+  pub turns-all : length p ≤ k → here ≡ phraseFrom s p x
   unfolding phraseFrom
   turns-all h = sym (w .same ∙ rw (drop-of-length-le p h))
+
+  module _ (h : k < length p) where
+    abbrev want : ℕ
+    want = getD p k 0
+
+    abbrev next : ℕ
+    next = getD p (k + 1) 0
+
+    step-tokens : want ≢ MAYBE → stepOf s here want next ≡ fitting s here want
+    step-tokens m = step-on s here want next refl refl ∙ reads-tokens s here want next m
+
+    -- a sign or a reserved word
+    pub turns-word : {t′ : Token} → want < NAME → t .class ≡ want → t′ ≡ tokenAt s (t .end) → Turns s p x (k + 1) (ready t′ bad kept)
+    turns-word l q e =
+        rw e (turns-more w h (sym (step-tokens (λ z. omega arith) ∙ takes-word s here want l q)) (within-at s (t .end)))
+
+    pub refused-word : want < NAME → t .class ≢ want → refusing here t ≡ phraseFrom s p x
+    refused-word l q = turns-off (turns-more w h (sym (step-tokens (λ z. omega arith) ∙ refuses-word s here want l q)) (w .within)) refl (λ z. omega arith)
+
+    -- a group that is there, and one that is not
+    pub turns-group : {n : ℕ} → want ≡ MAYBE → n ≡ next → t .class ≡ n → Turns s p x (k + 1) here
+    turns-group m e q = turns-more w h (sym (step-on s here want next refl refl ∙ reads-group s here want next m (q ∙ e))) (w .within)
+
+    pub turns-absent : {n : ℕ} {kept′ : Kept} → want ≡ MAYBE → n ≡ next → t .class ≢ n → kept′ ≡ withEntry kept 0 → Turns s p x (k + (1 + GROUP)) (ready t bad kept′)
+    turns-absent {kept′ = kept′} m e q f =
+        let left = turns-more w h (leaves-group s here want next m (λ z. q (z ∙ sym e)) f ∙ sym (step-on s here want next refl refl)) (w .within) in
+        subst (λ (j : ℕ). Turns s p x j (ready t bad kept′)) (omega arith) (turns-skip (ready t bad kept′) GROUP left)
+
+    -- any other element
+    module _ (c : Cursor) (l : List ℕ) (m : want ≢ MAYBE) (e : onward s (reader c l) ≡ fitting s here want) where
+      turns-element : Turns s p x (k + 1) (onward s (reader c l))
+      turns-element = turns-more w h (e ∙ sym (step-tokens m)) (rw e (fitting-inside s here want (w .within) .within))
+
+      pub turns-taken : {t′ : Token} → c .no ≡ 0 → t′ ≡ tokenAt s (c .token .end) → Turns s p x (k + 1) (ready t′ (c .bad) (keptAt (c .count) l))
+      turns-taken z q = rw q (let v : Turns s p x (k + 1) (onward s (reader c l)) = turns-element in rw (eq-eqb (c .no) 0 z) at v)
+
+      pub refused-element : c .no ≢ 0 → reader c l ≡ phraseFrom s p x
+      refused-element z =
+          let f : onward s (reader c l) ≡ reader c l = rw (ne-eqb (c .no) 0 z) in
+          let v : Turns s p x (k + 1) (reader c l) = rw f at turns-element in
+          turns-off v refl z

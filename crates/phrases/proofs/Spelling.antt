@@ -9,9 +9,9 @@ use native.Mathlib.Decide.{ℕ-discrete}
 use lib.ListN.{getD}
 use Rattle.ll1.specs.Trees.{Symbol}
 use Rattle.grammar.specs.Notation.{t, r}
-use Rattle.phrases.specs.Elements.{MAYBE}
-use Rattle.phrases.specs.Phrase.{Reader, leaving, stepOf, phraseFrom}
-use Rattle.phrases.proofs.ReadingLaws.{reads-group, leaves-group, step-off, step-on}
+use Rattle.phrases.specs.Elements.{MAYBE, GROUP}
+use Rattle.phrases.specs.Phrase.{Reader, stepOf, phraseFrom}
+use Rattle.phrases.proofs.ReadingLaws.{reads-group, leaves-group, step-off, step-on, left-out, handed-on}
 use Rattle.phrases.proofs.Pieces.{One, Many, many-none, one-more, one-off}
 use Rattle.phrases.proofs.Nodes.{Single, Optional, without, one-single, one-there, one-absent}
 use Rattle.phrases.proofs.Taking.{Element, width}
@@ -45,12 +45,7 @@ module _ (s : List ℕ) (c : Reader) (e n : ℕ) (z : c .skip ≡ 0) where
 
 module _ (s p : List ℕ) (c : Reader) (k i j l : ℕ) (z : c .skip ≡ 0) where
   group-off : c .no ≢ 0 → phraseFrom s (MAYBE ∷ k ∷ i ∷ j ∷ l ∷ p) c ≡ phraseFrom s p c
-  unfolding phraseFrom
-  group-off h = rw (step-off s c MAYBE k z h, step-off s c k i z h, step-off s c i j z h, step-off s c j l z h, step-off s c l (getD p 0 0) z h)
-
-  left-out : phraseFrom s (k ∷ i ∷ j ∷ l ∷ p) (leaving c) ≡ phraseFrom s p (without c)
-  unfolding phraseFrom stepOf
-  left-out = refl
+  group-off h = handed-on s (MAYBE ∷ k ∷ i ∷ j ∷ l ∷ p) c z h ∙ sym (handed-on s p c z h)
 
   group-there : c .no ≡ 0 → c .token .class ≡ k → phraseFrom s (MAYBE ∷ k ∷ i ∷ j ∷ l ∷ p) c ≡ phraseFrom s (k ∷ i ∷ j ∷ l ∷ p) c
   unfolding phraseFrom
@@ -58,7 +53,7 @@ module _ (s p : List ℕ) (c : Reader) (k i j l : ℕ) (z : c .skip ≡ 0) where
 
   group-absent : c .no ≡ 0 → c .token .class ≢ k → phraseFrom s (MAYBE ∷ k ∷ i ∷ j ∷ l ∷ p) c ≡ phraseFrom s p (without c)
   unfolding phraseFrom
-  group-absent h e = ap (phraseFrom s (k ∷ i ∷ j ∷ l ∷ p)) (step-on s c MAYBE k z h ∙ sym (leaves-group s c MAYBE k refl e refl)) ∙ left-out
+  group-absent h e = ap (phraseFrom s (k ∷ i ∷ j ∷ l ∷ p)) (step-on s c MAYBE k z h ∙ sym (leaves-group s c MAYBE k refl e refl)) ∙ left-out s GROUP (k ∷ i ∷ j ∷ l ∷ p) (without c)
 
 -- ---- the theorem
 

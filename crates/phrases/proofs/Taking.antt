@@ -9,7 +9,7 @@ use mathlib.Core.Logic.{_⊎_, inl, inr}
 use native.Mathlib.Omega.{arith}
 use lib.Dec.{eqb}
 use lib.ListN.{length}
-use borrow.Author.Tests.{ne-eqb, lt-leb, eqb-true}
+use borrow.Author.Tests.{ne-eqb, eqb-true}
 use Rattle.lex.specs.Classes.{NAME, HEX, DECIMAL, BAD}
 use Rattle.lex.specs.Tokens.{tokenAt}
 use Rattle.ll1.specs.Trees.{Token, token, Trees, nil, leaf, node, leaves, Symbol, alternativeOf, Fits, fits-nil, fits-leaf, fits-node, Depth}
@@ -27,9 +27,9 @@ use Rattle.grammar.specs.Ranges.{Range, free, keeps, outOfRange}
 use Rattle.phrases.specs.Stream.{stream}
 use Rattle.phrases.specs.Marks.{marked, outOf}
 use Rattle.phrases.specs.Entries.{entries}
-use Rattle.phrases.specs.Elements.{ID, REFERENCE, FLAG-LIST, MAYBE, startsOf, isKept, elementRange, elementEntry, referenceEntries, elementEntries}
+use Rattle.phrases.specs.Elements.{REFERENCE, FLAG-LIST, MAYBE, startsOf, isKept, elementRange, elementEntry, referenceEntries, elementEntries}
 use Rattle.phrases.specs.Phrase.{Reader, withEntries, refusing, taking, reading}
-use Rattle.phrases.proofs.ElementLaws.{starts-word}
+use Rattle.phrases.proofs.ElementLaws.{starts-word, not-kept}
 use Rattle.phrases.proofs.Streams.{stream-on, within-at}
 use Rattle.phrases.proofs.Keeping.{marked-none}
 use Rattle.phrases.proofs.Resume.{resume-on, resume-no, refused-here}
@@ -145,9 +145,6 @@ member-one j k h = by (either (eqb k j) false h)
 
 member-other : (j k : ℕ) → member j (k ∷ []) ≡ false → eqb k j ≡ false
 member-other j k h = either-way (eqb k j) (λ q. let z : member j (k ∷ []) ≡ true = rw q in clash cc) (λ q. q)
-
-not-kept : (k : ℕ) → k < NAME → isKept k ≡ false
-not-kept k h = rw (ne-eqb k NAME (λ e. omega arith)) (lt-leb ID k (omega arith))
 
 pub word : (k : ℕ) → k < NAME → Element (t k) k
 unfolding reading taking withEntries keeps

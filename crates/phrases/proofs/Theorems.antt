@@ -3,23 +3,26 @@
 use Prim.Native.Nat.{ℕ, _≤_, _<_}
 use mathlib.Core.Path.{_≡_, refl, sym, ap, _∙_, subst}
 use mathlib.Core.Bool.{true}
-use mathlib.Core.List.{List, []}
+use mathlib.Core.List.{List, [], _++_}
+use mathlib.Core.Logic.{_≢_}
 use native.Mathlib.Omega.{arith}
 use lib.ListN.{List·getD-eq-default}
 use Rattle.lex.specs.declared.Token.{Token}
 use Rattle.ll1.specs.Trees.{Symbol}
+use Rattle.ll1.specs.Machine.{dueAll}
 use Rattle.phrases.specs.declared.Cursor.{Cursor}
 use Rattle.phrases.specs.Entries.{entries}
-use Rattle.phrases.specs.Phrase.{Kept, reader, starting, phraseFrom}
+use Rattle.phrases.specs.Phrase.{Kept, reader, starting, skipping, phraseFrom}
 use Rattle.phrases.specs.Symbols.{GROUP-CLOSE, phraseSymbols, symbolsOf}
 use Rattle.phrases.specs.Passed.{KEPT, Passed}
 use Rattle.phrases.proofs.Keeping.{kept-written}
+use Rattle.phrases.proofs.Resume.{resume-off}
 use Rattle.phrases.proofs.Pieces.{Many}
 use Rattle.phrases.proofs.Spelling.{widths, Spells, spells-nil, ran}
 use Rattle.phrases.proofs.Spelled.{spells?, spelled, has-room}
 
-module _ {s : List ℕ} {α : List Symbol} {n : ℕ} {t : Token} {bad : ℕ} {l : List ℕ} {c : Cursor} {l′ : List ℕ} where
-  passed : {w : ℕ} → w ≤ KEPT → Many s α w (starting n t bad l) (reader c l′) → Passed s α n t bad l c l′
+module _ {s : List ℕ} {α : List Symbol} {t : Token} {bad : ℕ} {l : List ℕ} {c : Cursor} {l′ : List ℕ} where
+  passed : {w : ℕ} → w ≤ KEPT → Many s α w (starting t bad l) (reader c l′) → Passed s α 0 t bad l c l′
   passed h m =
       record {
         verdict = m .verdict;
@@ -37,21 +40,30 @@ module _ {s : List ℕ} {α : List Symbol} {n : ℕ} {t : Token} {bad : ℕ} {l 
         within = m .within;
       }
 
-  pub read-spelled : {p : List ℕ} → Spells α p [] → widths p ≤ KEPT → reader c l′ ≡ phraseFrom s p (starting n t bad l) → Passed s α n t bad l c l′
+  pub read-spelled : {p : List ℕ} → Spells α p [] → widths p ≤ KEPT → reader c l′ ≡ phraseFrom s p (starting t bad l) → Passed s α 0 t bad l c l′
   unfolding phraseFrom
   read-spelled w room e =
-      let o = ran s w (starting n t bad l) refl in
+      let o = ran s w (starting t bad l) refl in
       let f = o .few in
-      passed (omega arith) (subst (Many s α (o .most) (starting n t bad l)) (sym (e ∙ o .same)) (o .many))
+      passed (omega arith) (subst (Many s α (o .most) (starting t bad l)) (sym (e ∙ (o .same ∙ ap (skipping (o .to)) (sym (o .many .skip))))) (o .many))
+
+-- a refusal is handed on
+pub handed-on : {s : List ℕ} {α : List Symbol} {n : ℕ} {t : Token} {bad : ℕ} {l : List ℕ} → n ≢ 0 → Passed s α n t bad l (record { no = n; token = t; bad = bad; count = 0 }) l
+handed-on {s} {α} {n} {t} h =
+    record {
+      verdict = λ σ d o. resume-off s (dueAll d α ++ σ) σ n t h;
+      got = λ q. absurd (h q);
+      within = λ w. w;
+    }
 
 -- ---- phrases by number
 
-module _ {s : List ℕ} {k n : ℕ} {t : Token} {bad : ℕ} {l : List ℕ} where
+module _ {s : List ℕ} {k : ℕ} {t : Token} {bad : ℕ} {l : List ℕ} where
   -- the phrase j, by the test of its pattern p against its symbols
-  pub read-tested : (j : ℕ) → k ≡ j → (p : List ℕ) → spells? (symbolsOf j) p ≡ true → {c : Cursor} {l′ : List ℕ} → reader c l′ ≡ phraseFrom s p (starting n t bad l) → Passed s (symbolsOf k) n t bad l c l′
+  pub read-tested : (j : ℕ) → k ≡ j → (p : List ℕ) → spells? (symbolsOf j) p ≡ true → {c : Cursor} {l′ : List ℕ} → reader c l′ ≡ phraseFrom s p (starting t bad l) → Passed s (symbolsOf k) 0 t bad l c l′
   read-tested j q p h e = rw q (read-spelled (spelled (symbolsOf j) p h) (has-room (symbolsOf j) p h) e)
 
   -- a number that no phrase has
-  pub read-nothing : GROUP-CLOSE < k → Passed s (symbolsOf k) n t bad l (record { no = n; token = t; bad = bad; skip = 0; count = 0 }) l
+  pub read-nothing : GROUP-CLOSE < k → Passed s (symbolsOf k) 0 t bad l (record { no = 0; token = t; bad = bad; count = 0 }) l
   unfolding symbolsOf phraseSymbols phraseFrom
   read-nothing h = rw (List·getD-eq-default phraseSymbols [] {n = k} h) (read-spelled spells-nil (omega arith) refl)

@@ -44,15 +44,27 @@ pub record Reader : Type 0 where
   pub kept : Kept
 
 abbrev pub reader : Cursor → List ℕ → Reader
-reader c l = record { no = c .no; token = c .token; bad = c .bad; skip = c .skip; kept = keptAt (c .count) l }
+reader c l = record { no = c .no; token = c .token; bad = c .bad; skip = 0; kept = keptAt (c .count) l }
+
+-- without a refusal, at an element that is not left out
+abbrev pub ready : Token → ℕ → Kept → Reader
+ready t bad k = record { no = 0; token = t; bad = bad; skip = 0; kept = k }
 
 -- at the first element
-abbrev pub starting : ℕ → Token → ℕ → List ℕ → Reader
-starting n t bad l = record { no = n; token = t; bad = bad; skip = 0; kept = keptAt 0 l }
+abbrev pub starting : Token → ℕ → List ℕ → Reader
+starting t bad l = ready t bad (keptAt 0 l)
 
 -- past the token, which keeps nothing
 abbrev pub passing : List ℕ → Reader → Reader
-passing s x = record { no = 0; token = tokenAt s (x .token .end); bad = x .bad; skip = 0; kept = x .kept }
+passing s x = ready (tokenAt s (x .token .end)) (x .bad) (x .kept)
+
+-- past the last token of an element; a refusal stays
+abbrev pub onward : List ℕ → Reader → Reader
+onward s x = cond (eqb (x .no) 0) (passing s x) x
+
+-- with n elements to leave out
+abbrev pub skipping : Reader → ℕ → Reader
+skipping x n = record { no = x .no; token = x .token; bad = x .bad; skip = n; kept = x .kept }
 
 -- refused at the token: No. 3
 abbrev pub refusing : Reader → Token → Reader
@@ -60,11 +72,11 @@ refusing x t = record { no = 3; token = t; bad = x .bad; skip = 0; kept = x .kep
 
 -- without the group that is left out
 abbrev pub leaving : Reader → Reader
-leaving x = record { no = 0; token = x .token; bad = x .bad; skip = GROUP; kept = withEntry (x .kept) 0 }
+leaving x = skipping (ready (x .token) (x .bad) (withEntry (x .kept) 0)) GROUP
 
 -- one element less to leave out
 abbrev pub leavingOne : Reader → Reader
-leavingOne x = record { no = x .no; token = x .token; bad = x .bad; skip = x .skip - 1; kept = x .kept }
+leavingOne x = skipping x (x .skip - 1)
 
 -- ---- elements of one token
 
@@ -72,13 +84,10 @@ leavingOne x = record { no = x .no; token = x .token; bad = x .bad; skip = x .sk
 unfoldable pub taking : List ℕ → Reader → ℕ → Reader
 taking s x e =
     cond (isKept e)
-    (record {
-      no = 0;
-      token = tokenAt s (x .token .end);
-      bad = marked (x .bad) (outOf s (elementRange e (x .token .class)) (x .token .start));
-      skip = 0;
-      kept = withEntries (x .kept) (elementEntries e (x .token .class) (x .token .start));
-    })
+    (ready
+    (tokenAt s (x .token .end))
+    (marked (x .bad) (outOf s (elementRange e (x .token .class)) (x .token .start)))
+    (withEntries (x .kept) (elementEntries e (x .token .class) (x .token .start))))
     (passing s x)
 
 -- ---- FL
@@ -90,7 +99,7 @@ flagsFrom (suc n) s x t w =
     let bar = tokenAt s (t .end) in
     let words = withWord w (t .class) in
     let more = flagsFrom n s x (tokenAt s (bar .end)) words in
-    let last : Reader = record { no = 0; token = bar; bad = x .bad; skip = 0; kept = withEntry (x .kept) (bitsOf words) } in
+    let last = ready bar (x .bad) (withEntry (x .kept) (bitsOf words)) in
     cond (member (t .class) flagWords) (cond (eqb (bar .class) «|») more last) (refusing x t)
 
 -- there are no more of them than tokens
@@ -99,20 +108,19 @@ takingFlags s x = flagsFrom (length (stream s (x .token))) s x (x .token) noWord
 
 -- ---- elements
 
+-- an element other than MAYBE
+abbrev pub fitting : List ℕ → Reader → ℕ → Reader
+fitting s x e = cond (member (x .token .class) (startsOf e)) (cond (eqb e FLAG-LIST) (takingFlags s x) (taking s x e)) (refusing x (x .token))
+
 -- an element that is not left out, with the element after it
 unfoldable pub reading : List ℕ → Reader → ℕ → ℕ → Reader
-reading s x e next =
-    cond (eqb e MAYBE)
-    (cond (eqb (x .token .class) next) x (leaving x))
-    (cond (member (x .token .class) (startsOf e))
-    (cond (eqb e FLAG-LIST) (takingFlags s x) (taking s x e))
-    (refusing x (x .token)))
+reading s x e next = cond (eqb e MAYBE) (cond (eqb (x .token .class) next) x (leaving x)) (fitting s x e)
 
 -- an element, with the one after it; a refusal is handed on
 unfoldable pub stepOf : List ℕ → Reader → ℕ → ℕ → Reader
 stepOf s x e next = cond (eqb (x .skip) 0) (cond (eqb (x .no) 0) (reading s x e next) x) (leavingOne x)
 
--- the phrase
+-- the phrase; a group is left out as far as there is one
 unfoldable pub phraseFrom : List ℕ → List ℕ → Reader → Reader
-phraseFrom s [] x = x
+phraseFrom s [] x = skipping x 0
 phraseFrom s (e ∷ p) x = phraseFrom s p (stepOf s x e (getD p 0 0))

@@ -1,5 +1,6 @@
 // The elements of a phrase, and what each asks of a token. Below the kinds here an element is a token of that class.
 ghost use mathlib.Core.Path.{_≡_};
+ghost use mathlib.Core.Bool.{_||_};
 ghost use Rattle.lex.specs.Numbers.{valueAt};
 ghost use Rattle.ll1.specs.ParseTable.{member};
 ghost use Rattle.grammar.specs.Ranges.{within, keeps};
@@ -84,6 +85,16 @@ fn is_between(src: &[u8], at: usize, low: u64, high: u64) -> bool
     }
 }
 
+// A word stands in the number's place, or the number lies between two others.
+fn word_or_between(src: &[u8], at: usize, word: bool, low: u64, high: u64) -> bool
+    ensures { λ r. ⌜ r ≡ (word || within low high (valueAt (now (src .entry)) at)) ⌝ }
+{
+    if word {
+        return true;
+    }
+    is_between(src, at, low, high)
+}
+
 // The token, which suits the element, keeps the element's range.
 pub fn in_range(src: &[u8], token: Token, want: u8) -> bool
     ensures { λ r. ⌜ r ≡ keeps (now (src .entry)) (elementRange want (token .class)) (token .start) ⌝ }
@@ -93,8 +104,8 @@ pub fn in_range(src: &[u8], token: Token, want: u8) -> bool
         ID => is_between(src, at, 1, 65535),
         SMALL => is_between(src, at, 0, 65535),
         LARGE => is_between(src, at, 0, 18446744073709551615),
-        OPTION_FLAGS => (token.class == DEFAULT) | is_between(src, at, 0, 0),
-        REFERENCE => (token.class == NAME) | is_between(src, at, 1, 65535),
+        OPTION_FLAGS => word_or_between(src, at, token.class == DEFAULT, 0, 0),
+        REFERENCE => word_or_between(src, at, token.class == NAME, 1, 65535),
         H8 => lex::values::digits_at(src, at) <= 8,
         H4 => lex::values::digits_at(src, at) <= 4,
         H2 => lex::values::digits_at(src, at) <= 2,

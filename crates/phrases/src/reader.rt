@@ -6,7 +6,7 @@ ghost use lib.ListN.{getD};
 ghost use Rattle.phrases.specs.Stream.{Within};
 ghost use Rattle.phrases.specs.Marks.{marked, outOf};
 ghost use Rattle.phrases.specs.Elements.{isKept, elementRange};
-ghost use Rattle.phrases.specs.Phrase.{reader, starting, taking, takingFlags, reading, stepOf, phraseFrom};
+ghost use Rattle.phrases.specs.Phrase.{reader, starting, onward, taking, takingFlags, fitting, phraseFrom};
 use crate::Cursor;
 use crate::SYNTAX;
 use crate::elements::*;
@@ -14,6 +14,7 @@ use crate::flags;
 use crate::flags::Words;
 use crate::kept;
 use crate::kept::keep;
+use crate::standing;
 use lex::Token;
 use lex::classes::*;
 
@@ -31,37 +32,29 @@ fn fault(src: &[u8], bad: usize, token: Token, want: u8) -> usize
     token.start + 1
 }
 
-// The cursor's token, which suits the element, is taken.
+// The cursor's token, which suits the element, is the element.
 fn take_token(src: &[u8], c: Cursor, kept: &mut [u64], want: u8) -> Cursor
     requires { ⌜ (isKept want ≡ true → c .token .start + 1 < 2 ^ 64) ⌝ }
-    ensures { λ r. ⌜ reader r (now (kept .exit)) ≡ taking (now (src .entry)) (reader c (now (kept .entry))) want ⌝ }
+    ensures { λ r. ⌜ onward (now (src .entry)) (reader r (now (kept .exit))) ≡ taking (now (src .entry)) (reader c (now (kept .entry))) want ⌝ }
 {
-    let token = c.token;
-    let next = lex::token_at(src, token.end);
+    // Field by field, so that no padding is copied.
+    let token = Token {
+        class: c.token.class,
+        start: c.token.start,
+        end: c.token.end,
+    };
     // Of a sign or a reserved word nothing is kept.
     if (want == NAME) | (ID <= want) {
         let bad = fault(src, c.bad, token, want);
         let count = kept::keep_element(kept, c.count, want, token);
-        return Cursor {
-            no: 0,
-            token: next,
-            bad,
-            skip: 0,
-            count,
-        };
+        return standing(0, token, bad, count);
     }
-    Cursor {
-        no: 0,
-        token: next,
-        bad: c.bad,
-        skip: 0,
-        count: c.count,
-    }
+    standing(0, token, c.bad, c.count)
 }
 
-// The flag words from the cursor's token on; the sum of their bits is kept.
+// The flag words from the cursor's token on: the cursor at the last of them, or the refusal. The sum of their bits is kept.
 fn take_flags(src: &[u8], c: Cursor, kept: &mut [u64]) -> Cursor
-    ensures { λ r. ⌜ reader r (now (kept .exit)) ≡ takingFlags (now (src .entry)) (reader c (now (kept .entry))) ⌝ }
+    ensures { λ r. ⌜ onward (now (src .entry)) (reader r (now (kept .exit))) ≡ takingFlags (now (src .entry)) (reader c (now (kept .entry))) ⌝ }
 {
     let mut word = c.token;
     let mut words = Words {
@@ -71,84 +64,31 @@ fn take_flags(src: &[u8], c: Cursor, kept: &mut [u64]) -> Cursor
     };
     loop {
         if !is_flag(word.class) {
-            return Cursor {
-                no: SYNTAX,
-                token: word,
-                bad: c.bad,
-                skip: 0,
-                count: c.count,
-            };
+            return standing(SYNTAX, word, c.bad, c.count);
         }
         words = flags::with_word(words, word.class);
         let bar = lex::token_at(src, word.end);
         if bar.class != BAR {
             let count = keep(kept, c.count, flags::bits_of(words));
-            return Cursor {
-                no: 0,
-                token: bar,
-                bad: c.bad,
-                skip: 0,
-                count,
-            };
+            return standing(0, word, c.bad, count);
         }
         word = lex::token_at(src, bar.end);
     }
 }
 
-// An element that is not left out, with the element after it.
-fn read_element(src: &[u8], c: Cursor, kept: &mut [u64], want: u8, next: u8) -> Cursor
+// An element other than MAYBE, from the cursor's token on: the cursor at the element's last token, or the refusal.
+fn read_element(src: &[u8], c: Cursor, kept: &mut [u64], want: u8) -> Cursor
     requires { ⌜ Within (now src) (c .token) ⌝ }
-    ensures { λ r. ⌜ reader r (now (kept .exit)) ≡ reading (now (src .entry)) (reader c (now (kept .entry))) want next ⌝ }
+    ensures { λ r. ⌜ onward (now (src .entry)) (reader r (now (kept .exit))) ≡ fitting (now (src .entry)) (reader c (now (kept .entry))) want ⌝ }
 {
     let token = c.token;
-    if want == MAYBE {
-        if token.class == next {
-            return c;
-        }
-        let count = keep(kept, c.count, 0);
-        return Cursor {
-            no: 0,
-            token,
-            bad: c.bad,
-            skip: GROUP,
-            count,
-        };
-    }
     if !suits(want, token.class) {
-        return Cursor {
-            no: SYNTAX,
-            token,
-            bad: c.bad,
-            skip: 0,
-            count: c.count,
-        };
+        return standing(SYNTAX, token, c.bad, c.count);
     }
     if want == FLAG_LIST {
         return take_flags(src, c, kept);
     }
     take_token(src, c, kept, want)
-}
-
-// One element of a phrase, with the element after it.
-fn step(src: &[u8], c: Cursor, kept: &mut [u64], want: u8, next: u8) -> Cursor
-    requires { ⌜ Within (now src) (c .token) ⌝ }
-    ensures { λ r. ⌜ reader r (now (kept .exit)) ≡ stepOf (now (src .entry)) (reader c (now (kept .entry))) want next ⌝ }
-{
-    let token = c.token;
-    let skip = c.skip;
-    if skip != 0 {
-        return Cursor {
-            no: c.no,
-            token,
-            bad: c.bad,
-            skip: skip - 1,
-            count: c.count,
-        };
-    }
-    if c.no != 0 {
-        return c;
-    }
-    read_element(src, c, kept, want, next)
 }
 
 fn element_at(pattern: &[u8], k: usize) -> u8
@@ -157,29 +97,47 @@ fn element_at(pattern: &[u8], k: usize) -> u8
     if k < pattern.len() { pattern[k] } else { 0 }
 }
 
-// Reads a phrase from a token on, where `no` is 0; hands a refusal on. Its entries are kept from the first one on.
+// Reads a phrase from a token on. Its entries are kept from the first one on.
 pub fn read_phrase(
     src: &[u8],
-    no: u64,
-    token: Token,
-    bad: usize,
+    first: Token,
+    mark: usize,
     pattern: &[u8],
     kept: &mut [u64],
 ) -> Cursor
-    requires { ⌜ Within (now src) token ⌝ }
-    ensures { λ r. ⌜ reader r (now (kept .exit)) ≡ phraseFrom (now (src .entry)) (now (pattern .entry)) (starting no token bad (now (kept .entry))) ⌝ }
+    requires { ⌜ Within (now src) first ⌝ }
+    ensures { λ r. ⌜ reader r (now (kept .exit)) ≡ phraseFrom (now (src .entry)) (now (pattern .entry)) (starting first mark (now (kept .entry))) ⌝ }
 {
-    let mut c = Cursor {
-        no,
-        token,
-        bad,
-        skip: 0,
-        count: 0,
-    };
+    let mut token = first;
+    let mut bad = mark;
+    let mut count = 0;
     let mut k = 0;
     while k < pattern.len() {
-        c = step(src, c, kept, pattern[k], element_at(pattern, k + 1));
-        k += 1;
+        let want = pattern[k];
+        if want < NAME {
+            // A sign or a reserved word.
+            if token.class != want {
+                return standing(SYNTAX, token, bad, count);
+            }
+            token = lex::token_at(src, token.end);
+            k += 1;
+        } else if want == MAYBE {
+            if token.class == element_at(pattern, k + 1) {
+                k += 1;
+            } else {
+                count = keep(kept, count, 0);
+                k += 1 + GROUP;
+            }
+        } else {
+            let c = read_element(src, standing(0, token, bad, count), kept, want);
+            if c.no != 0 {
+                return c;
+            }
+            bad = c.bad;
+            count = c.count;
+            token = lex::token_at(src, c.token.end);
+            k += 1;
+        }
     }
-    c
+    standing(0, token, bad, count)
 }

@@ -65,6 +65,22 @@ digits-length (suc k) (suc m) n later h =
     either-less n 10 (λ d. rw (digits-last m n later d) (omega arith))
     (λ d. rw (digits-next m n later d) (let q = digits-length k m (n / 10) ((48 + n % 10) ∷ later) (omega (arith, pow-succ' 10 (suc k))) in omega arith))
 
+-- of a number below 10, 100, 1000, 10000
+more-digits : (n c : ℕ) (later : List ℕ) → 10 ≤ n → ((l : List ℕ) → length (decimalDigits (suc (n / 10)) (n / 10) l) ≡ c + length l) → length (decimalDigits (suc n) n later) ≡ suc c + length later
+more-digits n c later h f = let q = f ((48 + n % 10) ∷ later) in rw (digits-step n later h) (omega (arith, q))
+
+pub one-digit : (n : ℕ) (later : List ℕ) → n < 10 → length (decimalDigits (suc n) n later) ≡ 1 + length later
+one-digit n later h = rw (digits-last n n later h) (omega arith)
+
+pub two-digits : (n : ℕ) (later : List ℕ) → 10 ≤ n → n < 100 → length (decimalDigits (suc n) n later) ≡ 2 + length later
+two-digits n later h g = more-digits n 1 later h (λ l. one-digit (n / 10) l (omega arith))
+
+pub three-digits : (n : ℕ) (later : List ℕ) → 100 ≤ n → n < 1000 → length (decimalDigits (suc n) n later) ≡ 3 + length later
+three-digits n later h g = more-digits n 2 later (omega arith) (λ l. two-digits (n / 10) l (omega arith) (omega arith))
+
+pub four-digits : (n : ℕ) (later : List ℕ) → 1000 ≤ n → n < 10000 → length (decimalDigits (suc n) n later) ≡ 4 + length later
+four-digits n later h g = more-digits n 3 later (omega arith) (λ l. three-digits (n / 10) l (omega arith) (omega arith))
+
 pub digits-few : (n : ℕ) → n < 2 ^ 64 → length (decimalDigits (suc n) n []) ≤ 20
 digits-few n h = omega (arith, digits-length 19 (suc n) n [] (omega arith))
 

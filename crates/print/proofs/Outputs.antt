@@ -11,11 +11,11 @@ use Rattle.print.specs.Output.{MOST, Puts, PutsBefore, Prints, PrintsBef
 
 -- ---- runs of stores
 
-sets-append : (o : List ℕ) (i : ℕ) (xs ys : List ℕ) → sets o i (xs ++ ys) ≡ sets (sets o i xs) (i + length xs) ys
+pub sets-append : (o : List ℕ) (i : ℕ) (xs ys : List ℕ) → sets o i (xs ++ ys) ≡ sets (sets o i xs) (i + length xs) ys
 sets-append o i [] ys = ap (λ (k : ℕ). sets o k ys) (omega arith)
 sets-append o i (x ∷ xs) ys = sets-append (set o i x) (suc i) xs ys ∙ ap (λ (k : ℕ). sets (sets (set o i x) (suc i) xs) k ys) (omega arith)
 
-set-sets : (o : List ℕ) (i j x : ℕ) (ys : List ℕ) → i < j → sets (set o i x) j ys ≡ set (sets o j ys) i x
+pub set-sets : (o : List ℕ) (i j x : ℕ) (ys : List ℕ) → i < j → sets (set o i x) j ys ≡ set (sets o j ys) i x
 set-sets o i j x [] h = refl
 set-sets o i j x (y ∷ ys) h =
     ap (λ (l : List ℕ). sets l (suc j) ys) (set-comm o i j x y (λ e. omega arith)) ∙ set-sets (set o j y) i (suc j) x ys (omega arith)

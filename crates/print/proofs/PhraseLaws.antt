@@ -1,6 +1,6 @@
 -- One element of a phrase after another.
 -- Assumes nothing.
-use Prim.Native.Nat.{ℕ, suc, _+_, _-_, _/_, _%_, _^_, _≤_, _<_}
+use Prim.Native.Nat.{ℕ, zero, suc, _+_, _-_, _/_, _%_, _^_, _≤_, _<_}
 use native.Mathlib.Numerals.{add-one}
 use native.Mathlib.Omega.{arith}
 use mathlib.Core.Path.{_≡_, refl, sym, ap, _∙_}
@@ -8,16 +8,16 @@ use mathlib.Core.Bool.{Bool, true, false, cond, _&&_, _||_}
 use mathlib.Core.List.{List, [], _∷_, _++_}
 use lib.Dec.{eqb}
 use lib.ListN.{length, getD, drop, List·getD-eq-default, drop-of-length-le}
-use lib.Seq.{drop-cons, getD-drop}
+use lib.Seq.{drop-cons, drop-drop, getD-drop}
 use borrow.Author.Tests.{ne-eqb, lt-ltb, le-ltb}
 use Rattle.lex.specs.Classes.{«|», «READ_ONLY», «INTERACTIVE», «RESET_REQUIRED», «TRUE», «FALSE», NAME}
 use Rattle.lex.specs.Lexemes.{lexemes, signs, reserved}
-use Rattle.phrases.specs.Elements.{MAYBE}
+use Rattle.phrases.specs.Elements.{MAYBE, GROUP}
 use Rattle.grammar.specs.Text.{Word, lexeme, decimal, flagList, truth, textOf}
 use Rattle.print.specs.declared.phrase.Progress.{Progress}
 use Rattle.print.specs.Output.{Prints}
 use Rattle.print.specs.Phrase.{flagWords, elementWords, shownBy, anyFlag, hasDefault, valueFrom, oneMore, added, skipAfter, passedAfter, phraseFrom, shownIn, elementIn}
-use Rattle.print.specs.Steps.{Entered, Stepped}
+use Rattle.print.specs.Steps.{leftOf, Entered, Stepped}
 use Rattle.print.proofs.Outputs.{prints-none, prints-then, text-append}
 
 -- the same words
@@ -85,49 +85,67 @@ last-byte r s h =
 
 -- ---- steps
 
-module _ (sources r : List ℕ) (e next : ℕ) (o : List ℕ) (p : Progress) where
-  pub step-left : (p .skip ≡ 0 → ⊥) → Stepped sources r e next o p o (record { at = p .at; skip = p .skip - 1; passed = p .passed })
-  unfolding added skipAfter passedAfter
-  step-left h = let q = ne-eqb (p .skip) 0 h in record { prints = rw q (prints-none o (p .at)); skip = rw q; passed = rw q }
+module _ (shown : ℕ → Bool) (element : ℕ → ℕ → List Word) where
+  -- elements that are left out
+  phrase-skips : (s passed : ℕ) (l : List ℕ) → phraseFrom shown element l s passed ≡ phraseFrom shown element (drop s l) 0 passed
+  unfolding phraseFrom added skipAfter passedAfter
+  phrase-skips zero passed l = refl
+  phrase-skips (suc s) passed [] = refl
+  phrase-skips (suc s) passed (e ∷ l) = let one : suc s - 1 ≡ s = omega arith in rw (ne-eqb (suc s) 0 (λ z. omega arith), one) (phrase-skips s passed l)
 
-  module _ (z : p .skip ≡ 0) where
-    pub step-group : {q : Progress} {shown : Bool} {set : ℕ} → e ≡ MAYBE → set ≡ getD r 5 0 → shown ≡ shownBy (anyFlag set) (hasDefault set) next → Entered shown p q → Stepped sources r e next o p o q
-    unfolding added skipAfter passedAfter
-    step-group m f g h =
-        record {
-          prints = rw (z, m, h .place) (prints-none o (p .at));
-          skip = h .skip z ∙ rw (z, m, g, f);
-          passed = h .passed ∙ rw (z, m, g, f);
-        }
+module _ (sources r pattern o o′ : List ℕ) (p q : Progress) (h : p .next < length pattern) where
+  abbrev here : ℕ
+  here = getD pattern (p .next) 0
 
-    module _ (n : e ≡ MAYBE → ⊥) {o′ : List ℕ} {q : Progress} (s : q .skip ≡ 0) where
-      pub step-word : e < NAME → Prints o (p .at) (lexeme e) o′ (q .at) → q .passed ≡ p .passed → Stepped sources r e next o p o′ q
-      unfolding added skipAfter passedAfter
-      step-word l g k =
-          let m = ne-eqb e MAYBE n in
-          let b = lt-ltb e NAME l in
-          record { prints = rw (z, m, b) g; skip = s ∙ rw (z, m); passed = k ∙ rw (z, m, b) }
+  pub step-word : here < NAME → q .next ≡ p .next + 1 → q .passed ≡ p .passed → Prints o (p .at) (lexeme here) o′ (q .at) → Stepped sources r pattern o p o′ q
+  unfolding leftOf phraseFrom added skipAfter passedAfter
+  step-word l n k g =
+      let m = ne-eqb here MAYBE (λ e. omega arith) in
+      record { added = lexeme here; prints = g; left = rw (drop-cons pattern (p .next) 0 h, m, lt-ltb here NAME l, n, add-one (p .next), k); further = omega arith }
 
-      pub step-element : {source v : ℕ} → NAME ≤ e → source ≡ getD sources (p .passed) 0 → v ≡ valueFrom r source → Prints o (p .at) (elementWords e v) o′ (q .at) → q .passed ≡ oneMore (p .passed) → Stepped sources r e next o p o′ q
-      unfolding added skipAfter passedAfter
-      step-element l f v g k =
-          let m = ne-eqb e MAYBE n in
-          let b = le-ltb e NAME l in
-          record { prints = rw (z, m, b, ← f, ← v) g; skip = s ∙ rw (z, m); passed = k ∙ rw (z, m, b) }
+  pub step-element : {source v : ℕ} → NAME ≤ here → (here ≡ MAYBE → ⊥) → source ≡ getD sources (p .passed) 0 → v ≡ valueFrom r source → q .next ≡ p .next + 1 → q .passed ≡ oneMore (p .passed) → Prints o (p .at) (elementWords here v) o′ (q .at) → Stepped sources r pattern o p o′ q
+  unfolding leftOf phraseFrom added skipAfter passedAfter
+  step-element {v = v} l a f w n k g =
+      let m = ne-eqb here MAYBE a in
+      record { added = elementWords here v; prints = g; left = rw (drop-cons pattern (p .next) 0 h, m, le-ltb here NAME l, n, add-one (p .next), k, w, f); further = omega arith }
+
+-- a group is printed, or left out
+module _ (r pattern : List ℕ) (p q : Progress) (h : p .next < length pattern) (e : getD pattern (p .next) 0 ≡ MAYBE) (a : q .at ≡ p .at) where
+  abbrev fate : Bool
+  fate = shownIn r (getD pattern (p .next + 1) 0)
+
+  after-maybe : (sources : List ℕ) → leftOf sources r pattern p
+      ≡ phraseFrom (shownIn r) (elementIn sources r) (drop (suc (p .next)) pattern) (cond fate 0 GROUP) (cond fate (p .passed) (oneMore (p .passed)))
+  unfolding leftOf phraseFrom added skipAfter passedAfter
+  after-maybe sources =
+      let m : getD (drop (suc (p .next)) pattern) 0 0 ≡ getD pattern (p .next + 1) 0 = rw (getD-drop (suc (p .next)) pattern 0 0) (ap (λ (j : ℕ). getD pattern j 0) (omega arith)) in
+      rw (drop-cons pattern (p .next) 0 h, e, m)
+
+  entered : (p .next < q .next) → ((sources : List ℕ) → leftOf sources r pattern p ≡ leftOf sources r pattern q) → Entered r pattern p q
+  entered f l = record { steps = λ sources o. record { added = []; prints = rw a (prints-none o (p .at)); left = l sources; further = f } }
+
+  module _ {shown : Bool} {set w : ℕ} (f : set ≡ getD r 5 0) (g : w ≡ getD pattern (p .next + 1) 0) (s : shown ≡ shownBy (anyFlag set) (hasDefault set) w) where
+    fate-is : fate ≡ shown
+    fate-is = sym (s ∙ rw (f, g))
+
+    pub group-in : shown ≡ true → q .next ≡ p .next + 1 → q .passed ≡ p .passed → Entered r pattern p q
+    unfolding leftOf
+    group-in t n k = let b = fate-is ∙ t in entered (omega arith) (λ sources. after-maybe sources ∙ rw (b, n, k, add-one (p .next)))
+
+    pub group-out : shown ≡ false → q .next ≡ p .next + 1 + GROUP → q .passed ≡ oneMore (p .passed) → Entered r pattern p q
+    unfolding leftOf
+    group-out t n k =
+        let b = fate-is ∙ t in
+        let e : suc (p .next) + GROUP ≡ q .next = omega arith in
+        let d : drop GROUP (drop (suc (p .next)) pattern) ≡ drop (q .next) pattern = drop-drop GROUP (suc (p .next)) pattern ∙ rw e in
+        entered (omega arith) (λ sources. after-maybe sources ∙ rw (b, k, ← d) (phrase-skips (shownIn r) (elementIn sources r) GROUP (oneMore (p .passed)) (drop (suc (p .next)) pattern)))
 
 -- ---- the loop over a pattern
 
 module _ (sources r pattern : List ℕ) where
-  abbrev pub left : ℕ → Progress → List ℕ
-  left k p = textOf (phraseFrom (shownIn r) (elementIn sources r) (drop k pattern) (p .skip) (p .passed))
+  pub phrase-next : {o o′ : List ℕ} {p q : Progress} (s : Stepped sources r pattern o p o′ q) → textOf (leftOf sources r pattern p) ≡ textOf (s .added) ++ textOf (leftOf sources r pattern q)
+  phrase-next {q = q} s = rw (s .left) (text-append (s .added) (leftOf sources r pattern q))
 
-  pub phrase-next : {k next : ℕ} {o o′ : List ℕ} {p q : Progress} → k < length pattern → next ≡ getD pattern (k + 1) 0 → Stepped sources r (getD pattern k 0) next o p o′ q
-      → left k p ≡ textOf (added (shownIn r) (elementIn sources r) (p .skip) (p .passed) (getD pattern k 0)) ++ left (k + 1) q
-  unfolding phraseFrom
-  phrase-next {k} {next} {p = p} {q = q} h n s =
-      let m : getD (drop (suc k) pattern) 0 0 ≡ next = rw (getD-drop (suc k) pattern 0 0) (ap (λ (j : ℕ). getD pattern j 0) (omega arith) ∙ sym n) in
-      rw (drop-cons pattern k 0 h, add-one k, m, ← s .skip, ← s .passed) (text-append _ _)
-
-  pub phrase-end : (k : ℕ) (p : Progress) → length pattern ≤ k → left k p ≡ []
-  unfolding phraseFrom textOf
-  phrase-end k p h = rw (drop-of-length-le pattern h)
+  pub phrase-end : (p : Progress) → length pattern ≤ p .next → textOf (leftOf sources r pattern p) ≡ []
+  unfolding leftOf phraseFrom textOf
+  phrase-end p h = rw (drop-of-length-le pattern h)

@@ -10,6 +10,7 @@ use borrow.Author.Tests.{ne-eqb, eqb-true}
 use Rattle.lex.specs.Lexemes.{lexemes, signs, reserved}
 use Rattle.rows.specs.Columns as column
 use Rattle.rows.specs.Flags as flag
+use Rattle.phrases.specs.Elements.{LARGE}
 use Rattle.grammar.specs.Text as text
 use Rattle.rows.specs.Codes.{member, questions, isQuestion}
 use Rattle.grammar.specs.Text.{Word, words, decimal, decimalDigits, head, flagList, framed, Phrase, _prints_, opening, phraseAmong}
@@ -309,6 +310,6 @@ module _ (r : List ℕ) where
   unfolding operandWords
   operand-rule e = rule-ref-words r ∙ sym (rw e)
 
-  pub operand-number : (kind r ≡ 64 → ⊥) → (kind r ≡ 63 → ⊥) → decimal (getD r column.A 0) ≡ operandWords r
-  unfolding operandWords
+  pub operand-number : (kind r ≡ 64 → ⊥) → (kind r ≡ 63 → ⊥) → elementWords LARGE (getD r column.A 0) ≡ operandWords r
+  unfolding operandWords elementWords
   operand-number h l = sym (rw (ne-eqb (kind r) 64 h, ne-eqb (kind r) 63 l))

@@ -1,29 +1,33 @@
--- Words as numbers: the bytes of a number are its digits to the base 256, the lowest first.
+-- Short texts as numbers: their bytes are digits to the base 256, the lowest first.
 -- Assumes nothing.
-use Prim.Native.Nat.{ℕ, zero, suc, _+_, _*_, _/_, _%_}
+use Prim.Native.Nat.{ℕ, zero, suc, _+_, _-_, _/_, _%_, _≤_}
+use mathlib.Core.Path.{_≡_}
 use mathlib.Core.Bool.{cond}
-use mathlib.Core.List.{List, [], _∷_}
-use lib.Dec.{eqb}
-use lib.ListN.{getD, take, drop}
-use Rattle.lex.specs.Lexemes.{lexemes}
+use mathlib.Core.List.{List, [], _∷_, _++_}
+use lib.Dec.{ltb}
+use lib.ListN.{length}
+use lib.Seq.{sets}
+use Rattle.print.specs.declared.texts.Spelling.{Spelling}
 
--- the number of some bytes
-unfoldable pub packed : List ℕ → ℕ
-packed [] = 0
-packed (b ∷ bs) = b + 256 * packed bs
+-- the lowest bytes of a number, so many
+unfoldable pub lowBytes : ℕ → ℕ → List ℕ
+lowBytes zero n = []
+lowBytes (suc m) n = n % 256 ∷ lowBytes m (n / 256)
 
--- the bytes of a number up to its highest one, no more than the first number
-unfoldable pub bytesUpTo : ℕ → ℕ → List ℕ
-bytesUpTo zero n = []
-bytesUpTo (suc m) n = let more = n % 256 ∷ bytesUpTo m (n / 256) in cond (eqb n 0) [] more
+-- how many of a text's bytes each of its two numbers has
+unfoldable pub part : ℕ → ℕ
+part n = cond (ltb n 4) 2 (cond (ltb n 9) 4 8)
 
--- all of them: a number has no more bytes than ones
-unfoldable pub bytesOf : ℕ → List ℕ
-bytesOf n = bytesUpTo n n
+-- the text of a spelling: the first number has its first bytes, the second its last ones
+unfoldable pub spelt : Spelling → List ℕ
+spelt s = lowBytes (s .2 - part (s .2)) (s .0) ++ lowBytes (part (s .2)) (s .1)
 
--- of a sign or a reserved word by its class: its first eight bytes, and those after them
-unfoldable pub firstBytes : ℕ → ℕ
-firstBytes k = packed (take 8 (getD lexemes k []))
+pub record Spells (text : List ℕ) (s : Spelling) : Type 0 where
+  pub same : spelt s ≡ text
+  pub least : 2 ≤ s .2
+  pub most : s .2 ≤ 15
 
-unfoldable pub lastBytes : ℕ → ℕ
-lastBytes k = packed (drop 8 (getD lexemes k []))
+-- bytes bs are written from the place `at` on, and end before r
+pub record Written (o : List ℕ) (at : ℕ) (bs o′ : List ℕ) (r : ℕ) : Type 0 where
+  pub stored : o′ ≡ sets o at bs
+  pub end : r ≡ at + length bs

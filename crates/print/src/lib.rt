@@ -7,4 +7,5 @@ mod shown;
 mod sources;
 mod spelling;
 pub mod statements;
+mod texts;
 pub mod words;

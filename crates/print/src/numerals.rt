@@ -32,6 +32,18 @@ fn put_digits_back(out: &mut [u8], end: usize, n: u64) -> usize
 fn digit_count(n: u64) -> usize
     ensures { λ r. ⌜ r ≡ length (decimalDigits (suc n) n []) ⌝ }
 {
+    if n < 10 {
+        return 1;
+    }
+    if n < 100 {
+        return 2;
+    }
+    if n < 1000 {
+        return 3;
+    }
+    if n < 10000 {
+        return 4;
+    }
     let mut none = [0u8; 0];
     start_of(MOST, put_digits_back(&mut none, MOST, n))
 }

@@ -9,17 +9,20 @@ use phrases::elements::MAYBE;
 use rows::cell;
 use rows::columns::FLAGS;
 ghost use mathlib.Core.Path.{_≡_};
-ghost use lib.ListN.{getD};
+ghost use Prim.Native.Nat.{_≤_, _<_};
+ghost use lib.ListN.{length, getD};
+ghost use Rattle.lex.specs.Classes.{NAME};
 ghost use Rattle.rows.specs.Table.{rowAt};
+ghost use Rattle.phrases.specs.Elements.{MAYBE};
 ghost use Rattle.print.specs.Output.{Prints};
 ghost use Rattle.print.specs.Phrase.{oneMore, phraseWords};
 ghost use Rattle.print.specs.Steps.{Stepped, Entered};
 
-// Where the printer of a phrase stands: the bytes so far, how many elements are left out still, how many of those
-// that have values it has passed.
+// Where the printer of a phrase stands: the bytes so far, the next element, how many of those that have values it has
+// passed.
 pub struct Progress {
     pub at: usize,
-    pub skip: usize,
+    pub next: usize,
     pub passed: usize,
 }
 
@@ -32,20 +35,6 @@ fn byte_at(list: &[u8], k: usize) -> u8
     if k < list.len() { list[k] } else { 0 }
 }
 
-// The four elements from the next one on are printed, or left out with their value.
-fn enter_group(p: Progress, shown: bool) -> Progress
-    ensures { λ r. ⌜ Entered «shown» p r ⌝ }
-{
-    if shown {
-        return p;
-    }
-    Progress {
-        at: p.at,
-        skip: GROUP,
-        passed: after_one(p.passed),
-    }
-}
-
 // One more.
 fn after_one(n: usize) -> usize
     ensures { λ r. ⌜ r ≡ oneMore n ⌝ }
@@ -56,60 +45,74 @@ fn after_one(n: usize) -> usize
     n
 }
 
-// An element that is not left out, with the element after it.
-fn print_element(
-    out: &mut [u8],
-    p: Progress,
-    want: u8,
-    next: u8,
-    sources: &[u8],
-    table: &[u64],
-    row: usize,
-) -> Progress
-    requires { ⌜ p .skip ≡ 0 ⌝ }
-    ensures { λ r. ⌜ Stepped (now (sources .entry)) (rowAt (now (table .entry)) row) want next (now (out .entry)) p (now (out .exit)) r ⌝ }
+// The four elements after MAYBE are printed, or left out with their value.
+fn enter_group(p: Progress, pattern: &[u8], table: &[u64], row: usize) -> Progress
+    requires { ⌜ (p .next < length (now pattern)) × (getD (now pattern) (p .next) 0 ≡ MAYBE) ⌝ }
+    ensures { λ r. ⌜ Entered (rowAt (now (table .entry)) row) (now (pattern .entry)) p r ⌝ }
 {
-    if want == MAYBE {
-        return enter_group(p, shows(next, cell(table, row, FLAGS)));
-    }
-    if want < NAME {
-        let at = put_word(out, p.at, want);
+    let next = p.next + 1;
+    if shows(byte_at(pattern, next), cell(table, row, FLAGS)) {
         return Progress {
-            at,
-            skip: 0,
+            at: p.at,
+            next,
             passed: p.passed,
         };
     }
-    let value = value_from(table, row, byte_at(sources, p.passed));
-    let at = put_element(out, p.at, want, value);
     Progress {
-        at,
-        skip: 0,
+        at: p.at,
+        next: next + GROUP,
         passed: after_one(p.passed),
     }
 }
 
-// One element of a phrase, with the element after it.
-fn step(
+// An element that is no sign and no reserved word.
+fn put_value(
     out: &mut [u8],
     p: Progress,
-    want: u8,
-    next: u8,
+    pattern: &[u8],
     sources: &[u8],
     table: &[u64],
     row: usize,
 ) -> Progress
-    ensures { λ r. ⌜ Stepped (now (sources .entry)) (rowAt (now (table .entry)) row) want next (now (out .entry)) p (now (out .exit)) r ⌝ }
+    requires { ⌜ (p .next < length (now pattern)) × (NAME ≤ getD (now pattern) (p .next) 0) × (getD (now pattern) (p .next) 0 ≡ MAYBE → ⊥) ⌝ }
+    ensures { λ r. ⌜ Stepped (now (sources .entry)) (rowAt (now (table .entry)) row) (now (pattern .entry)) (now (out .entry)) p (now (out .exit)) r ⌝ }
 {
-    let skip = p.skip;
-    if skip != 0 {
+    let k = p.next;
+    let value = value_from(table, row, byte_at(sources, p.passed));
+    let at = put_element(out, p.at, pattern[k], value);
+    Progress {
+        at,
+        next: k + 1,
+        passed: after_one(p.passed),
+    }
+}
+
+// The next element of a phrase.
+fn step(
+    out: &mut [u8],
+    p: Progress,
+    pattern: &[u8],
+    sources: &[u8],
+    table: &[u64],
+    row: usize,
+) -> Progress
+    requires { ⌜ p .next < length (now pattern) ⌝ }
+    ensures { λ r. ⌜ Stepped (now (sources .entry)) (rowAt (now (table .entry)) row) (now (pattern .entry)) (now (out .entry)) p (now (out .exit)) r ⌝ }
+{
+    let k = p.next;
+    let want = pattern[k];
+    if want < NAME {
+        let at = put_word(out, p.at, want);
         return Progress {
-            at: p.at,
-            skip: skip - 1,
+            at,
+            next: k + 1,
             passed: p.passed,
         };
     }
-    print_element(out, p, want, next, sources, table, row)
+    if want == MAYBE {
+        return enter_group(p, pattern, table, row);
+    }
+    put_value(out, p, pattern, sources, table, row)
 }
 
 // Prints a phrase from a row; `sources` are those of its elements' values.
@@ -125,21 +128,11 @@ pub fn put_phrase(
 {
     let mut p = Progress {
         at,
-        skip: 0,
+        next: 0,
         passed: 0,
     };
-    let mut k = 0;
-    while k < pattern.len() {
-        p = step(
-            out,
-            p,
-            pattern[k],
-            byte_at(pattern, k + 1),
-            sources,
-            table,
-            row,
-        );
-        k += 1;
+    while p.next < pattern.len() {
+        p = step(out, p, pattern, sources, table, row);
     }
     p.at
 }

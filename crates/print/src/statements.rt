@@ -1,9 +1,10 @@
 // The phrases of statements by the code of their row: how each opens and how it ends.
-use crate::numerals::put_decimal;
 use crate::phrase::put_phrase;
+use crate::shown::put_element;
 use crate::sources;
 use crate::words::put_word;
 use lex::classes::*;
+use phrases::elements::LARGE;
 use phrases::patterns;
 use rows::cell;
 use rows::codes;
@@ -140,7 +141,7 @@ fn put_operand_of(out: &mut [u8], at: usize, table: &[u64], row: usize, code: u6
             row,
         ),
         codes::RULE_REF => put_phrase(out, at, &patterns::RULE_REF, &sources::OPERAND, table, row),
-        _ => put_decimal(out, at, cell(table, row, A)),
+        _ => put_element(out, at, LARGE, cell(table, row, A)),
     }
 }
 

@@ -1,48 +1,50 @@
 // Signs and reserved words.
 use crate::bytes::put;
-use crate::spelling::first_bytes;
-use crate::spelling::last_bytes;
+use crate::bytes::start_of;
+use crate::spelling::spelling;
+use crate::texts::ROOM;
+use crate::texts::put_part;
+use crate::texts::write_text;
 use lex::classes::*;
 ghost use mathlib.Core.Path.{_≡_};
 ghost use mathlib.Core.Bool.{cond};
 ghost use mathlib.Core.List.{[]};
-ghost use lib.Dec.{eqb};
+ghost use Prim.Native.Nat.{_+_, _≤_, _<_};
 ghost use lib.ListN.{length};
-ghost use Rattle.lex.specs.Classes.{semicolon};
+ghost use Rattle.lex.specs.Classes.{NAME};
 ghost use Rattle.grammar.specs.Text.{lexeme, textOf};
-ghost use Rattle.print.specs.Output.{Puts, Prints};
-ghost use Rattle.print.specs.Spelling.{bytesOf};
+ghost use Rattle.print.specs.Output.{Prints};
+ghost use Rattle.print.specs.Spelling.{Written};
 
-// The bytes of a number up to its highest one, the lowest first.
-fn put_bytes(out: &mut [u8], at: usize, bytes: u64) -> usize
-    ensures { λ r. ⌜ Puts (now (out .entry)) at (bytesOf bytes) (now (out .exit)) r ⌝ }
+// Writes a sign or a reserved word with what stands after it; where it ends.
+fn write_word(out: &mut [u8], at: usize, class: u8) -> usize
+    requires { ⌜ (at + 16 ≤ length (now out)) × (class < NAME) ⌝ }
+    ensures { λ r. ⌜ Written (now (out .entry)) at (textOf (lexeme class)) (now (out .exit)) r ⌝ }
 {
-    let mut at = at;
-    let mut rest = bytes;
-    while rest != 0 {
-        at = put(out, at, (rest % 256) as u8);
-        rest = rest / 256;
-    }
-    at
+    write_text(out, at, spelling(class))
 }
 
-// What stands after a token: a line break after `;`, else a space.
-fn gap(class: u8) -> u8
-    ensures { λ r. ⌜ r ≡ cond (eqb class semicolon) 10 32 ⌝ }
+// The same where not all of it may fit.
+fn put_cut(out: &mut [u8], at: usize, class: u8) -> usize
+    requires { ⌜ class < NAME ⌝ }
+    ensures { λ r. ⌜ Prints (now (out .entry)) at (lexeme class) (now (out .exit)) r ⌝ }
 {
-    if class == SEMICOLON {
-        return b'\n';
-    }
-    b' '
+    let mut text = [0u8; ROOM];
+    let count = write_word(&mut text, 0, class);
+    put_part(out, at, &text, count)
 }
 
 // A sign or a reserved word, by its class, and what stands after it.
 pub fn put_word(out: &mut [u8], at: usize, class: u8) -> usize
     ensures { λ r. ⌜ Prints (now (out .entry)) at (lexeme class) (now (out .exit)) r ⌝ }
 {
-    let first = put_bytes(out, at, first_bytes(class));
-    let last = put_bytes(out, first, last_bytes(class));
-    put(out, last, gap(class))
+    if NAME <= class {
+        return put(out, at, b' ');
+    }
+    if at < start_of(out.len(), ROOM) {
+        return write_word(out, at, class);
+    }
+    put_cut(out, at, class)
 }
 
 pub fn put_word_if(out: &mut [u8], at: usize, there: bool, class: u8) -> usize

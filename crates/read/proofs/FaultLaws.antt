@@ -14,7 +14,7 @@ use Rattle.grammar.specs.Stages.{placeOf, ownNumbers, repeatedForms, repeatedQu
 use Rattle.grammar.specs.Answer.{Answer, refuses, stage}
 use Rattle.stages.specs.Faults.{firstFault, alone, ruleFault}
 use Rattle.stages.specs.Choices.{choiceFault}
-use Rattle.stages.specs.Names.{repeatedEntry, entries}
+use Rattle.stages.specs.Names.{repeatedFrom, Indexes}
 use Rattle.stages.specs.References.{referenceFault}
 use Rattle.stages.specs.Repeats.{repeatedMark, mapAfter, formNumber, writtenNumber}
 use Rattle.stages.specs.Sound.{SoundRows, First}
@@ -43,7 +43,7 @@ module _ (s es ws : List ℕ) (ds : List Draft) where
   questionMark = repeatedMark writtenNumber ws ds
 
   abbrev pub nameMark : ℕ
-  nameMark = repeatedEntry s [] es
+  nameMark = repeatedFrom s es 0 ds
 
   abbrev pub ruleMark : ℕ
   ruleMark = firstFault (alone ruleFault) ds
@@ -124,11 +124,8 @@ passed n m f h z = by (eqb m 0) refl z
     by true e z = (eqb-true m 0 e, z)
     by false e z = absurd (h z)
 
--- by the index of their names and an empty map
-module _ {ds : List Draft} (v : SoundRows ds) (s : List ℕ) where
-  abbrev es : List ℕ
-  es = entries s 0 ds
-
+-- by an index of their names and an empty map
+module _ {ds : List Draft} (v : SoundRows ds) {s es : List ℕ} (index : Indexes s ds es) where
   abbrev from-12 : Fault
   from-12 = stageFault 12 (choiceMark s es emptyMap ds) noFault
 
@@ -145,7 +142,7 @@ module _ {ds : List Draft} (v : SoundRows ds) (s : List ℕ) where
   from-8 = stageFault 8 (questionMark s es emptyMap ds) from-9
 
   references : formMark s es emptyMap ds ≡ 0 → questionMark s es emptyMap ds ≡ 0 → First (referenceMark s es emptyMap ds) (unfound s ds)
-  references z₇ z₈ = references-first v s (forms-told v z₇) (questions-told v z₈)
+  references z₇ z₈ = references-first v index (forms-told v z₇) (questions-told v z₈)
 
   -- the first fault is the answer of document 01's stages
   pub stages-answer : (a : Answer) → answered (firstFaultOf s es emptyMap ds) a ≡ stage 7 (repeatedForms ds) (stage 8 (repeatedQuestions ds) (stage 9 (repeatedNames s ds) (stage 10 (rulesOverLimit ds) (stage 11 (unfound s ds) (stage 12 (badChoices ds) a)))))
@@ -153,7 +150,7 @@ module _ {ds : List Draft} (v : SoundRows ds) (s : List ℕ) where
   stages-answer a =
       step 7 (formMark s es emptyMap ds) from-8 a _ (λ z. omega arith) (forms-first v) (λ z₇.
       step 8 (questionMark s es emptyMap ds) from-9 a _ (λ z. omega arith) (questions-first v) (λ z₈.
-      step 9 (nameMark s es emptyMap ds) from-10 a _ (λ z. omega arith) (names-first v s) (λ z₉.
+      step 9 (nameMark s es emptyMap ds) from-10 a _ (λ z. omega arith) (names-first v index) (λ z₉.
       step 10 (ruleMark s es emptyMap ds) from-11 a _ (λ z. omega arith) (rules-first v) (λ z₁₀.
       step 11 (referenceMark s es emptyMap ds) from-12 a _ (λ z. omega arith) (references z₇ z₈) (λ z₁₁.
       step 12 (choiceMark s es emptyMap ds) noFault a a (λ z. omega arith) (choices-first v) (λ z₁₂. refl))))))

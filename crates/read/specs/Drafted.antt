@@ -15,7 +15,7 @@ use Rattle.grammar.specs.Drafts.{encoded, draftsFrom}
 use Rattle.grammar.specs.Stages.{unfound, ownNumbers, finished}
 use Rattle.grammar.specs.Answer.{answerOf}
 use Rattle.stages.specs.Sound.{SoundRows}
-use Rattle.stages.specs.Names.{entries}
+use Rattle.stages.specs.Names.{Indexes}
 
 -- the first rows of the table t are drafts that passed stages 1 to 6
 pub record Drafted (t : List ℕ) (count : ℕ) : Type 0 where
@@ -27,7 +27,7 @@ pub record Drafted (t : List ℕ) (count : ℕ) : Type 0 where
 -- their written question numbers
 pub record Ready (s es ws t : List ℕ) (count : ℕ) : Type 0 where
   pub drafted : Drafted t count
-  pub index : es ≡ entries s 0 (draftsFrom t 0 count)
+  pub index : Indexes s (draftsFrom t 0 count) es
   pub found : unfound s (draftsFrom t 0 count) ≡ []
   pub written : Holds ws (ownNumbers (draftsFrom t 0 count))
 

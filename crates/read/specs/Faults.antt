@@ -2,14 +2,14 @@
 -- Assumes nothing.
 use Prim.Native.Nat.{ℕ}
 use mathlib.Core.Bool.{cond}
-use mathlib.Core.List.{List, []}
+use mathlib.Core.List.{List}
 use lib.Dec.{eqb}
 use Rattle.numbers.specs.Numbers.{emptyMap}
 use Rattle.grammar.specs.Rows.{Draft}
 use Rattle.grammar.specs.Stages.{placeOf}
 use Rattle.stages.specs.Faults.{firstFault, alone, ruleFault}
 use Rattle.stages.specs.Choices.{choiceFault}
-use Rattle.stages.specs.Names.{repeatedEntry}
+use Rattle.stages.specs.Names.{repeatedFrom}
 use Rattle.stages.specs.References.{referenceFault}
 use Rattle.stages.specs.Repeats.{repeatedMark, mapAfter, formNumber, writtenNumber}
 use Rattle.read.specs.declared.Fault.{Fault}
@@ -31,7 +31,7 @@ firstFaultOf s es ws ds =
     let written = mapAfter writtenNumber ws ds in
     stageFault 7 (repeatedMark formNumber emptyMap ds)
     (stageFault 8 (repeatedMark writtenNumber ws ds)
-    (stageFault 9 (repeatedEntry s [] es)
+    (stageFault 9 (repeatedFrom s es 0 ds)
     (stageFault 10 (firstFault (alone ruleFault) ds)
     (stageFault 11 (firstFault (alone (referenceFault s es forms written)) ds)
     (stageFault 12 (firstFault choiceFault ds) noFault)))))

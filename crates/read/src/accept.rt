@@ -14,14 +14,17 @@ ghost use Rattle.rows.specs.Rows.{laid};
 ghost use Rattle.grammar.specs.Drafts.{draftsFrom};
 ghost use Rattle.grammar.specs.Stages.{ownNumbers, finished};
 ghost use Rattle.grammar.specs.Answer.{accepts, answerOf};
+ghost use Rattle.stages.specs.Names.{Indexes};
 ghost use Rattle.read.specs.Answers.{told};
 ghost use Rattle.read.specs.Drafted.{Drafted, Ready, tableAfter};
 
-// How many names an index on the stack holds where there are few rows, and where there are many: a source has no more
-// rows than bytes.
-pub const SMALL: usize = 1024;
+// An index on the stack: the heads of the buckets, and room for few names, or for as many as there can be rows (a source has
+// no more rows than bytes).
+const FEW: usize = 1024;
 
-const LARGE: usize = 65536;
+const SMALL: usize = 2048;
+
+const LARGE: usize = 66560;
 
 // The finished rows from the drafts, and 0 past them.
 fn accept(
@@ -42,37 +45,42 @@ fn accept(
     Answer::Accepted(count, numbers::LIMIT - 1 - numbers::used_count(used))
 }
 
-// Stages 7 to 12 and the finished rows, with an index that has room for the declared names.
-fn finish_with(src: &[u8], table: &mut [u64], count: usize, index: &mut [u64]) -> Answer
-    requires { ⌜ Drafted (now table) count × (count ≤ length (now index)) ⌝ }
+// Stages 7 to 12 and the finished rows, by an index of the declared names.
+fn finish_with(src: &[u8], table: &mut [u64], count: usize, index: &[u64]) -> Answer
+    requires { ⌜ Drafted (now table) count × Indexes (now src) (draftsFrom (now table) 0 count) (now index) ⌝ }
     ensures { λ r. ⌜ told r ≡ answerOf (now (src .entry)) (draftsFrom (now (table .entry)) 0 count) (length (now (table .entry)) / ROW) ⌝ }
     ensures { λ _. ⌜ now (table .exit) ≡ tableAfter (now (src .entry)) (draftsFrom (now (table .entry)) 0 count) (length (now (table .entry))) ⌝ }
 {
     let mut used = numbers::empty();
-    let named = names::index_names(src, table, count, index);
-    let part = &index[..named];
-    let fault = first_fault(src, table, count, part, &mut used);
+    let fault = first_fault(src, table, count, index, &mut used);
     if fault.number != 0 {
         rows::clear(table, 0);
         return Answer::Refused(fault.number, fault.place);
     }
-    accept(src, table, count, part, &mut used)
+    accept(src, table, count, index, &mut used)
 }
 
-pub fn finish_small(src: &[u8], table: &mut [u64], count: usize) -> Answer
-    requires { ⌜ Drafted (now table) count × (count ≤ 1024) ⌝ }
-    ensures { λ r. ⌜ told r ≡ answerOf (now (src .entry)) (draftsFrom (now (table .entry)) 0 count) (length (now (table .entry)) / ROW) ⌝ }
-    ensures { λ _. ⌜ now (table .exit) ≡ tableAfter (now (src .entry)) (draftsFrom (now (table .entry)) 0 count) (length (now (table .entry))) ⌝ }
-{
-    let mut index = [0u64; SMALL];
-    finish_with(src, table, count, &mut index)
-}
-
-pub fn finish_large(src: &[u8], table: &mut [u64], count: usize) -> Answer
+// With room for as many names as there can be rows.
+fn finish_large(src: &[u8], table: &mut [u64], count: usize) -> Answer
     requires { ⌜ Drafted (now table) count × (count ≤ 65536) ⌝ }
     ensures { λ r. ⌜ told r ≡ answerOf (now (src .entry)) (draftsFrom (now (table .entry)) 0 count) (length (now (table .entry)) / ROW) ⌝ }
     ensures { λ _. ⌜ now (table .exit) ≡ tableAfter (now (src .entry)) (draftsFrom (now (table .entry)) 0 count) (length (now (table .entry))) ⌝ }
 {
     let mut index = [0u64; LARGE];
-    finish_with(src, table, count, &mut index)
+    names::index_names(src, table, count, &mut index);
+    finish_with(src, table, count, &index)
+}
+
+// Stages 7 to 12 and the finished rows.
+pub fn finish(src: &[u8], table: &mut [u64], count: usize) -> Answer
+    requires { ⌜ Drafted (now table) count × (count ≤ 65536) ⌝ }
+    ensures { λ r. ⌜ told r ≡ answerOf (now (src .entry)) (draftsFrom (now (table .entry)) 0 count) (length (now (table .entry)) / ROW) ⌝ }
+    ensures { λ _. ⌜ now (table .exit) ≡ tableAfter (now (src .entry)) (draftsFrom (now (table .entry)) 0 count) (length (now (table .entry))) ⌝ }
+{
+    let mut index = [0u64; SMALL];
+    let named = names::index_names(src, table, count, &mut index);
+    if FEW < named {
+        return finish_large(src, table, count);
+    }
+    finish_with(src, table, count, &index)
 }

@@ -39,7 +39,7 @@ pub fn first_fault(
     if question != 0 {
         return fault(8, question);
     }
-    let name = names::repeated_name(src, index);
+    let name = names::repeated_name(src, table, count, index);
     if name != 0 {
         return fault(9, name);
     }

@@ -3,8 +3,7 @@ mod accept;
 mod checks;
 mod faults;
 
-use crate::accept::finish_large;
-use crate::accept::finish_small;
+use crate::accept::finish;
 use crate::checks::survey;
 use rows::whole_rows;
 ghost use mathlib.Core.Path.{_≡_};
@@ -60,8 +59,5 @@ pub fn read(src: &[u8], table: &mut [u64]) -> Answer
         rows::clear(table, 0);
         return Answer::Short(count);
     }
-    if count <= accept::SMALL {
-        return finish_small(src, table, count);
-    }
-    finish_large(src, table, count)
+    finish(src, table, count)
 }

@@ -22,7 +22,8 @@ use Rattle.grammar.specs.Text.{Word, opening, around, wordsOf}
 use Rattle.sound.proofs.Lists.{All}
 use Rattle.roundtrip.proofs.Shapes.{word, Shape, s-nil, s-leaf, s-node, flat, lexed, spelling, Over, over-nil, over-leaf, over-node}
 use Rattle.roundtrip.proofs.Fitted.{Fitted, to-fits, over-fitted}
-use Rattle.roundtrip.proofs.Core.{states, core, within, Told, told}
+use Rattle.grammar.proofs.Statements.{states}
+use Rattle.roundtrip.proofs.Core.{core, within, Told, told}
 use Rattle.roundtrip.proofs.Expressions.{all-parts}
 use Rattle.again.specs.Matches.{Settled, final, Match, Pairs, no-pairs}
 use Rattle.roundtrip.proofs.Canon.{under, canon, Found, pairs-append, pairs-length, opening-ten}

@@ -23,7 +23,8 @@ use Rattle.roundtrip.proofs.Fitted.{Fitted, f-nil, f-leaf, f-node, to-f
 use Rattle.roundtrip.proofs.Formula.{formula, nest}
 use Rattle.roundtrip.proofs.FormulaSource.{expression-node}
 use Rattle.roundtrip.proofs.Expressions.{all-parts}
-use Rattle.roundtrip.proofs.Core.{states, core, within, Told, told}
+use Rattle.grammar.proofs.Statements.{states}
+use Rattle.roundtrip.proofs.Core.{core, within, Told, told}
 use Rattle.again.specs.Matches.{Settled}
 use Rattle.roundtrip.proofs.CanonSeq.{Ok}
 use Rattle.roundtrip.proofs.CanonItems.{head-of, tail-of, subtitle-ok, text-ok, label-ok, goto-ok, checkbox-ok, numeric-ok, option-ok}

@@ -1,34 +1,25 @@
 -- The statements among trees: what is neither a statement nor a list of statements has no rows and no words of its own.
 -- Assumes nothing.
 use mathlib.Core.Path.{_≡_, refl, ap, _∙_}
-use mathlib.Core.List.{List, [], _∷_, _++_}
+use mathlib.Core.List.{List, [], _++_}
 use mathlib.Core.Option.{some}
-use mathlib.Core.Bool.{Bool, true, false, not, _&&_, _||_}
+use mathlib.Core.Bool.{true, false, not}
 use Prim.Native.Nat.{ℕ, _+_}
 use native.Mathlib.Nat.{add-zero}
 use native.Mathlib.Omega.{arith}
 use lib.Dec.{eqb}
 use lib.ListN.{length}
 use borrow.Author.Tests.{not-true}
-use Rattle.ll1.specs.Trees.{Trees, nil, leaf, node, Symbol, terminal, nonterminal, Alternative, alternativeOf, Fits, fits-nil, fits-leaf, fits-node}
-use Rattle.ll1.specs.ParseTable.{member}
-use Rattle.ll1.proofs.Basics.{clash, both}
+use Rattle.ll1.specs.Trees.{Trees, nil, leaf, node, Symbol, Alternative, alternativeOf, Fits, fits-nil, fits-leaf, fits-node}
+use Rattle.ll1.proofs.Basics.{both}
 use Rattle.lex.proofs.Lists.{either}
-use Rattle.grammar.specs.Rules.{<source>, <form>*, <form>, <item-or-rule>*, <rule>, <item>, <option>*, <item>*, <option>}
+use Rattle.grammar.specs.Rules.{<source>, <form>, <rule>, <item>, <option>}
 use Rattle.grammar.specs.Grammar.{rules}
 use Rattle.grammar.specs.Rows.{Draft, when, rulesIn, ownRows, parentIn, draftsOf}
 use Rattle.grammar.specs.Rows as Rows
 use Rattle.grammar.specs.Text as Text
 use Rattle.grammar.specs.Text.{Word, around, wordsOf}
-use Rattle.grammar.proofs.Alternatives.{everywhere, at-alternative}
-use Rattle.sound.proofs.Lists.{apart}
-
--- statements, and their lists
-abbrev pub statements : List ℕ
-statements = <source> ∷ <form>* ∷ <form> ∷ <item-or-rule>* ∷ <rule> ∷ <item> ∷ <option>* ∷ <item>* ∷ <option> ∷ []
-
-abbrev pub states : ℕ → Bool
-states A = member A statements
+use Rattle.grammar.proofs.Statements.{statements, states, apart, free, no-statements}
 
 -- the nodes that state something
 abbrev pub core : Trees → Trees
@@ -36,23 +27,8 @@ core nil = nil
 core (leaf k f) = core f
 core (node A i c f) = elim (states A) [ true ↦ node A i c (core f) | false ↦ core f ]
 
--- no symbol states anything
-abbrev silent : List Symbol → Bool
-silent [] = true
-silent (terminal k ∷ σ) = silent σ
-silent (nonterminal A ∷ σ) = not (states A) && silent σ
-
--- under what states nothing there is nothing stated
-silent-under : everywhere (λ A i a. states A || silent (a .symbols)) ≡ true
-unfolding rules
-silent-under = refl
-
 both-empty : (ds es : List Draft) → ds ≡ [] → es ≡ [] → ds ++ es ≡ []
 both-empty ds es p q = rw (p, q)
-
-left-false : (a b : Bool) → a || b ≡ true → a ≡ false → b ≡ true
-left-false true b h e = clash cc
-left-false false b h e = h
 
 module _ (value : ℕ → ℕ) (look : ℕ → List ℕ) where
   -- trees that state nothing
@@ -66,20 +42,17 @@ module _ (value : ℕ → ℕ) (look : ℕ → List ℕ) where
   within A i c parent at n = ownRows value parent at n A i c ++ draftsOf value c (parentIn value parent at (ownRows value parent at n A i c)) (at + length (ownRows value parent at n A i c)) n
 
   module _ (A i : ℕ) (c : Trees) (h : states A ≡ false) where
-    other : (B : ℕ) → not (states B) ≡ false → eqb A B ≡ false
-    other B l = apart (λ B. not (states B)) A B (rw h) l
-
     pub none-own : (parent at n : ℕ) → ownRows value parent at n A i c ≡ []
-    none-own parent at n = rw (other <item> refl, other <option> refl, other <rule> refl, other <form> refl, other <source> refl, Rows.otherwise)
+    none-own parent at n = rw (apart A <item> h refl, apart A <option> h refl, apart A <rule> h refl, apart A <form> h refl, apart A <source> h refl, Rows.otherwise)
 
     none-around : (ws : List Word) → around look A i c ws ≡ ws
-    none-around ws = rw (other <source> refl, other <form> refl, other <rule> refl, other <item> refl, other <option> refl, Text.otherwise)
+    none-around ws = rw (apart A <source> h refl, apart A <form> h refl, apart A <rule> h refl, apart A <item> h refl, apart A <option> h refl, Text.otherwise)
 
     none-within : Quiet c → (parent at n : ℕ) → within A i c parent at n ≡ []
     none-within q parent at n = both-empty (ownRows value parent at n A i c) _ (none-own parent at n) (q .rows _ _ n)
 
     none-rules : Quiet c → rulesIn (node A i c nil) ≡ 0
-    none-rules q = rw (other <rule> refl, q .rules-in)
+    none-rules q = rw (apart A <rule> h refl, q .rules-in)
 
     -- a node that states nothing adds nothing to the trees beside it
     skip-rows : Quiet c → (f : Trees) (parent at n : ℕ) → draftsOf value (node A i c f) parent at n ≡ draftsOf value f parent at n
@@ -92,15 +65,15 @@ module _ (value : ℕ → ℕ) (look : ℕ → List ℕ) where
     skip-words q f = ap (λ ws. ws ++ wordsOf look f) (none-around (wordsOf look c) ∙ q .words)
 
     skip-rules : Quiet c → (f : Trees) → rulesIn (node A i c f) ≡ rulesIn f
-    skip-rules q f = rw (other <rule> refl, q .rules-in) (omega arith)
+    skip-rules q f = rw (apart A <rule> h refl, q .rules-in) (omega arith)
 
-  silent-quiet : {σ : List Symbol} {f : Trees} → Fits rules σ f → silent σ ≡ true → Quiet f
+  silent-quiet : {σ : List Symbol} {f : Trees} → Fits rules σ f → free statements σ ≡ true → Quiet f
   silent-quiet fits-nil h = record { rows = λ parent at n. refl; words = refl; rules-in = refl }
   silent-quiet (fits-leaf r) h = let q = silent-quiet r h in record { rows = q .rows; words = q .words; rules-in = q .rules-in }
   silent-quiet (fits-node {A = A} {i = i} {a = a} {c = c} {f = f} e r₁ r₂) h =
       let w = both (not (states A)) _ h in
       let no = not-true (states A) (w .0) in
-      let q = silent-quiet r₁ (left-false (states A) (silent (a .symbols)) (at-alternative _ silent-under e) no) in
+      let q = silent-quiet r₁ (no-statements A i a e (rw no)) in
       let k = silent-quiet r₂ (w .1) in
       record {
         rows = λ parent at n. skip-rows A i c no q f parent at n ∙ k .rows parent at n;
@@ -110,7 +83,7 @@ module _ (value : ℕ → ℕ) (look : ℕ → List ℕ) where
 
   -- under a node that states nothing
   pub quiet-under : (A i : ℕ) {a : Alternative} {c : Trees} → alternativeOf rules A i ≡ some a → states A ≡ false → Fits rules (a .symbols) c → Quiet c
-  quiet-under A i {a} e h r = silent-quiet r (left-false (states A) (silent (a .symbols)) (at-alternative _ silent-under e) h)
+  quiet-under A i {a} e h r = silent-quiet r (no-statements A i a e (rw h))
 
   -- ---- of a derivation only what states something has rows and words
 
@@ -131,7 +104,7 @@ module _ (value : ℕ → ℕ) (look : ℕ → List ℕ) where
         rules-in = rw (y, core) (ap (λ m. when (eqb A <rule>) 1 + rulesIn c + m) (k .rules-in));
       })
       (λ no.
-      let q = silent-quiet r₁ (left-false (states A) (silent (a .symbols)) (at-alternative _ silent-under e) no) in
+      let q = silent-quiet r₁ (no-statements A i a e (rw no)) in
       record {
         rows = λ parent at n. rw (no, core) (skip-rows A i c no q f parent at n ∙ k .rows parent at n);
         words = rw (no, core) (skip-words A i c no q f ∙ k .words);

@@ -34,7 +34,8 @@ use Rattle.sound.proofs.Kept.{Kept, kept-nil, kept-leaf, kept-node, Node, part,
 use Rattle.roundtrip.proofs.Shapes.{s-node}
 use Rattle.roundtrip.proofs.Formula.{formula}
 use Rattle.roundtrip.proofs.Expressions.{all-parts}
-use Rattle.roundtrip.proofs.Core.{states, core, within, Told, told}
+use Rattle.grammar.proofs.Statements.{states}
+use Rattle.roundtrip.proofs.Core.{core, within, Told, told}
 use Rattle.again.specs.Matches.{Settled}
 use Rattle.roundtrip.proofs.Canon.{ending, under, canon}
 use Rattle.roundtrip.proofs.CanonItems.{head-of, tail-of, rowOf}

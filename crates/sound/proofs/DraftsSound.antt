@@ -2,7 +2,6 @@
 -- Assumes nothing.
 use mathlib.Core.Path.{_≡_, refl}
 use mathlib.Core.List.{List, [], _∷_, _++_}
-use mathlib.Core.Option.{some}
 use mathlib.Core.Bool.{Bool, true, false, not, _&&_, _||_}
 use Prim.Native.Nat.{ℕ, _+_, _≤_, _<_}
 use native.Mathlib.Omega.{arith}
@@ -10,10 +9,10 @@ use lib.Dec.{eqb, ltb}
 use lib.ListN.{length}
 use borrow.Author.Tests.{eqb-true}
 use Rattle.lex.proofs.Lists.{either}
-use Rattle.ll1.specs.Trees.{Trees, Symbol, terminal, nonterminal, Alternative, alternativeOf}
+use Rattle.ll1.specs.Trees.{Trees, Symbol, nonterminal}
 use Rattle.ll1.specs.ParseTable.{member}
-use Rattle.ll1.proofs.Basics.{clash, both, implied}
-use Rattle.grammar.specs.Rules.{<source>, <form>*, <form>, <item-or-rule>*, <rule>, <item>, <option>*, <item>*, <option>}
+use Rattle.ll1.proofs.Basics.{clash, both}
+use Rattle.grammar.specs.Rules.{<source>, <form>, <rule>, <item>, <option>*, <option>}
 use Rattle.grammar.specs.Grammar.{rules}
 use Rattle.grammar.specs.Derivation.{Derives}
 use Rattle.grammar.specs.Source.{sourceTokens, numberAt}
@@ -23,7 +22,7 @@ use Rattle.grammar.specs.Rows.{Draft, condition, otherwise, ownRows, parentIn, 
 use Rattle.grammar.specs.Ranges.{outOfRange}
 use Rattle.stages.specs.Sound.{add-row, SoundRows}
 use Rattle.grammar.proofs.Demand3.{rows-few}
-use Rattle.grammar.proofs.Alternatives.{everywhere, at-alternative}
+use Rattle.grammar.proofs.Statements.{offering, others, statements, free, Under, tested, no-statements}
 use Rattle.sound.proofs.Lists.{All, none, more, all-append, apart}
 use Rattle.sound.proofs.Places.{source-bounded}
 use Rattle.sound.proofs.Kept.{Kept, kept-nil, kept-leaf, kept-node, kept, Node, bounded-at}
@@ -34,32 +33,8 @@ use Rattle.sound.proofs.Options.{Stands, stands-none, others-stand, sta
 
 -- ---- which rules have rows under them
 
--- options and their lists
-abbrev offering : List ℕ
-offering = <option> ∷ <option>* ∷ []
-
--- the other statements and their lists
-abbrev others : List ℕ
-others = <source> ∷ <form>* ∷ <form> ∷ <item-or-rule>* ∷ <rule> ∷ <item> ∷ <item>* ∷ []
-
-abbrev statements : List ℕ
-statements = offering ++ others
-
 abbrev isOneOf : ℕ → ℕ → Bool
 isOneOf A i = eqb A <item> && eqb i 6
-
--- none of the rules is among the symbols
-abbrev free : List ℕ → List Symbol → Bool
-free l [] = true
-free l (terminal k ∷ σ) = free l σ
-free l (nonterminal A ∷ σ) = not (member A l) && free l σ
-
--- an alternative that passes the test has none of the rules under it
-abbrev Under : (ℕ → ℕ → Bool) → List ℕ → Type 0
-Under test l = (A i : ℕ) (a : Alternative) → alternativeOf rules A i ≡ some a → test A i ≡ true → free l (a .symbols) ≡ true
-
-tested : (test : ℕ → ℕ → Bool) (l : List ℕ) → everywhere (λ A i a. not (test A i) || free l (a .symbols)) ≡ true → Under test l
-tested test l h A i a e t = implied (test A i) (free l (a .symbols)) (at-alternative _ h e) t
 
 -- options stand only under a oneof and in their lists
 no-options : Under (λ A i. not (member A offering) && not (isOneOf A i)) offering
@@ -70,11 +45,6 @@ no-options = tested _ _ refl
 only-options : Under (λ A i. eqb A <option>* || isOneOf A i) others
 unfolding rules
 only-options = tested _ _ refl
-
--- an option has no statement under it, nor has what is no statement
-no-statements : Under (λ A i. not (member A statements) || eqb A <option>) statements
-unfolding rules
-no-statements = tested _ _ refl
 
 both-empty : (ds es : List Draft) → ds ≡ [] → es ≡ [] → ds ++ es ≡ []
 both-empty ds es p q = rw (p, q)

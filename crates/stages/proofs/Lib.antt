@@ -7,6 +7,7 @@ pub mod FaultLaws
 pub mod Firsts
 pub mod RepeatLaws
 pub mod RepeatFaults
+pub mod ChainLaws
 pub mod NameLaws
 pub mod NameFaults
 pub mod RuleLaws

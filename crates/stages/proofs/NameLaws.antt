@@ -1,15 +1,16 @@
 -- The index of names as the code makes and searches it.
-use Prim.Native.Nat.{ℕ, suc, _+_, _-_, _*_, _%_, _≤_, _<_, min}
+use Prim.Native.Nat.{ℕ, suc, _+_, _-_, _*_, _%_, _≤_, _<_}
 use mathlib.Core.Path.{_≡_, refl, sym, ap, _∙_}
-use mathlib.Core.Bool.{Bool, true, false, cond, and-false}
-use mathlib.Core.List.{List, [], _∷_, _++_, append-nil}
+use mathlib.Core.Bool.{Bool, true, false, cond, _&&_, and-false}
+use mathlib.Core.List.{List, [], _∷_}
 use native.Mathlib.Numerals.{add-one}
 use native.Mathlib.Omega.{arith}
 use borrow.Author.Tests.{lt-ltb, le-ltb, eq-eqb, ne-eqb}
-use lib.Dec.{eqb, ltb}
-use lib.ListN.{length, getD, set, take, drop, length-set, drop-of-length-le, take-append-drop}
-use lib.Seq.{length-take-le, drop-cons, take-suc, take-suc-set, drop-set-lt, take-all, append-snoc}
+use lib.Dec.{ltb, leb}
+use lib.ListN.{length, getD, set, take, drop, length-set, length-drop, drop-of-length-le}
+use lib.Seq.{take-all}
 use Rattle.lex.specs.Tokens.{run, word, sameWord}
+use Rattle.lex.proofs.Equality.{same-word-refl}
 use Rattle.lex.proofs.WordParts.{first, word-ends, word-goes-on}
 use Rattle.rows.specs.Codes as code
 use Rattle.rows.specs.Columns as column
@@ -17,8 +18,9 @@ use Rattle.grammar.specs.Rows.{Draft}
 use Rattle.grammar.specs.Stages.{cell, is, placeOf}
 use Rattle.grammar.specs.Drafts.{draftsFrom}
 use Rattle.stages.specs.Faults.{draftAt}
-use Rattle.stages.specs.Names.{PRIME, BASE, hashOf, sortBit, keyOf, entryOf, keyIn, rowIn, markIn, entries, filled, position, found, sameName, matches, findIn, repeatedEntry}
-use Rattle.stages.proofs.DraftLaws.{drafts-next, drafts-end}
+use Rattle.stages.specs.Names.{HASHES, BASE, BUCKETS, hashOf, keyOf, bucketOf, tagOf, entryOf, tagIn, markIn, added, namesIn, indexed, follow, sameName, matches, findIn, repeats, repeatedFrom}
+use Rattle.stages.proofs.ChainLaws.{follow-out}
+use Rattle.stages.proofs.DraftLaws.{drafts-start, drafts-next, drafts-end}
 
 -- ---- the hash of a word
 
@@ -26,19 +28,19 @@ hash-none : (h : ℕ) → hashOf h [] ≡ h
 unfolding hashOf
 hash-none h = refl
 
-hash-cons : (h b : ℕ) (w : List ℕ) → hashOf h (b ∷ w) ≡ hashOf ((h * BASE + b) % PRIME) w
+hash-cons : (h b : ℕ) (w : List ℕ) → hashOf h (b ∷ w) ≡ hashOf ((h * BASE + b) % HASHES) w
 unfolding hashOf
 hash-cons h b w = refl
 
 pub record Hashing (s : List ℕ) (at h i : ℕ) : Type 0 where
-  pub small : h < PRIME
+  pub small : h < HASHES
   pub same : hashOf 0 (word (drop at s)) ≡ hashOf h (word (drop i s))
 
 pub hashing-start : (s : List ℕ) (at : ℕ) → Hashing s at 0 at
 hashing-start s at = record { small = omega arith; same = refl }
 
 module _ {s : List ℕ} {at h i : ℕ} (v : Hashing s at h i) where
-  pub hashing-next : {b : ℕ} → b ≡ first s i → (b ≡ 0 → ⊥) → Hashing s at ((h * BASE + b) % PRIME) (i + 1)
+  pub hashing-next : {b : ℕ} → b ≡ first s i → (b ≡ 0 → ⊥) → Hashing s at ((h * BASE + b) % HASHES) (i + 1)
   hashing-next {b} e z =
       record {
         small = omega arith;
@@ -60,49 +62,15 @@ module _ (s : List ℕ) (m : ℕ) (rule : Bool) where
   key-none e = rw (eq-eqb m 0 e)
 
   module _ (z : m ≡ 0 → ⊥) {h : ℕ} (e : h ≡ hashOf 0 (word (drop (placeOf m) s))) where
-    key-some : h * 2 + sortBit rule ≡ keyOf s m rule
+    key-some : h + cond rule HASHES 0 ≡ keyOf s m rule
     unfolding keyOf
     key-some = rw (ne-eqb m 0 z, e)
 
-    pub key-rule : rule ≡ true → h * 2 + 1 ≡ keyOf s m rule
-    key-rule f = ap (λ (b : Bool). h * 2 + sortBit b) (sym f) ∙ key-some
+    pub key-rule : rule ≡ true → h + HASHES ≡ keyOf s m rule
+    key-rule f = ap (λ (b : Bool). h + cond b HASHES 0) (sym f) ∙ key-some
 
-    pub key-question : rule ≡ false → h * 2 ≡ keyOf s m rule
-    key-question f = omega (arith, ap sortBit f, key-some)
-
--- ---- a search
-
-position-none : (p : ℕ → Bool) → position p [] ≡ 0
-unfolding position
-position-none p = refl
-
-module _ (p : ℕ → Bool) (e : ℕ) (es : List ℕ) where
-  position-here : p e ≡ true → position p (e ∷ es) ≡ 0
-  unfolding position
-  position-here f = rw f
-
-  position-later : p e ≡ false → position p (e ∷ es) ≡ suc (position p es)
-  unfolding position
-  position-later f = rw f
-
--- the loop of `position`: none of the first i entries passes the test
-pub record Seeking (p : ℕ → Bool) (es : List ℕ) (i : ℕ) : Type 0 where
-  pub inside : i ≤ length es
-  pub same : position p es ≡ i + position p (drop i es)
-
-pub seeking-start : (p : ℕ → Bool) (es : List ℕ) → Seeking p es 0
-seeking-start p es = record { inside = omega arith; same = omega arith }
-
-module _ {p : ℕ → Bool} {es : List ℕ} {i : ℕ} (v : Seeking p es i) where
-  pub seeking-here : i < length es → p (getD es i 0) ≡ true → i ≡ position p es
-  seeking-here h f = sym (v .same ∙ rw (drop-cons es i 0 h, position-here p (getD es i 0) (drop (suc i) es) f) (omega arith))
-
-  pub seeking-next : i < length es → p (getD es i 0) ≡ false → Seeking p es (i + 1)
-  seeking-next h f =
-      record { inside = omega arith; same = v .same ∙ rw (drop-cons es i 0 h, position-later p (getD es i 0) (drop (suc i) es) f, add-one i) (omega arith) }
-
-  pub seeking-end : length es ≤ i → i ≡ position p es
-  seeking-end h = sym (v .same ∙ rw (drop-of-length-le es h, position-none p) (omega arith))
+    pub key-question : rule ≡ false → h ≡ keyOf s m rule
+    key-question f = omega (arith, ap (λ (b : Bool). cond b HASHES 0) f, key-some)
 
 -- ---- the names at two marks
 
@@ -115,169 +83,175 @@ module _ (s : List ℕ) (m n : ℕ) where
   unfolding sameName
   name-second e = rw e (sym (and-false (ltb 0 m)))
 
+  pub name-same : (m ≡ 0 → ⊥) → m ≡ n → true ≡ sameName s m n
+  unfolding sameName
+  name-same f e = rw (← e, lt-ltb 0 m (omega (arith, f)), same-word-refl s (m - 1))
+
   pub name-both : (m ≡ 0 → ⊥) → (n ≡ 0 → ⊥) → sameWord s (m - 1) (n - 1) ≡ sameName s m n
   unfolding sameName
   name-both f g = rw (lt-ltb 0 m (omega (arith, f)), lt-ltb 0 n (omega (arith, g)))
 
--- an entry has the key and the name
-module _ (s : List ℕ) (key m e : ℕ) where
-  pub matches-not : (keyIn e ≡ key → ⊥) → matches s key m e ≡ false
-  matches-not h = rw (ne-eqb (keyIn e) key h)
+-- an entry has the tag and the name
+module _ (s : List ℕ) (tag m e : ℕ) where
+  pub matches-not : (tagIn e ≡ tag → ⊥) → false ≡ matches s tag m e
+  matches-not h = rw (ne-eqb (tagIn e) tag h)
 
-  pub matches-key : keyIn e ≡ key → {b : Bool} → b ≡ sameName s (markIn e) m → matches s key m e ≡ b
-  matches-key h g = rw (eq-eqb (keyIn e) key h) (sym g)
+  pub matches-tag : tagIn e ≡ tag → {b : Bool} → b ≡ sameName s (markIn e) m → b ≡ matches s tag m e
+  matches-tag h g = rw (eq-eqb (tagIn e) tag h) g
 
--- ---- a name looked for: key k, and position j of the first entry that has it and the name
+-- ---- an entry more
 
-module _ (s es : List ℕ) (m : ℕ) (rule : Bool) {k j : ℕ} (e : k ≡ keyOf s m rule) (f : j ≡ position (matches s k m) es) where
-  by-position : cond (ltb j (length es)) (rowIn (getD es j 0) + 1) 0 ≡ findIn s es m rule
+module _ (xs : List ℕ) (n key row mark : ℕ) where
+  pub add-none : length xs ≤ BUCKETS + n → xs ≡ added xs n key row mark
+  unfolding added
+  add-none h = rw (le-ltb (BUCKETS + n) (length xs) h)
+
+  pub added-room : BUCKETS + n < length xs
+      → added xs n key row mark ≡ set (set xs (length xs - suc n) (entryOf (tagOf key) (getD xs (bucketOf key) 0) row mark)) (bucketOf key) (suc n)
+  unfolding added
+  added-room h = rw (lt-ltb (BUCKETS + n) (length xs) h)
+
+  pub add-some : BUCKETS + n < length xs → {k x : ℕ} → k ≡ key → x ≡ entryOf (tagOf k) (getD xs (bucketOf k) 0) row mark
+      → set (set xs (length xs - 1 - n) x) (bucketOf k) (n + 1) ≡ added xs n key row mark
+  add-some h f e = let slot : length xs - 1 - n ≡ length xs - suc n = omega arith in rw (slot, add-one n, e, f) (sym (added-room h))
+
+  pub length-added : length (added xs n key row mark) ≡ length xs
+  unfolding added
+  length-added = go (ltb (BUCKETS + n) (length xs))
+    where
+      x : ℕ
+      x = entryOf (tagOf key) (getD xs (bucketOf key) 0) row mark
+
+      go : (b : Bool) → length (cond b (set (set xs (length xs - suc n) x) (bucketOf key) (suc n)) xs) ≡ length xs
+      go true = length-set (set xs (length xs - suc n) x) (bucketOf key) (suc n) ∙ length-set xs (length xs - suc n) x
+      go false = refl
+
+-- ---- the rows that declare names
+
+module _ (d : Draft) (ds : List Draft) where
+  pub names-unnamed : cell column.NAME d ≡ 0 → namesIn (d ∷ ds) ≡ namesIn ds
+  unfolding namesIn
+  names-unnamed e = rw (eq-eqb (cell column.NAME d) 0 e)
+
+  pub names-named : (cell column.NAME d ≡ 0 → ⊥) → namesIn (d ∷ ds) ≡ suc (namesIn ds)
+  unfolding namesIn
+  names-named z = rw (ne-eqb (cell column.NAME d) 0 z)
+
+  module _ (s : List ℕ) (i : ℕ) (xs : List ℕ) where
+    pub indexed-unnamed : cell column.NAME d ≡ 0 → indexed s i (d ∷ ds) xs ≡ indexed s (i + 1) ds xs
+    unfolding indexed
+    indexed-unnamed e = rw (eq-eqb (cell column.NAME d) 0 e)
+
+    pub indexed-named : (cell column.NAME d ≡ 0 → ⊥)
+        → indexed s i (d ∷ ds) xs ≡ added (indexed s (i + 1) ds xs) (namesIn ds) (keyOf s (cell column.NAME d) (is code.RULE d)) i (cell column.NAME d)
+    unfolding indexed
+    indexed-named z = rw (ne-eqb (cell column.NAME d) 0 z)
+
+names-none : namesIn [] ≡ 0
+unfolding namesIn
+names-none = refl
+
+pub indexed-none : (s : List ℕ) (i : ℕ) (xs : List ℕ) → indexed s i [] xs ≡ xs
+unfolding indexed
+indexed-none s i xs = refl
+
+-- the loop of `index_names`: the rows from row i on are entered, n of them
+pub record Entering (s t : List ℕ) (c : ℕ) (xs₀ xs : List ℕ) (n i : ℕ) : Type 0 where
+  pub few : n + i ≤ c
+  pub long : length xs ≡ length xs₀
+  pub count : n ≡ namesIn (draftsFrom t i (c - i))
+  pub same : xs ≡ indexed s i (draftsFrom t i (c - i)) xs₀
+
+pub entering-start : (s t : List ℕ) (c : ℕ) (xs : List ℕ) → Entering s t c xs xs 0 c
+entering-start s t c xs =
+    record { few = omega arith; long = refl; count = rw (drafts-end t c c (omega arith)) (sym names-none); same = rw (drafts-end t c c (omega arith)) (sym (indexed-none s c xs)) }
+
+module _ {s t xs₀ xs : List ℕ} {c n i : ℕ} (v : Entering s t c xs₀ xs n i) where
+  pub entering-end : i ≤ 0 → (n ≡ namesIn (draftsFrom t 0 c)) × (xs ≡ indexed s 0 (draftsFrom t 0 c) xs₀)
+  entering-end h = let z : i ≡ 0 = omega arith in (v .count ∙ rw (z, ← drafts-start t c), v .same ∙ rw (z, ← drafts-start t c))
+
+  module _ (h : 0 < i) {m : ℕ} (e : m ≡ cell column.NAME (draftAt t (i - 1))) where
+    abbrev d : Draft
+    d = draftAt t (i - 1)
+
+    abbrev ds : List Draft
+    ds = draftsFrom t i (c - i)
+
+    split : draftsFrom t (i - 1) (c - (i - 1)) ≡ d ∷ ds
+    split = let z : i - 1 + 1 ≡ i = omega arith in drafts-next t (i - 1) c (omega (arith, v .few)) ∙ rw z
+
+    pub entering-unnamed : m ≡ 0 → Entering s t c xs₀ xs n (i - 1)
+    entering-unnamed z =
+        let y : i - 1 + 1 ≡ i = omega arith in
+        record {
+          few = omega (arith, v .few);
+          long = v .long;
+          count = v .count ∙ rw split (sym (names-unnamed d ds (sym e ∙ z)));
+          same = v .same ∙ rw split (sym (indexed-unnamed d ds s (i - 1) xs₀ (sym e ∙ z) ∙ rw y));
+        }
+
+    pub entering-named : (m ≡ 0 → ⊥) → {xs′ : List ℕ} → xs′ ≡ added xs n (keyOf s m (is code.RULE d)) (i - 1) m → Entering s t c xs₀ xs′ (n + 1) (i - 1)
+    entering-named z {xs′} g =
+        let y : i - 1 + 1 ≡ i = omega arith in
+        record {
+          few = omega (arith, v .few);
+          long = rw g (length-added xs n (keyOf s m (is code.RULE d)) (i - 1) m ∙ v .long);
+          count = add-one n ∙ ap suc (v .count) ∙ rw split (sym (names-named d ds (λ x. z (e ∙ x))));
+          same = g ∙ rw (split, e) (sym (indexed-named d ds s (i - 1) xs₀ (λ x. z (e ∙ x)) ∙ rw (y, ← v .same, ← v .count)));
+        }
+
+-- ---- a name looked for, by its key k
+
+module _ (s xs : List ℕ) (m : ℕ) (rule : Bool) where
+  pub find-none : length xs < BUCKETS → 0 ≡ findIn s xs m rule
   unfolding findIn
-  by-position = rw (f, e)
+  find-none h = rw (drop-of-length-le xs {i = BUCKETS} (omega arith)) (sym (follow-out (matches s (tagOf (keyOf s m rule)) m) [] (getD xs (bucketOf (keyOf s m rule)) 0) (λ a b. omega arith)))
 
-  pub find-here : j < length es → rowIn (getD es j 0) + 1 ≡ findIn s es m rule
-  find-here h = rw (lt-ltb j (length es) h) at by-position
-
-  pub find-none : length es ≤ j → 0 ≡ findIn s es m rule
-  find-none h = rw (le-ltb j (length es) h) at by-position
+  pub find-along : {k : ℕ} → k ≡ keyOf s m rule → {r : ℕ} → r ≡ follow (matches s (tagOf k) m) (take (length xs - BUCKETS) (drop BUCKETS xs)) (getD xs (bucketOf k) 0)
+      → r ≡ findIn s xs m rule
+  unfolding findIn
+  find-along e f = f ∙ rw (take-all (length xs - BUCKETS) (drop BUCKETS xs) (omega (arith, length-drop BUCKETS xs)), e)
 
 -- ---- a name repeated
 
-module _ (s : List ℕ) where
-  repeated-none : (before : List ℕ) → repeatedEntry s before [] ≡ 0
-  unfolding repeatedEntry
-  repeated-none before = refl
+module _ (s xs : List ℕ) where
+  repeated-none : (i : ℕ) → repeatedFrom s xs i [] ≡ 0
+  unfolding repeatedFrom
+  repeated-none i = refl
 
-  module _ (before : List ℕ) (e : ℕ) (es : List ℕ) where
-    repeated-here : found (matches s (keyIn e) (markIn e)) before ≡ true → repeatedEntry s before (e ∷ es) ≡ markIn e
-    unfolding repeatedEntry
-    repeated-here f = rw f
+  repeated-cons : (i : ℕ) (d : Draft) (ds : List Draft) → repeatedFrom s xs i (d ∷ ds) ≡ cond (repeats s xs i d) (cell column.NAME d) (repeatedFrom s xs (i + 1) ds)
+  unfolding repeatedFrom
+  repeated-cons i d ds = refl
 
-    repeated-later : found (matches s (keyIn e) (markIn e)) before ≡ false → repeatedEntry s before (e ∷ es) ≡ repeatedEntry s (before ++ (e ∷ [])) es
-    unfolding repeatedEntry
-    repeated-later f = rw f
+  -- row i by its mark and the row plus one that it finds
+  module _ (i : ℕ) (d : Draft) {m : ℕ} (e : m ≡ cell column.NAME d) where
+    pub repeats-unnamed : m ≡ 0 → repeats s xs i d ≡ false
+    unfolding repeats
+    repeats-unnamed z = rw (← e, z)
 
--- the loop of `repeated_name`: no name of the first i entries is repeated, and the others have the same first repeat as all
-pub record Scanning (s es : List ℕ) (i : ℕ) : Type 0 where
-  pub inside : i ≤ length es
-  pub same : repeatedEntry s [] es ≡ repeatedEntry s (take i es) (drop i es)
+    pub repeats-named : (m ≡ 0 → ⊥) → {f : ℕ} → f ≡ findIn s xs m (is code.RULE d) → repeats s xs i d ≡ (ltb 0 f && leb f i)
+    unfolding repeats
+    repeats-named z g = rw (← e, lt-ltb 0 m (omega (arith, z)), ← g)
 
-pub scanning-start : (s es : List ℕ) → Scanning s es 0
-scanning-start s es = record { inside = omega arith; same = refl }
-
-module _ {s es : List ℕ} {i : ℕ} (v : Scanning s es i) where
-  pub scanning-end : length es ≤ i → 0 ≡ repeatedEntry s [] es
-  scanning-end h = sym (v .same ∙ rw (drop-of-length-le es h) (repeated-none s (take i es)))
-
-  module _ (h : i < length es) {j : ℕ} (f : j ≡ position (matches s (keyIn (getD es i 0)) (markIn (getD es i 0))) (take i es)) where
-    test : found (matches s (keyIn (getD es i 0)) (markIn (getD es i 0))) (take i es) ≡ ltb j i
-    test = rw (length-take-le i es (v .inside), f)
-
-    pub scanning-here : j < i → markIn (getD es i 0) ≡ repeatedEntry s [] es
-    scanning-here l = sym (v .same ∙ rw (drop-cons es i 0 h) (repeated-here s (take i es) (getD es i 0) (drop (suc i) es) (test ∙ lt-ltb j i l)))
-
-    pub scanning-next : i ≤ j → Scanning s es (i + 1)
-    scanning-next l =
-        record {
-          inside = omega arith;
-          same = v .same
-              ∙ rw (drop-cons es i 0 h, add-one i, take-suc es i 0 h) (repeated-later s (take i es) (getD es i 0) (drop (suc i) es) (test ∙ le-ltb j i l));
-        }
-
--- ---- entries
-
-entries-none : (s : List ℕ) (i : ℕ) → entries s i [] ≡ []
-unfolding entries
-entries-none s i = refl
-
-module _ (s : List ℕ) (i : ℕ) (d : Draft) (ds : List Draft) where
-  pub entries-unnamed : cell column.NAME d ≡ 0 → entries s i (d ∷ ds) ≡ entries s (i + 1) ds
-  unfolding entries
-  entries-unnamed e = rw (eq-eqb (cell column.NAME d) 0 e)
-
-  pub entries-named : (cell column.NAME d ≡ 0 → ⊥)
-      → entries s i (d ∷ ds) ≡ entryOf (keyOf s (cell column.NAME d) (is code.RULE d)) i (cell column.NAME d) ∷ entries s (i + 1) ds
-  unfolding entries
-  entries-named z = rw (ne-eqb (cell column.NAME d) 0 z)
-
-filled-none : (xs : List ℕ) → filled xs [] ≡ xs
-unfolding filled
-filled-none [] = refl
-filled-none (x ∷ xs) = refl
-
-filled-full : (es : List ℕ) → filled [] es ≡ []
-unfolding filled
-filled-full es = refl
-
-filled-cons : (x : ℕ) (xs : List ℕ) (e : ℕ) (es : List ℕ) → filled (x ∷ xs) (e ∷ es) ≡ e ∷ filled xs es
-unfolding filled
-filled-cons x xs e es = refl
-
--- where there is room, the entries are what was written
-pub filled-take : (xs es : List ℕ) → length es ≤ length xs → take (length es) (filled xs es) ≡ es
-unfolding filled
-filled-take xs [] h = refl
-filled-take [] (e ∷ es) h = absurd (omega arith)
-filled-take (x ∷ xs) (e ∷ es) h = ap (λ (l : List ℕ). e ∷ l) (filled-take xs es (omega arith))
-
--- the loop of `index_names`: n entries are written, those of the rows before row i
-pub record Indexing (s t : List ℕ) (c : ℕ) (xs₀ xs : List ℕ) (n i : ℕ) : Type 0 where
+-- the loop of `repeated_name`: row i and those after it have the same first repeated name as all rows
+pub record Scanning (s xs t : List ℕ) (c i : ℕ) : Type 0 where
   pub inside : i ≤ c
-  pub long : length xs ≡ length xs₀
-  pub room : n ≤ length xs
-  pub count : min (length (entries s 0 (draftsFrom t 0 c))) (length xs₀) ≡ n + min (length (entries s i (draftsFrom t i (c - i)))) (length xs - n)
-  pub same : filled xs₀ (entries s 0 (draftsFrom t 0 c)) ≡ take n xs ++ filled (drop n xs) (entries s i (draftsFrom t i (c - i)))
+  pub same : repeatedFrom s xs 0 (draftsFrom t 0 c) ≡ repeatedFrom s xs i (draftsFrom t i (c - i))
 
-pub indexing-start : (s t : List ℕ) (c : ℕ) (xs : List ℕ) → Indexing s t c xs xs 0 0
-indexing-start s t c xs = let e : c - 0 ≡ c = omega arith in record { inside = omega arith; long = refl; room = omega arith; count = rw e (omega arith); same = rw e }
+pub scanning-start : (s xs t : List ℕ) (c : ℕ) → Scanning s xs t c 0
+scanning-start s xs t c = record { inside = omega arith; same = ap (repeatedFrom s xs 0) (drafts-start t c) }
 
-module _ {s t xs₀ xs : List ℕ} {c n i : ℕ} (v : Indexing s t c xs₀ xs n i) where
-  abbrev Answer : Type 0
-  Answer = (n ≡ min (length (entries s 0 (draftsFrom t 0 c))) (length xs₀)) × (xs ≡ filled xs₀ (entries s 0 (draftsFrom t 0 c)))
+module _ {s xs t : List ℕ} {c i : ℕ} (v : Scanning s xs t c i) where
+  pub scanning-end : c ≤ i → 0 ≡ repeatedFrom s xs 0 (draftsFrom t 0 c)
+  scanning-end h = sym (v .same ∙ rw (drafts-end t i c h) (repeated-none s xs i))
 
-  pub indexing-end : c ≤ i → Answer
-  indexing-end h =
-      let e : entries s i (draftsFrom t i (c - i)) ≡ [] = rw (drafts-end t i c h) (entries-none s i) in
-      (omega (arith, v .count, ap length e), sym (v .same ∙ rw (e, filled-none (drop n xs)) (take-append-drop n xs)))
+  module _ (h : i < c) where
+    by-row : repeatedFrom s xs 0 (draftsFrom t 0 c)
+        ≡ cond (repeats s xs i (draftAt t i)) (cell column.NAME (draftAt t i)) (repeatedFrom s xs (i + 1) (draftsFrom t (i + 1) (c - (i + 1))))
+    by-row = v .same ∙ rw (drafts-next t i c h) (repeated-cons s xs i (draftAt t i) (draftsFrom t (i + 1) (c - (i + 1))))
 
-  pub indexing-full : length xs ≤ n → Answer
-  indexing-full h =
-      (omega (arith, v .count, v .room), sym (v .same ∙ rw (drop-of-length-le xs h, filled-full (entries s i (draftsFrom t i (c - i))), take-all n xs h) (append-nil xs)))
+    pub scanning-here : {m : ℕ} → m ≡ cell column.NAME (draftAt t i) → repeats s xs i (draftAt t i) ≡ true → m ≡ repeatedFrom s xs 0 (draftsFrom t 0 c)
+    scanning-here e y = e ∙ sym (by-row ∙ rw y)
 
-  module _ (h : i < c) {m : ℕ} (e : m ≡ cell column.NAME (draftAt t i)) where
-    abbrev after : List Draft
-    after = draftsFrom t (i + 1) (c - (i + 1))
-
-    pub indexing-unnamed : m ≡ 0 → Indexing s t c xs₀ xs n (i + 1)
-    indexing-unnamed z =
-        let f : entries s i (draftsFrom t i (c - i)) ≡ entries s (i + 1) after = rw (drafts-next t i c h) (entries-unnamed s i (draftAt t i) after (sym e ∙ z)) in
-        record { inside = omega arith; long = v .long; room = v .room; count = v .count ∙ rw f; same = v .same ∙ rw f }
-
-    pub indexing-named : (m ≡ 0 → ⊥) → n < length xs → {k x : ℕ} → k ≡ keyOf s m (is code.RULE (draftAt t i)) → x ≡ entryOf k i m
-        → Indexing s t c xs₀ (set xs n x) (n + 1) (i + 1)
-    indexing-named z l {k} {x} f g =
-        let entry : entryOf (keyOf s (cell column.NAME (draftAt t i)) (is code.RULE (draftAt t i))) i (cell column.NAME (draftAt t i)) ≡ x = sym (g ∙ rw (f, e)) in
-        let split : entries s i (draftsFrom t i (c - i)) ≡ x ∷ entries s (i + 1) after =
-        rw (drafts-next t i c h, ← entry) (entries-named s i (draftAt t i) after (λ y. z (e ∙ y))) in
-        record {
-          inside = omega arith;
-          long = length-set xs n x ∙ v .long;
-          room = rw (length-set xs n x) (omega arith);
-          count = v .count ∙ rw (length-set xs n x) (omega (arith, ap length split));
-          same = v .same
-              ∙ rw (split, add-one n, take-suc-set xs n x l, drop-set-lt (suc n) xs n x (omega arith), drop-cons xs n 0 l, filled-cons (getD xs n 0) (drop (suc n) xs) x (entries s (i + 1) after))
-              (sym (append-snoc (take n xs) x (filled (drop (suc n) xs) (entries s (i + 1) after))));
-        }
-
--- an index with room for all
-pub entries-few : (s : List ℕ) (i : ℕ) (ds : List Draft) → length (entries s i ds) ≤ length ds
-unfolding entries
-entries-few s i [] = omega arith
-entries-few s i (d ∷ ds) = go (eqb (cell column.NAME d) 0) (entries-few s (i + 1) ds)
-  where
-    go : (b : Bool) → length (entries s (i + 1) ds) ≤ length ds
-        → length (cond b (entries s (i + 1) ds) (entryOf (keyOf s (cell column.NAME d) (is code.RULE d)) i (cell column.NAME d) ∷ entries s (i + 1) ds)) ≤ suc (length ds)
-    go true h = omega arith
-    go false h = omega arith
-
-pub index-whole : (xs es : List ℕ) → length es ≤ length xs → {n : ℕ} {ys : List ℕ} → n ≡ min (length es) (length xs) → ys ≡ filled xs es → take n ys ≡ es
-index-whole xs es h e f = let all : min (length es) (length xs) ≡ length es = omega arith in rw (e, all, f) (filled-take xs es h)
+    pub scanning-next : repeats s xs i (draftAt t i) ≡ false → Scanning s xs t c (i + 1)
+    scanning-next y = record { inside = omega arith; same = by-row ∙ rw y }

@@ -13,12 +13,11 @@ use Rattle.grammar.specs.Rows.{Draft}
 use Rattle.grammar.specs.Stages.{cell, is, writes, any, finds, refers, faultIf, unfound}
 use Rattle.stages.specs.Faults.{alone, firstFault}
 use Rattle.stages.specs.Sound.{Sound, SoundRows, First, none, some}
-use Rattle.stages.specs.Names.{entries, findIn, declaresMark, firstRow}
+use Rattle.stages.specs.Names.{findIn, declaresMark, firstRow, Indexes}
 use Rattle.stages.specs.References.{findsQuestion, referenceFault}
 use Rattle.stages.proofs.Firsts.{first-each}
 use Rattle.stages.proofs.RowTests.{other-code, any-same}
 use Rattle.stages.proofs.RepeatFaults.{bears, Tells}
-use Rattle.stages.proofs.NameFaults.{finds-first}
 
 -- some row passes the test exactly where there is a first one
 pub any-row : (p : Draft → Bool) (ds : List Draft) (i : ℕ) → not (eqb (firstRow p i ds) 0) ≡ any p ds
@@ -43,10 +42,10 @@ unless-not : (b : Bool) {m : ℕ} → 0 < m → First (cond b m 0) (faultIf (not
 unless-not true h = some h
 unless-not false h = none
 
-module _ {ds : List Draft} (v : SoundRows ds) (s : List ℕ) where
+module _ {ds : List Draft} {s xs : List ℕ} (index : Indexes s ds xs) where
   -- the index finds a row exactly where one declares the name
-  index-tells : (m : ℕ) (rule : Bool) → 0 < m → not (eqb (findIn s (entries s 0 ds) m rule) 0) ≡ any (declaresMark s m rule) ds
-  index-tells m rule h = rw (finds-first s (v .each) 0 (omega (arith, v .few)) m rule (λ e. omega arith)) (any-row (declaresMark s m rule) ds 0)
+  index-tells : (m : ℕ) (rule : Bool) → 0 < m → not (eqb (findIn s xs m rule) 0) ≡ any (declaresMark s m rule) ds
+  index-tells m rule h = rw (index .finds m rule h) (any-row (declaresMark s m rule) ds 0)
 
   -- what a reference finds, by its code and number
   module _ (d : Draft) where
@@ -61,12 +60,12 @@ module _ {ds : List Draft} (v : SoundRows ds) (s : List ℕ) where
       finds-numbered z = any-same (finds s d) (bears writes (cell column.A d)) (λ x. rw (e, lt-ltb 0 (cell column.A d) (omega (arith, z)))) ds
 
   module _ {forms written : List ℕ} (f : Tells (is code.FORM) forms ds) (w : Tells writes written ds) where
-    question-tells : (d : Draft) → is code.QUESTION-REF d ≡ true → 0 < d .ownAt → findsQuestion s (entries s 0 ds) written d ≡ any (finds s d) ds
+    question-tells : (d : Draft) → is code.QUESTION-REF d ≡ true → 0 < d .ownAt → findsQuestion s xs written d ≡ any (finds s d) ds
     unfolding findsQuestion
     question-tells d e h = go (eqb (cell column.A d) 0) refl (other-code d code.QUESTION-REF code.RULE-REF e refl)
       where
         go : (b : Bool) → eqb (cell column.A d) 0 ≡ b → is code.RULE-REF d ≡ false
-            → cond b (not (eqb (findIn s (entries s 0 ds) (d .ownAt) false) 0)) (used written (cell column.A d)) ≡ any (finds s d) ds
+            → cond b (not (eqb (findIn s xs (d .ownAt) false) 0)) (used written (cell column.A d)) ≡ any (finds s d) ds
         go true z r = index-tells (d .ownAt) false h ∙ sym (finds-named d r (eqb-true _ _ z))
         go false z r = w .same (cell column.A d) ∙ sym (finds-numbered d r (eqb-false _ _ z))
 
@@ -75,12 +74,12 @@ module _ {ds : List Draft} (v : SoundRows ds) (s : List ℕ) where
         faultIf (is code.GOTO d && not (any (λ e. is code.FORM e && eqb (cell column.OWN e) (cell column.A d)) ds)) (d .limitAt)
         ++ faultIf (refers s d && not (any (finds s d) ds)) (d .ownAt)
 
-    reference-first : (before : List Draft) (d : Draft) → Sound d → First (referenceFault s (entries s 0 ds) forms written d) (referenceFaults before d)
+    reference-first : (before : List Draft) (d : Draft) → Sound d → First (referenceFault s xs forms written d) (referenceFaults before d)
     unfolding referenceFault
     reference-first before d u = go (is code.GOTO d) refl (is code.QUESTION-REF d) refl (is code.RULE-REF d) refl
       where
         go : (a : Bool) → is code.GOTO d ≡ a → (b : Bool) → is code.QUESTION-REF d ≡ b → (c : Bool) → is code.RULE-REF d ≡ c
-            → First (referenceFault s (entries s 0 ds) forms written d) (referenceFaults before d)
+            → First (referenceFault s xs forms written d) (referenceFaults before d)
         go true x b y c z =
             rw (x, other-code d code.GOTO code.QUESTION-REF x refl, other-code d code.GOTO code.RULE-REF x refl, f .same (cell column.A d))
             (unless-alone (any (bears (is code.FORM) (cell column.A d)) ds) (u .limit-written (rw x)))
@@ -89,11 +88,11 @@ module _ {ds : List Draft} (v : SoundRows ds) (s : List ℕ) where
             rw (x, y, question-tells d y o) (unless (any (finds s d) ds) o)
         go false x false y true z =
             let o : 0 < d .ownAt = u .reference (rw (y, z)) in
-            rw (x, y, z, finds-rule d z, ← index-tells (d .ownAt) true o) (unless-not (eqb (findIn s (entries s 0 ds) (d .ownAt) true) 0) o)
+            rw (x, y, z, finds-rule d z, ← index-tells (d .ownAt) true o) (unless-not (eqb (findIn s xs (d .ownAt) true) 0) o)
         go false x false y false z = rw (x, y, z) none
 
 -- stage 11 answers grammar's first fault
-pub references-first : {ds : List Draft} → SoundRows ds → (s : List ℕ) {forms written : List ℕ} → Tells (is code.FORM) forms ds → Tells writes written ds
-    → First (firstFault (alone (referenceFault s (entries s 0 ds) forms written)) ds) (unfound s ds)
+pub references-first : {ds : List Draft} → SoundRows ds → {s xs : List ℕ} → Indexes s ds xs → {forms written : List ℕ} → Tells (is code.FORM) forms ds → Tells writes written ds
+    → First (firstFault (alone (referenceFault s xs forms written)) ds) (unfound s ds)
 unfolding unfound
-references-first {ds} v s f w = first-each (alone (referenceFault s (entries s 0 ds) _ _)) (referenceFaults v s f w) (λ before d rest u. reference-first v s f w before d u) (v .each) []
+references-first v {s} {xs} index f w = first-each (alone (referenceFault s xs _ _)) (referenceFaults index f w) (λ before d rest u. reference-first index f w before d u) (v .each) []

@@ -1,9 +1,10 @@
 -- The index of declared names, and stage 9 by it (document 01, "Refusal numbers", No. 9).
-use Prim.Native.Nat.{ℕ, suc, _+_, _*_, _/_, _%_}
+use Prim.Native.Nat.{ℕ, suc, _+_, _-_, _*_, _/_, _%_, _<_}
+use mathlib.Core.Path.{_≡_}
 use mathlib.Core.Bool.{Bool, true, false, cond, _&&_}
-use mathlib.Core.List.{List, [], _∷_, _++_}
-use lib.Dec.{eqb, ltb}
-use lib.ListN.{length, getD, drop}
+use mathlib.Core.List.{List, [], _∷_}
+use lib.Dec.{eqb, ltb, leb}
+use lib.ListN.{length, getD, set, drop}
 use Rattle.lex.specs.Tokens.{word, sameWord}
 use Rattle.rows.specs.Codes as code
 use Rattle.rows.specs.Columns as column
@@ -13,38 +14,52 @@ use Rattle.stages.specs.Sound.{MARKS}
 
 -- ---- keys: names of one sort that are the same have the same key
 
--- a prime below 2^29
-abbrev pub PRIME : ℕ
-PRIME = 536870909
+-- hashes lie below it
+abbrev pub HASHES : ℕ
+HASHES = 4194304
 
--- a prime above 2^24, by which bytes count
+-- what bytes count by
 abbrev pub BASE : ℕ
-BASE = 16777619
+BASE = 403
 
 -- the hash of bytes after others with the hash h
 unfoldable pub hashOf : ℕ → List ℕ → ℕ
 hashOf h [] = h
-hashOf h (b ∷ w) = hashOf ((h * BASE + b) % PRIME) w
-
--- 1 for a rule's name, 0 for a question's
-abbrev pub sortBit : Bool → ℕ
-sortBit rule = cond rule 1 0
+hashOf h (b ∷ w) = hashOf ((h * BASE + b) % HASHES) w
 
 -- the key of the name at a mark, of a rule or of a question
 unfoldable pub keyOf : List ℕ → ℕ → Bool → ℕ
-keyOf s m rule = cond (eqb m 0) 0 (hashOf 0 (word (drop (placeOf m) s)) * 2 + sortBit rule)
+keyOf s m rule = cond (eqb m 0) 0 (hashOf 0 (word (drop (placeOf m) s)) + cond rule HASHES 0)
+
+-- how many buckets there are
+abbrev pub BUCKETS : ℕ
+BUCKETS = 1024
+
+-- the bucket of a key, and the rest of the key
+abbrev pub bucketOf : ℕ → ℕ
+bucketOf k = k % BUCKETS
+
+abbrev pub tagOf : ℕ → ℕ
+tagOf k = k / BUCKETS
 
 -- ---- entries
 
-abbrev pub KEYS : ℕ
-KEYS = 17179869184
+-- what an entry counts its link by, and its tag
+abbrev pub LINKS : ℕ
+LINKS = 17179869184
 
--- key, row and mark in one number
-abbrev pub entryOf : ℕ → ℕ → ℕ → ℕ
-entryOf key row mark = key * KEYS + row % MARKS * MARKS + mark % MARKS
+abbrev pub TAGS : ℕ
+TAGS = 2251799813685248
 
-abbrev pub keyIn : ℕ → ℕ
-keyIn e = e / KEYS
+-- tag, link, row and mark in one number
+abbrev pub entryOf : ℕ → ℕ → ℕ → ℕ → ℕ
+entryOf tag link row mark = tag * TAGS + link % MARKS * LINKS + row % MARKS * MARKS + mark % MARKS
+
+abbrev pub tagIn : ℕ → ℕ
+tagIn e = e / TAGS
+
+abbrev pub linkIn : ℕ → ℕ
+linkIn e = e / LINKS % MARKS
 
 abbrev pub rowIn : ℕ → ℕ
 rowIn e = e / MARKS % MARKS
@@ -52,50 +67,59 @@ rowIn e = e / MARKS % MARKS
 abbrev pub markIn : ℕ → ℕ
 markIn e = e % MARKS
 
--- an entry for each row that declares a name, from row i on
-unfoldable pub entries : List ℕ → ℕ → List Draft → List ℕ
-entries s i [] = []
-entries s i (d ∷ ds) =
-    let more = entries s (i + 1) ds in
-    cond (eqb (cell column.NAME d) 0) more (entryOf (keyOf s (cell column.NAME d) (is code.RULE d)) i (cell column.NAME d) ∷ more)
+-- ---- an index: the heads of the buckets, and then the entries, numbered from 1 on from the last one back
 
--- entries written over the start of an index, as far as it has room
-unfoldable pub filled : List ℕ → List ℕ → List ℕ
-filled [] es = []
-filled (x ∷ xs) [] = x ∷ xs
-filled (x ∷ xs) (e ∷ es) = e ∷ filled xs es
+-- an index of n entries with one more, where it has room: its link is the head of its bucket before
+unfoldable pub added : List ℕ → ℕ → ℕ → ℕ → ℕ → List ℕ
+added xs n key row mark =
+    cond (ltb (BUCKETS + n) (length xs))
+    (set (set xs (length xs - suc n) (entryOf (tagOf key) (getD xs (bucketOf key) 0) row mark)) (bucketOf key) (suc n)) xs
+
+-- how many rows declare a name
+unfoldable pub namesIn : List Draft → ℕ
+namesIn [] = 0
+namesIn (d ∷ ds) = let more = namesIn ds in cond (eqb (cell column.NAME d) 0) more (suc more)
+
+-- an index with the rows that declare a name, from row i on, entered from the last to the first
+unfoldable pub indexed : List ℕ → ℕ → List Draft → List ℕ → List ℕ
+indexed s i [] xs = xs
+indexed s i (d ∷ ds) xs =
+    let more = indexed s (i + 1) ds xs in
+    cond (eqb (cell column.NAME d) 0) more (added more (namesIn ds) (keyOf s (cell column.NAME d) (is code.RULE d)) i (cell column.NAME d))
 
 -- ---- searching
 
--- how many entries stand before the first that passes the test
-unfoldable pub position : (ℕ → Bool) → List ℕ → ℕ
-position p [] = 0
-position p (e ∷ es) = let later = suc (position p es) in cond (p e) 0 later
-
-abbrev pub found : (ℕ → Bool) → List ℕ → Bool
-found p es = ltb (position p es) (length es)
+-- along the chain from entry j of the entries: the row plus one of the first entry that passes the test, 0 where there is none. An entry
+-- links to those after it
+unfoldable pub follow : (ℕ → Bool) → List ℕ → ℕ → ℕ
+follow p [] j = 0
+follow p (e ∷ es) j =
+    let later = follow p es j in
+    let linked = follow p es (linkIn e) in
+    cond (eqb j (suc (length es))) (cond (p e) (rowIn e + 1) linked) later
 
 module _ (s : List ℕ) where
   -- the names at two marks are the same
   unfoldable pub sameName : ℕ → ℕ → Bool
   sameName m n = ltb 0 m && (ltb 0 n && sameWord s (placeOf m) (placeOf n))
 
-  -- the entry has the key, and the name at a mark
+  -- the entry has the tag, and the name at a mark
   abbrev pub matches : ℕ → ℕ → ℕ → Bool
-  matches key m e = eqb (keyIn e) key && sameName (markIn e) m
+  matches tag m e = eqb (tagIn e) tag && sameName (markIn e) m
 
-  -- the row plus one that declares the name at a mark, of a rule or of a question; 0 where there is none
-  unfoldable pub findIn : List ℕ → ℕ → Bool → ℕ
-  findIn es m rule =
-      let p = matches (keyOf s m rule) m in
-      cond (found p es) (rowIn (getD es (position p es) 0) + 1) 0
+  module _ (xs : List ℕ) where
+    -- the row plus one of the first that declares the name at a mark, of a rule or of a question; 0 where there is none
+    unfoldable pub findIn : ℕ → Bool → ℕ
+    findIn m rule = follow (matches (tagOf (keyOf s m rule)) m) (drop BUCKETS xs) (getD xs (bucketOf (keyOf s m rule)) 0)
 
-  -- the mark of the first name that an entry before has, 0 where there is none
-  unfoldable pub repeatedEntry : List ℕ → List ℕ → ℕ
-  repeatedEntry before [] = 0
-  repeatedEntry before (e ∷ es) =
-      let later = repeatedEntry (before ++ (e ∷ [])) es in
-      cond (found (matches (keyIn e) (markIn e)) before) (markIn e) later
+    -- the name that row i declares finds a row before it
+    unfoldable pub repeats : ℕ → Draft → Bool
+    repeats i d = let first = findIn (cell column.NAME d) (is code.RULE d) in ltb 0 (cell column.NAME d) && (ltb 0 first && leb first i)
+
+    -- the mark of the first name, from row i on, by which a row before is found, 0 where there is none
+    unfoldable pub repeatedFrom : ℕ → List Draft → ℕ
+    repeatedFrom i [] = 0
+    repeatedFrom i (d ∷ ds) = let later = repeatedFrom (i + 1) ds in cond (repeats i d) (cell column.NAME d) later
 
 -- ---- the same over rows
 
@@ -112,3 +136,7 @@ declaresMark s m rule d = sortOf rule d && declares s (placeOf m) d
 unfoldable pub firstRow : (Draft → Bool) → ℕ → List Draft → ℕ
 firstRow p i [] = 0
 firstRow p i (d ∷ ds) = let later = firstRow p (i + 1) ds in cond (p d) (i + 1) later
+
+-- the index xs finds what the rows ds declare
+pub record Indexes (s : List ℕ) (ds : List Draft) (xs : List ℕ) : Type 0 where
+  pub finds : (m : ℕ) (rule : Bool) → 0 < m → findIn s xs m rule ≡ firstRow (declaresMark s m rule) 0 ds

@@ -1,33 +1,40 @@
-// The index of declared names: an entry for each row that declares one, in the rows' order. An entry holds a key, the row
-// and the name's mark. The key is a hash of the name with the sort of row, so that rows of one sort and name have one key.
+// The index of declared names: hash chains. Its first words are the heads of the buckets; the others are the entries, an
+// entry for each row that declares a name, numbered from 1 on from the last word back. Rows are entered from the last to
+// the first. A head is the number of the entry that its bucket gained last, or 0; an entry's link is the head before it.
+// So a chain meets its rows in their order.
 ghost use mathlib.Core.Path.{_≡_};
-ghost use mathlib.Core.List.{[]};
-ghost use Prim.Native.Nat.{_<_, _≤_, min};
-ghost use lib.ListN.{length, drop};
+ghost use Prim.Native.Nat.{_<_};
+ghost use lib.ListN.{drop};
 ghost use Rattle.lex.specs.Tokens.{word};
 ghost use Rattle.grammar.specs.Drafts.{draftsFrom};
-ghost use Rattle.stages.specs.Names.{PRIME, hashOf, keyOf, KEYS, entryOf, entries, filled, position, sameName, matches, findIn, repeatedEntry};
+ghost use Rattle.stages.specs.Names.{HASHES, hashOf, keyOf, entryOf, added, namesIn, indexed, sameName, matches, follow, findIn, repeatedFrom};
 use rows::cell;
 use rows::codes;
 use rows::columns::CODE;
 use rows::columns::NAME;
 
-// Marks and row numbers lie below it.
+// How many buckets there are.
+const BUCKETS: usize = 1024;
+
+// Marks, row numbers and entry numbers lie below it.
 const MARKS: u64 = 131072;
 
-// What an entry counts its key by: MARKS times MARKS.
-const KEYS: u64 = 17179869184;
+// What an entry counts its link by: MARKS times MARKS.
+const LINKS: u64 = 17179869184;
 
-// A prime below 2^29.
-const PRIME: u64 = 536870909;
+// What an entry counts its tag by: MARKS times LINKS.
+const TAGS: u64 = 2251799813685248;
 
-// A prime above 2^24, by which bytes count.
-const BASE: u64 = 16777619;
+// Hashes lie below it.
+const HASHES: u64 = 4194304;
+
+// What bytes count by.
+const BASE: u64 = 403;
 
 // The hash of the word at a place.
 fn hash(src: &[u8], at: usize) -> u64
     ensures { λ r. ⌜ r ≡ hashOf 0 (word (drop at (now (src .entry)))) ⌝ }
-    ensures { λ r. ⌜ r < PRIME ⌝ }
+    ensures { λ r. ⌜ r < HASHES ⌝ }
 {
     let mut h: u64 = 0;
     let mut i = at;
@@ -36,57 +43,73 @@ fn hash(src: &[u8], at: usize) -> u64
         if b == 0 {
             return h;
         }
-        h = (h * BASE + b as u64) % PRIME;
+        h = (h * BASE + b as u64) % HASHES;
         i += 1;
     }
     h
 }
 
-// The key of the name at a mark, of a rule or of a question.
+// The key of the name at a mark, of a rule or of a question: the hash, and HASHES more for a rule.
 fn key(src: &[u8], mark: u64, rule: bool) -> u64
     ensures { λ r. ⌜ r ≡ keyOf (now (src .entry)) mark rule ⌝ }
-    ensures { λ r. ⌜ r < 1073741824 ⌝ }
+    ensures { λ r. ⌜ r < 8388608 ⌝ }
 {
     if mark == 0 {
         return 0;
     }
     let h = hash(src, (mark - 1) as usize);
     if rule {
-        return h * 2 + 1;
+        return h + HASHES;
     }
-    h * 2
+    h
 }
 
-// An entry's number.
-fn entry(key: u64, row: usize, mark: u64) -> u64
-    requires { ⌜ key < 1073741824 ⌝ }
-    ensures { λ r. ⌜ r ≡ entryOf key row mark ⌝ }
+// Tag, link, row and mark in one number.
+fn entry(tag: u64, link: u64, row: usize, mark: u64) -> u64
+    requires { ⌜ tag < 8192 ⌝ }
+    ensures { λ r. ⌜ r ≡ entryOf tag link row mark ⌝ }
 {
-    key * KEYS + row as u64 % MARKS * MARKS + mark % MARKS
+    tag * TAGS + link % MARKS * LINKS + row as u64 % MARKS * MARKS + mark % MARKS
 }
 
-// Writes an entry for each row that declares a name, as far as the index has room, and answers how many are written.
+// Enters a row that declares the name at a mark, after some number of entries, where the index has room.
+fn add(src: &[u8], index: &mut [u64], entered: usize, row: usize, mark: u64, rule: bool)
+    ensures { λ _. ⌜ now (index .exit) ≡ added (now (index .entry)) entered (keyOf (now (src .entry)) mark rule) row mark ⌝ }
+{
+    if index.len() < BUCKETS {
+        return;
+    }
+    if index.len() - BUCKETS <= entered {
+        return;
+    }
+    let k = key(src, mark, rule);
+    let bucket = k as usize % BUCKETS;
+    let slot = index.len() - 1 - entered;
+    let link = index[bucket];
+    index[slot] = entry((k as usize / BUCKETS) as u64, link, row, mark);
+    index[bucket] = entered as u64 + 1;
+}
+
+// Enters each row that declares a name, as far as the index has room, and answers how many there are.
 pub fn index_names(src: &[u8], table: &[u64], count: usize, index: &mut [u64]) -> usize
-    ensures { λ r. ⌜ r ≡ min (length (entries (now (src .entry)) 0 (draftsFrom (now (table .entry)) 0 count))) (length (now (index .entry))) ⌝ }
-    ensures { λ _. ⌜ now (index .exit) ≡ filled (now (index .entry)) (entries (now (src .entry)) 0 (draftsFrom (now (table .entry)) 0 count)) ⌝ }
+    ensures { λ r. ⌜ r ≡ namesIn (draftsFrom (now (table .entry)) 0 count) ⌝ }
+    ensures { λ _. ⌜ now (index .exit) ≡ indexed (now (src .entry)) 0 (draftsFrom (now (table .entry)) 0 count) (now (index .entry)) ⌝ }
 {
-    let mut n = 0;
-    let mut row = 0;
-    while row < count {
+    let mut named = 0;
+    let mut rest = count;
+    while 0 < rest {
+        let row = rest - 1;
         let mark = cell(table, row, NAME);
         if mark == 0 {
-            row += 1;
+            rest = row;
         } else {
-            if index.len() <= n {
-                return n;
-            }
             let rule = cell(table, row, CODE) == codes::RULE;
-            index[n] = entry(key(src, mark, rule), row, mark);
-            n += 1;
-            row += 1;
+            add(src, index, named, row, mark, rule);
+            named += 1;
+            rest = row;
         }
     }
-    n
+    named
 }
 
 // The names at two marks are the same.
@@ -99,49 +122,77 @@ fn same_name(src: &[u8], p: u64, q: u64) -> bool
     if q == 0 {
         return false;
     }
+    if p == q {
+        return true;
+    }
     lex::same_word(src, (p - 1) as usize, (q - 1) as usize)
 }
 
-// How many entries stand before the first that has the key, and the name at a mark.
-fn position(src: &[u8], index: &[u64], key: u64, mark: u64) -> usize
-    ensures { λ r. ⌜ r ≡ position (matches (now (src .entry)) key mark) (now (index .entry)) ⌝ }
+// The entry has the tag, and the name at a mark.
+fn matches(src: &[u8], entry: u64, tag: u64, mark: u64) -> bool
+    ensures { λ r. ⌜ r ≡ matches (now (src .entry)) tag mark entry ⌝ }
 {
-    let mut i = 0;
-    while i < index.len() {
-        if index[i] / KEYS == key {
-            if same_name(src, index[i] % MARKS, mark) {
-                return i;
-            }
-            i += 1;
-        } else {
-            i += 1;
-        }
+    if entry / TAGS == tag {
+        return same_name(src, entry % MARKS, mark);
     }
-    i
+    false
 }
 
-// The row plus one that declares the name at a mark, of a rule or of a question; 0 where there is none.
-pub fn find(src: &[u8], index: &[u64], mark: u64, rule: bool) -> u64
-    ensures { λ r. ⌜ r ≡ findIn (now (src .entry)) (now (index .entry)) mark rule ⌝ }
+// The row plus one of the first entry of a chain that has the tag, and the name at a mark; 0 where there is none. The
+// chain ends where a link is not below the entry's own number.
+fn follow(src: &[u8], entries: &[u64], first: u64, tag: u64, mark: u64) -> u64
+    ensures { λ r. ⌜ r ≡ follow (matches (now (src .entry)) tag mark) (now (entries .entry)) first ⌝ }
 {
-    let i = position(src, index, key(src, mark, rule), mark);
-    if i < index.len() {
-        return index[i] / MARKS % MARKS + 1;
+    let mut at = first;
+    while (0 < at) & (at <= entries.len() as u64) {
+        let entry = entries[entries.len() - at as usize];
+        if matches(src, entry, tag, mark) {
+            return entry / MARKS % MARKS + 1;
+        }
+        let link = entry / LINKS % MARKS;
+        if at <= link {
+            return 0;
+        }
+        at = link;
     }
     0
 }
 
-// 9: a question's name repeated among questions, or a rule's among rules.
-pub fn repeated_name(src: &[u8], index: &[u64]) -> u64
-    ensures { λ r. ⌜ r ≡ repeatedEntry (now (src .entry)) [] (now (index .entry)) ⌝ }
+// The row plus one of the first that declares the name at a mark, of a rule or of a question; 0 where there is none.
+pub fn find(src: &[u8], index: &[u64], mark: u64, rule: bool) -> u64
+    ensures { λ r. ⌜ r ≡ findIn (now (src .entry)) (now (index .entry)) mark rule ⌝ }
 {
-    let mut i = 0;
-    while i < index.len() {
-        let mark = index[i] % MARKS;
-        if position(src, &index[..i], index[i] / KEYS, mark) < i {
-            return mark;
+    if index.len() < BUCKETS {
+        return 0;
+    }
+    let k = key(src, mark, rule);
+    let first = index[k as usize % BUCKETS];
+    follow(
+        src,
+        &index[BUCKETS..],
+        first,
+        (k as usize / BUCKETS) as u64,
+        mark,
+    )
+}
+
+// 9: a question's name repeated among questions, or a rule's among rules: the index finds a row before.
+pub fn repeated_name(src: &[u8], table: &[u64], count: usize, index: &[u64]) -> u64
+    ensures { λ r. ⌜ r ≡ repeatedFrom (now (src .entry)) (now (index .entry)) 0 (draftsFrom (now (table .entry)) 0 count) ⌝ }
+{
+    let mut row = 0;
+    while row < count {
+        let mark = cell(table, row, NAME);
+        if mark == 0 {
+            row += 1;
+        } else {
+            let rule = cell(table, row, CODE) == codes::RULE;
+            let first = find(src, index, mark, rule);
+            if (0 < first) & (first <= row as u64) {
+                return mark;
+            }
+            row += 1;
         }
-        i += 1;
     }
     0
 }

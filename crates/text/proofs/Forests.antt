@@ -16,7 +16,7 @@ use Rattle.rows.specs.Table.{rowAt, cellAt}
 use Rattle.ll1.specs.Trees.{Trees, nil, node, Symbol, terminal, nonterminal, Fits, fits-nil, fits-leaf, fits-node}
 use Rattle.ll1.specs.ParseTable.{member}
 use Rattle.ll1.proofs.Basics.{both, implied, clash, all-member}
-use Rattle.grammar.specs.Rules.{<source>, <form>*, <form>, <item-or-rule>*, <rule>, <item>, <option>*, <item>*, <option>}
+use Rattle.grammar.specs.Rules.{<source>, <form>, <rule>, <item>, <option>}
 use Rattle.grammar.specs.Grammar.{rules}
 use Rattle.grammar.specs.Parts.{child, placeAt}
 use Rattle.grammar.specs.Expression.{Expression, number, constant, question-named, question-numbered, rule-named, negation, binary, Operator, operatorCode, or, and, bit-or, bit-and, equal, not-equal, less, less-equal, greater, greater-equal, shift-left, shift-right, add, subtract, multiply, divide, modulo, Constant, constantCode, true′, false′, zero′, one′, ones′, undefined′, expression}
@@ -24,6 +24,7 @@ use Rattle.grammar.specs.Rows.{Draft, operand, expressionRows, ownRows, parentI
 use Rattle.grammar.specs.Text as text
 use Rattle.grammar.specs.Text.{Word, words, opening, wordsOf, around}
 use Rattle.grammar.proofs.Alternatives.{everywhere, at-alternative}
+use Rattle.grammar.proofs.Statements.{statements, states, free, Under, tested}
 use Rattle.print.specs.Statements.{closing, expressionEnd}
 use Rattle.text.specs.Spans.{Spans, spans-number, spans-constant, spans-question-named, spans-question-numbered, spans-rule-named, spans-negation, spans-binary}
 use Rattle.text.specs.Items.{Inner, plain, expressed, Items, done, codeAt, innerWords, itemWords}
@@ -242,39 +243,29 @@ ten-items : everywhere (λ A i a. not (eqb A <item>) || ltb i 10) ≡ true
 unfolding rules
 ten-items = refl
 
--- the rules under which statements may stand, and those of statements
-abbrev above : List ℕ
-above = <source> ∷ <form>* ∷ <form> ∷ <item-or-rule>* ∷ <rule> ∷ <item> ∷ <option>* ∷ <item>* ∷ <option> ∷ []
-
-not-made : (A : ℕ) → member A above ≡ false → makesRow A ≡ false
+not-made : (A : ℕ) → states A ≡ false → makesRow A ≡ false
 not-made A h = by (makesRow A) refl
   where
     by : (b : Bool) → makesRow A ≡ b → makesRow A ≡ false
     by false e = e
-    by true e = clash (cc (all-member (λ B. member B above) (<item> ∷ <option> ∷ <rule> ∷ <form> ∷ []) A refl e))
+    by true e = clash (cc (all-member (λ B. states B) (<item> ∷ <option> ∷ <rule> ∷ <form> ∷ []) A refl e))
 
-over : (A : ℕ) → makesRow A ≡ true → member A above ≡ true
-over A h = all-member (λ B. member B above) (<item> ∷ <option> ∷ <rule> ∷ <form> ∷ []) A refl h
-
--- rules under which no statement stands
-abbrev bare : List Symbol → Bool
-bare [] = true
-bare (terminal k ∷ σ) = bare σ
-bare (nonterminal A ∷ σ) = not (member A above) && bare σ
+over : (A : ℕ) → makesRow A ≡ true → states A ≡ true
+over A h = all-member (λ B. states B) (<item> ∷ <option> ∷ <rule> ∷ <form> ∷ []) A refl h
 
 -- a rule that has no statement under it has none in its alternatives; nor has a statement that holds none
-bare-under : everywhere (λ A i a. (member A above && (not (makesRow A) || holds A i)) || bare (a .symbols)) ≡ true
+bare-under : Under (λ A i. not (states A && (not (makesRow A) || holds A i))) statements
 unfolding rules
-bare-under = refl
+bare-under = tested _ _ refl
 
-bare-none : {σ : List Symbol} {f : Trees} → Fits rules σ f → bare σ ≡ true → (z : Items) → itemsOf f z ≡ z
+bare-none : {σ : List Symbol} {f : Trees} → Fits rules σ f → free statements σ ≡ true → (z : Items) → itemsOf f z ≡ z
 unfolding itemsOf
 bare-none fits-nil h z = refl
 bare-none (fits-leaf r) h z = bare-none r h z
 bare-none (fits-node {A = A} {i = i} {a = a} {c = c} {f = f} e r₁ r₂) h z =
-    let t = both (not (member A above)) _ h in
-    let no-above : member A above ≡ false = not-true (member A above) (t .0) in
-    let under : bare (a .symbols) ≡ true = rw no-above at (at-alternative _ bare-under e) in
+    let t = both (not (states A)) _ h in
+    let no-above : states A ≡ false = not-true (states A) (t .0) in
+    let under = bare-under A i a e (rw no-above) in
     rw (not-made A no-above, itemsOf) (bare-none r₁ under (itemsOf f z) ∙ bare-none r₂ (t .1) z)
 
 module _ (t : List ℕ) (count : ℕ) (found : ℕ → List ℕ) (value : ℕ → ℕ) where
@@ -432,7 +423,7 @@ module _ (t : List ℕ) (count : ℕ) (found : ℕ → List ℕ) (value : ℕ �
   forest (fits-leaf r) h parent at n e low end room held edge =
       let q = forest r h parent at n e low end room held edge in
       record { laid = q .laid; edge = q .edge; words = q .words }
-  forest (fits-node {A = A} {i = i} {c = c} {f = f} eq r₁ r₂) h parent at n e low end room held edge =
+  forest (fits-node {A = A} {i = i} {a = a} {c = c} {f = f} eq r₁ r₂) h parent at n e low end room held edge =
       let b = both (not (eqb A <source>)) _ h in
       let no-source = at-alternative _ no-source-under eq in
       either (makesRow A)
@@ -442,7 +433,7 @@ module _ (t : List ℕ) (count : ℕ) (found : ℕ → List ℕ) (value : ℕ �
       let k-is = k-end parent at n A i c f own e low end room held in
       let e-is = e-end parent at n A i c f own e low end room held in
       statement-forest parent at n A i c f own e low end room held made
-      (λ no-holds. bare-none r₁ (rw (made, no-holds, over A made) at (at-alternative _ bare-under eq)) done)
+      (λ no-holds. bare-none r₁ (bare-under A i a eq (rw (made, no-holds, over A made))) done)
       (λ g. forest r₁ no-source at (at + length (mine parent at n A i c f own)) n (k parent at n A i c f own e low end room held) (omega arith) k-is (omega (arith, e-is)) (held-mine parent at n A i c f own e low end room held .1) g)
       (forest r₂ (b .1) parent (k parent at n A i c f own e low end room held) _ e (omega arith) e-is room (parts parent at n A i c f own e low end room held .1) edge))
       (λ made.

@@ -5,8 +5,9 @@ use native.Mathlib.Omega.{arith}
 use lib.Dec.{eqb}
 use lib.ListN.{length}
 use borrow.Author.Needs.{needs}
+use Rattle.lex.specs.Bytes.{isWordByte}
 use Rattle.lex.specs.Tokens.{sameWord}
-use Rattle.lex.proofs.WordParts.{first-inside, words-differ, words-end, words-go-on, words-past}
+use Rattle.lex.proofs.WordParts.{byte-inside, words-apart, words-end-here, words-go-on, words-past}
 use Rattle.lex.proofs.same_word.Statement.{statement}
 use Rattle.lex.proofs.same_word.Tie as tie
 
@@ -19,6 +20,12 @@ abbrev μ-loop : tie.MeasureT-loop
 loop-holds : tie.Need-loop-holds Inv-loop μ-loop
 loop-holds c = search needs
 
+shared-slice-read-b : tie.Need-shared-slice-read-b Inv-loop μ-loop
+shared-slice-read-b c = search needs
+
+byte-at-requires : tie.Need-byte-at-requires Inv-loop μ-loop
+byte-at-requires c κs = search needs
+
 word-byte-requires : tie.Need-word-byte-requires Inv-loop μ-loop
 word-byte-requires c κs = search needs
 
@@ -27,40 +34,41 @@ word-byte-requires-2 c κs = search needs
 
 returns : tie.Need-returns Inv-loop μ-loop
 returns c =
-    let args = c .before .before .before .before .before .before .args in
-    let loop = c .before .before .before .before .loop in
-    let b = c .before .before .word-byte .ensures in
-    let b′ = c .before .word-byte2 .ensures in
-    sym (loop .inv ∙ words-differ (args .src .now) (loop .i) (loop .j) (λ e. c .if1 .taken (b ∙ e ∙ sym b′)))
+    let args = c .before .before .before .before .before .before .before .before .args in
+    let loop = c .before .before .before .before .before .before .loop in
+    let byte-at = c .before .before .before .byte-at in
+    let if1 = c .before .before .if1 in
+    rw (c .before .word-byte .ensures, c .word-byte2 .ensures) (words-apart (args .src .now) (loop .i) (loop .j) (λ e. if1 .taken (e ∙ sym (byte-at .ensures))) ∙ sym (loop .inv))
+
+is-word-byte-requires : tie.Need-is-word-byte-requires Inv-loop μ-loop
+is-word-byte-requires c κs = search needs
 
 returns-2 : tie.Need-returns-2 Inv-loop μ-loop
 returns-2 c =
-    let args = c .before .before .before .before .before .before .before .args in
-    let loop = c .before .before .before .before .before .loop in
-    let ends = sym (c .before .before .before .word-byte .ensures) ∙ c .if2 .taken in
-    let ends′ = sym (c .before .before .word-byte2 .ensures) ∙ sym (c .before .if1 .left) ∙ c .if2 .taken in
-    sym (loop .inv ∙ words-end (args .src .now) (loop .i) (loop .j) ends ends′)
+    let args = c .before .before .before .before .before .before .before .before .args in
+    let loop = c .before .before .before .before .before .before .loop in
+    let same-byte = c .before .before .if1 .left ∙ c .before .before .before .byte-at .ensures in
+    sym (loop .inv ∙ words-end-here (args .src .now) (loop .i) (loop .j) same-byte (sym (c .before .is-word-byte .ensures) ∙ c .if2 .left))
 
 add-i : tie.Need-add-i Inv-loop μ-loop
 add-i c = search needs
 
 add-j : tie.Need-add-j Inv-loop μ-loop
 add-j c =
-    let args = c .before .before .before .before .before .before .before .args in
-    let loop = c .before .before .before .before .before .loop in
-    let same-byte = c .before .if1 .left ∙ c .before .before .word-byte2 .ensures in
-    omega (arith, first-inside (args .src .now) (loop .j) (λ zero. c .if2 .left (same-byte ∙ zero)))
+    let args = c .before .before .before .before .before .before .before .before .args in
+    let loop = c .before .before .before .before .before .before .loop in
+    let same-byte = c .before .before .if1 .left ∙ c .before .before .before .byte-at .ensures in
+    omega (arith, byte-inside (args .src .now) (loop .j) (ap isWordByte (sym same-byte) ∙ sym (c .before .is-word-byte .ensures) ∙ c .if2 .taken))
 
 loop-less : tie.Need-loop-less Inv-loop μ-loop
 loop-less c = search needs
 
 loop-again : tie.Need-loop-again Inv-loop μ-loop
 loop-again c =
-    let args = c .before .before .before .before .before .before .before .args in
-    let loop = c .before .before .before .before .before .loop in
-    let b = c .before .before .before .word-byte .ensures in
-    let b′ = c .before .before .word-byte2 .ensures in
-    loop .inv ∙ words-go-on (args .src .now) (loop .i) (loop .j) (sym b ∙ c .before .if1 .left ∙ b′) (λ zero. c .if2 .left (b ∙ zero))
+    let args = c .before .before .before .before .before .before .before .before .args in
+    let loop = c .before .before .before .before .before .before .loop in
+    let same-byte = c .before .before .if1 .left ∙ c .before .before .before .byte-at .ensures in
+    loop .inv ∙ words-go-on (args .src .now) (loop .i) (loop .j) same-byte (sym (c .before .is-word-byte .ensures) ∙ c .if2 .taken)
 
 word-byte-requires-3 : tie.Need-word-byte-requires-3 Inv-loop μ-loop
 word-byte-requires-3 c κs = search needs
@@ -78,13 +86,16 @@ same-word-spec =
     Inv-loop
     μ-loop
     loop-holds
+    shared-slice-read-b
+    byte-at-requires
     word-byte-requires
     word-byte-requires-2
     returns
-    returns-2
+    is-word-byte-requires
     add-i
     add-j
     loop-less
     loop-again
+    returns-2
     word-byte-requires-3
     returns-3)

@@ -1,57 +1,90 @@
--- `lex::word_token` meets its contract.
-use mathlib.Core.Path.{ap, _∙_}
+-- `lex::word_token` meets its contract. The loop's invariant: no word goes on past `end`, and where it is sure, the word ends there.
+use mathlib.Core.Path.{_≡_, ap, _∙_}
+use mathlib.Core.Bool.{true, cond, false≢true}
+use Prim.Native.Nat.{_+_}
 use native.Mathlib.Omega.{arith}
 use lib.ListN.{drop}
 use borrow.Author.Needs.{needs}
-use Rattle.lex.specs.Tokens.{word, wordClass}
-use Rattle.lex.proofs.WordParts.{word-inside, word-part, word-end-is}
-use Rattle.lex.proofs.Cases.{word-bad, word-good}
+use Rattle.lex.specs.Bytes.{isWordByte}
+use Rattle.lex.specs.Classes.{SIGNS}
+use Rattle.lex.specs.Lexemes.{reserved}
+use Rattle.lex.specs.Lookup.{LikelyEnd}
+use Rattle.lex.specs.Tokens.{run, word, placeOf}
+use Rattle.lex.proofs.Steps.{run-yes}
+use Rattle.lex.proofs.Equality.{place-le}
+use Rattle.lex.proofs.WordParts.{word-inside, word-part, word-stops}
+use Rattle.lex.proofs.Cases.{known-token, name-token}
 use Rattle.lex.proofs.word_token.Statement.{statement}
 use Rattle.lex.proofs.word_token.Tie as tie
 
-word-end-requires : tie.Need-word-end-requires
+abbrev Inv-loop : tie.InvT-loop
+Inv-loop src at end₀ sure₀ end sure = LikelyEnd src at end × (sure ≡ true → end ≡ at + run isWordByte (drop at src))
+
+abbrev μ-loop : tie.MeasureT-loop
+μ-loop src at end₀ sure₀ end sure = cond sure 0 1
+
+likely-end-requires : tie.Need-likely-end-requires Inv-loop μ-loop
+likely-end-requires c κs = c .before .pre .0
+
+loop-holds : tie.Need-loop-holds Inv-loop μ-loop
+loop-holds c = (c .likely-end .ensures, λ e. absurd (false≢true e))
+
+sub-class-of : tie.Need-sub-class-of Inv-loop μ-loop
+sub-class-of c = omega (arith, c .loop .inv .0 .after)
+
+part-class-of-start : tie.Need-part-class-of-start Inv-loop μ-loop
+part-class-of-start c = omega (arith, c .loop .inv .0 .after)
+
+part-class-of-end : tie.Need-part-class-of-end Inv-loop μ-loop
+part-class-of-end c = c .loop .inv .0 .inside
+
+class-of-requires : tie.Need-class-of-requires Inv-loop μ-loop
+class-of-requires c κs = search needs
+
+returns : tie.Need-returns Inv-loop μ-loop
+returns c = known-token (c .before .before .before .before .before .before .args .src .now) (c .before .before .before .before .before .before .args .at) (c .before .before .before .before .before .before .pre .1) (c .before .before .before .before .before .before .pre .2) _ (c .before .before .before .loop .end) (c .before .before .before .loop .inv .0) (c .before .class-of .ensures) (c .if1 .taken)
+
+returns-2 : tie.Need-returns-2 Inv-loop μ-loop
+unfolding reserved
+returns-2 c =
+    let s = c .before .before .before .before .before .before .before .args .src .now in
+    let is-end = c .before .before .before .before .loop .inv .1 (c .if2 .taken) in
+    let w = word (drop (c .before .before .before .before .before .before .before .args .at) s) in
+    let is-class = c .before .before .class-of .ensures ∙ ap (λ w. SIGNS + placeOf w reserved) (word-part s (c .before .before .before .before .before .before .before .args .at) (c .before .before .before .before .loop .end) is-end) in
+    name-token s (c .before .before .before .before .before .before .before .args .at) (c .before .before .before .before .before .before .before .pre .1) (c .before .before .before .before .before .before .before .pre .2) 72 (c .before .before .before .before .loop .end) (omega (arith, is-class, place-le w reserved, c .before .if1 .left)) is-end
+
+add-word-end : tie.Need-add-word-end Inv-loop μ-loop
+add-word-end c = search needs
+
+word-end-requires : tie.Need-word-end-requires Inv-loop μ-loop
 word-end-requires c κs = search needs
 
-sub-word-class : tie.Need-sub-word-class
-sub-word-class c = search needs
+loop-less : tie.Need-loop-less Inv-loop μ-loop
+loop-less c = rw (c .before .if2 .left) (omega arith)
 
-part-word-class-start : tie.Need-part-word-class-start
-part-word-class-start c = search needs
-
-part-word-class-end : tie.Need-part-word-class-end
-part-word-class-end c =
-    let args = c .before .before .args in
-    word-inside (args .src .now) (args .at) _ (omega arith) (c .word-end .ensures)
-
-word-class-requires : tie.Need-word-class-requires
-word-class-requires c κs = search needs
-
-empty-requires : tie.Need-empty-requires
-empty-requires c κs = search needs
-
-returns : tie.Need-returns
-returns c =
-    let args = c .before .before .before .before .before .before .args in
-    let is-end = c .before .before .before .before .word-end .ensures in
-    let is-class = c .before .before .word-class .ensures ∙ ap wordClass (word-part (args .src .now) (args .at) _ is-end) in
-    c .empty .ensures ∙ word-bad (word (drop (args .at) (args .src .now))) (args .at) _ is-class (c .before .if1 .taken)
-
-returns-2 : tie.Need-returns-2
-returns-2 c =
-    let args = c .before .before .before .before .before .args in
-    let is-end = c .before .before .before .word-end .ensures in
-    let is-class = c .before .word-class .ensures ∙ ap wordClass (word-part (args .src .now) (args .at) _ is-end) in
-    word-good (word (drop (args .at) (args .src .now))) (args .at) _ is-class (c .if1 .left) _ (word-end-is (args .src .now) (args .at) _ is-end)
+loop-again : tie.Need-loop-again Inv-loop μ-loop
+loop-again c =
+    let s = c .before .before .before .before .before .before .before .before .args .src .now in
+    let at = c .before .before .before .before .before .before .before .before .args .at in
+    let step = run-yes isWordByte s at (c .before .before .before .before .before .before .before .before .pre .0) (c .before .before .before .before .before .before .before .before .pre .1) in
+    let is-end : c .word-end .result ≡ at + run isWordByte (drop at s) = omega (arith, c .word-end .ensures) in
+    (record { after = omega arith; inside = word-inside s at _ (omega arith) is-end; ends = rw is-end (word-stops s at) }, λ _. is-end)
 
 pub word-token-spec : {M : Type 1} → statement M
 word-token-spec =
     tie.close
     (tie.spec
-    word-end-requires
-    sub-word-class
-    part-word-class-start
-    part-word-class-end
-    word-class-requires
-    empty-requires
+    Inv-loop
+    μ-loop
+    likely-end-requires
+    loop-holds
+    sub-class-of
+    part-class-of-start
+    part-class-of-end
+    class-of-requires
     returns
-    returns-2)
+    returns-2
+    add-word-end
+    word-end-requires
+    loop-less
+    loop-again)

@@ -1,7 +1,7 @@
 -- `read::read` meets its contract: what the stages find is the answer, and the table holds the finished rows or zeros.
 -- Assumes nothing.
-use Rattle.read.proofs.ReadLaws.{refused-read, short-read, drafted, finished-read}
 use borrow.Author.Needs.{needs}
+use Rattle.read.proofs.ReadLaws.{refused-read, short-read, drafted, finished-read}
 use Rattle.read.proofs.read.Statement.{statement}
 use Rattle.read.proofs.read.Tie as tie
 
@@ -27,25 +27,16 @@ same-length-2 : tie.Need-same-length-2
 same-length-2 c = search needs
 
 returns-2 : tie.Need-returns-2
-returns-2 c = short-read ((c .before .before .before .before .before .before .before .before .before .before .before .survey .ensures .passed (c .before .before .before .before .before .before .before .if1 .left)) .1) (c .before .before .before .before .before .whole-rows .ensures) (c .before .before .before .before .if2 .taken) (c .before .before .clear2 .ensures)
+returns-2 c = short-read (c .before .before .before .before .before .before .before .before .before .before .before .survey .ensures .passed (c .before .before .before .before .before .before .before .if1 .left) .1) (c .before .before .before .before .before .whole-rows .ensures) (c .before .before .before .before .if2 .taken) (c .before .before .clear2 .ensures)
 
-finish-small-requires : tie.Need-finish-small-requires
-finish-small-requires c κs = (drafted ((c .before .before .before .before .before .before .before .before .before .survey .ensures .passed (c .before .before .before .before .before .if1 .left)) .1) (c .before .before .before .whole-rows .ensures) (c .before .before .if2 .left), c .before .if3 .taken)
+finish-requires : tie.Need-finish-requires
+finish-requires c κs = (drafted (c .before .before .before .before .before .before .before .before .survey .ensures .passed (c .before .before .before .before .if1 .left) .1) (c .before .before .whole-rows .ensures) (c .before .if2 .left), (c .before .before .before .before .before .before .before .before .survey .ensures .passed (c .before .before .before .before .if1 .left) .1) .few)
 
 same-length-3 : tie.Need-same-length-3
 same-length-3 c = search needs
 
 returns-3 : tie.Need-returns-3
-returns-3 c = finished-read ((c .before .before .before .before .before .before .before .before .before .before .before .before .survey .ensures .passed (c .before .before .before .before .before .before .before .before .if1 .left)) .1) (c .before .before .before .before .before .before .whole-rows .ensures) (c .before .before .before .before .before .if2 .left) (c .before .before .finish-small .ensures)
-
-finish-large-requires : tie.Need-finish-large-requires
-finish-large-requires c κs = (drafted ((c .before .before .before .before .before .before .before .before .before .survey .ensures .passed (c .before .before .before .before .before .if1 .left)) .1) (c .before .before .before .whole-rows .ensures) (c .before .before .if2 .left), c .before .before .before .before .before .before .before .before .before .survey .ensures .passed (c .before .before .before .before .before .if1 .left) .1 .few)
-
-same-length-4 : tie.Need-same-length-4
-same-length-4 c = search needs
-
-returns-4 : tie.Need-returns-4
-returns-4 c = finished-read ((c .before .before .before .before .before .before .before .before .before .before .before .before .survey .ensures .passed (c .before .before .before .before .before .before .before .before .if1 .left)) .1) (c .before .before .before .before .before .before .whole-rows .ensures) (c .before .before .before .before .before .if2 .left) (c .before .before .finish-large .ensures)
+returns-3 c = finished-read (c .before .before .before .before .before .before .before .before .before .before .before .survey .ensures .passed (c .before .before .before .before .before .before .before .if1 .left) .1) (c .before .before .before .before .before .whole-rows .ensures) (c .before .before .before .before .if2 .left) (c .before .before .finish .ensures)
 
 pub read-spec : {M : Type 1} → statement M
 read-spec =
@@ -59,9 +50,6 @@ read-spec =
     clear-requires-2
     same-length-2
     returns-2
-    finish-small-requires
+    finish-requires
     same-length-3
-    returns-3
-    finish-large-requires
-    same-length-4
-    returns-4)
+    returns-3)

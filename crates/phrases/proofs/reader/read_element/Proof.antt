@@ -4,7 +4,7 @@ use mathlib.Core.Path.{sym, _∙_}
 use native.Mathlib.Omega.{arith}
 use borrow.Author.Tests.{not-true, not-false}
 use Rattle.phrases.proofs.ElementLaws.{kept-below}
-use Rattle.phrases.proofs.ReadingLaws.{reads-group, leaves-group, refuses, takes-flags, takes-token}
+use Rattle.phrases.proofs.ReadingLaws.{refuses, takes-flags, takes-token}
 use Rattle.phrases.proofs.reader.read_element.Statement.{statement}
 use Rattle.phrases.proofs.reader.read_element.Tie as tie
 
@@ -12,18 +12,15 @@ pub read-element-spec : {M : Type 1} → statement M
 read-element-spec =
     tie.close
     (tie.spec
-    (λ c. sym (reads-group _ _ _ _ (c .before .before .if1 .taken) (c .if2 .taken)))
+    (λ c κs. search needs)
+    (λ c κs. search needs)
+    (λ c. rw (c .standing .ensures) (sym (refuses _ _ _ (sym (c .before .before .suits .ensures) ∙ not-true _ (c .before .if1 .taken)))))
     (λ c κs. search needs)
     (λ c. search needs)
-    (λ c. leaves-group _ _ _ _ (c .before .before .before .before .before .before .if1 .taken) (c .before .before .before .before .if2 .left) (c .before .before .keep .ensures))
-    (λ c κs. search needs)
-    (λ c. sym (refuses _ _ _ _ (c .before .before .if1 .left) (sym (c .before .suits .ensures) ∙ not-true _ (c .if3 .taken))))
-    (λ c κs. search needs)
-    (λ c. search needs)
-    (λ c. c .before .before .take-flags .ensures ∙ sym (takes-flags _ _ _ _ (c .before .before .before .before .before .before .before .if1 .left) (sym (c .before .before .before .before .before .before .suits .ensures) ∙ not-false _ (c .before .before .before .before .before .if3 .left)) (c .before .before .before .before .if4 .taken)))
+    (λ c. c .before .before .take-flags .ensures ∙ sym (takes-flags _ _ _ (sym (c .before .before .before .before .before .before .suits .ensures) ∙ not-false _ (c .before .before .before .before .before .if1 .left)) (c .before .before .before .before .if2 .taken)))
     (λ c κs.
     λ h.
-    let inside = c .before .before .before .before .before .before .before .before .pre (kept-below _ _ h (sym (c .before .before .before .suits .ensures) ∙ not-false _ (c .before .before .if3 .left))) in
+    let inside = c .before .before .before .before .before .before .before .pre (kept-below _ _ h (sym (c .before .before .before .suits .ensures) ∙ not-false _ (c .before .before .if1 .left))) in
     omega arith)
     (λ c. search needs)
-    (λ c. c .before .before .take-token .ensures ∙ sym (takes-token _ _ _ _ (c .before .before .before .before .before .before .before .if1 .left) (sym (c .before .before .before .before .before .before .suits .ensures) ∙ not-false _ (c .before .before .before .before .before .if3 .left)) (c .before .before .before .before .if4 .left))))
+    (λ c. c .before .before .take-token .ensures ∙ sym (takes-token _ _ _ (sym (c .before .before .before .before .before .before .suits .ensures) ∙ not-false _ (c .before .before .before .before .before .if1 .left)) (c .before .before .before .before .if2 .left))))

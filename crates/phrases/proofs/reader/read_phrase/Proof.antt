@@ -1,18 +1,19 @@
 -- `phrases::reader::read_phrase` meets its contract. The loop's invariant: k elements are read, and the kept slice has its length; the measure is the elements left.
 use borrow.Author.Needs.{needs}
-use mathlib.Core.Path.{_≡_, refl}
+use mathlib.Core.Path.{_≡_, refl, _∙_}
 use Prim.Native.Nat.{_-_}
+use native.Mathlib.Omega.{arith}
 use lib.ListN.{length}
-use Rattle.phrases.specs.Phrase.{reader}
-use Rattle.phrases.proofs.PhraseLoop.{Turns, turns-none, turns-more, turns-all}
+use Rattle.phrases.specs.Phrase.{keptAt, ready}
+use Rattle.phrases.proofs.PhraseLoop.{Turns, turns-none, turns-all, turns-word, refused-word, turns-group, turns-absent, turns-taken, refused-element}
 use Rattle.phrases.proofs.reader.read_phrase.Statement.{statement}
 use Rattle.phrases.proofs.reader.read_phrase.Tie as tie
 
 abbrev Inv-loop : tie.InvT-loop
-Inv-loop src no' bad pattern kept₀ c₀ k₀ kept c k = Turns src pattern (reader c₀ kept₀) k (reader c kept) × (length kept ≡ length kept₀)
+Inv-loop src mark pattern kept₀ token₀ bad₀ count₀ k₀ kept token bad count k = Turns src pattern (ready token₀ bad₀ (keptAt count₀ kept₀)) k (ready token bad (keptAt count kept)) × (length kept ≡ length kept₀)
 
 abbrev μ-loop : tie.MeasureT-loop
-μ-loop src no' bad pattern kept₀ c₀ k₀ kept c k = length pattern - k
+μ-loop src mark pattern kept₀ token₀ bad₀ count₀ k₀ kept token bad count k = length pattern - k
 
 pub read-phrase-spec : {M : Type 1} → statement M
 read-phrase-spec =
@@ -22,11 +23,31 @@ read-phrase-spec =
     μ-loop
     (λ c. (turns-none _ _ _ (c .before .before .before .pre), refl))
     (λ c. search needs)
+    (λ c κs. search needs)
+    (λ c. search needs)
+    (λ c. rw (c .standing .ensures) (refused-word (c .before .before .before .before .before .before .loop .inv .0) (c .before .before .before .before .before .loop-test .taken) (c .before .before .before .if1 .taken) (c .before .if2 .taken)))
+    (λ c κs. search needs)
+    (λ c. search needs)
+    (λ c. search needs)
+    (λ c. (turns-word (c .before .before .before .before .before .before .loop .inv .0) (c .before .before .before .before .before .loop-test .taken) (c .before .before .before .if1 .taken) (c .before .if2 .left) (c .token-at .ensures), c .before .before .before .before .before .before .loop .inv .1))
     (λ c. search needs)
     (λ c κs. search needs)
-    (λ c κs. c .before .before .before .before .loop .inv .0 .within)
     (λ c. search needs)
     (λ c. search needs)
-    (λ c. (turns-more (c .before .before .before .before .before .before .before .loop .inv .0) (c .before .before .before .before .before .before .loop-test .taken) (c .before .before .before .element-at .ensures) (c .before .before .step .ensures), search needs))
+    (λ c. (turns-group (c .before .before .before .before .before .before .before .loop .inv .0) (c .before .before .before .before .before .before .loop-test .taken) (c .before .before .before .if3 .taken) (c .before .before .element-at .ensures) (c .if4 .taken), c .before .before .before .before .before .before .before .loop .inv .1))
+    (λ c κs. search needs)
     (λ c. search needs)
-    (λ c. turns-all (c .before .loop .inv .0) (c .loop-test .left)))
+    (λ c. search needs)
+    (λ c. search needs)
+    (λ c. (turns-absent (c .before .before .before .before .before .before .before .before .before .before .before .loop .inv .0) (c .before .before .before .before .before .before .before .before .before .before .loop-test .taken) (c .before .before .before .before .before .before .before .if3 .taken) (c .before .before .before .before .before .before .element-at .ensures) (c .before .before .before .before .if4 .left) (c .before .before .keep .ensures), c .before .before .keep .kept .0 ∙ c .before .before .before .before .before .before .before .before .before .before .before .loop .inv .1))
+    (λ c κs. search needs)
+    (λ c κs. rw (c .before .standing2 .ensures) (c .before .before .before .before .before .before .loop .inv .0 .within))
+    (λ c. c .before .before .before .before .read-element .kept .1 .1 .0 ∙ c .before .before .before .before .before .before .before .before .before .before .before .loop .inv .1)
+    (λ c. refused-element (c .before .before .before .before .before .before .before .before .before .before .before .loop .inv .0) (c .before .before .before .before .before .before .before .before .before .before .loop-test .taken) _ _ (c .before .before .before .before .before .before .before .if3 .left) (rw (c .before .before .before .before .before .before .standing2 .ensures) at (c .before .before .before .before .read-element .ensures)) (c .if5 .taken))
+    (λ c κs. search needs)
+    (λ c. record { fits = omega (arith, c .before .before .before .before .before .before .before .before .before .before .before .loop-test .taken, c .before .before .before .before .before .before .before .before .before .before .before .before .before .before .before .before .good .1 .1 .1 .0 .0) })
+    (λ c. search needs)
+    (λ c. (turns-taken (c .before .before .before .before .before .before .before .before .before .before .before .before .loop .inv .0) (c .before .before .before .before .before .before .before .before .before .before .before .loop-test .taken) _ _ (c .before .before .before .before .before .before .before .before .if3 .left) (rw (c .before .before .before .before .before .before .before .standing2 .ensures) at (c .before .before .before .before .before .read-element .ensures)) (c .before .if5 .left) (c .token-at2 .ensures), c .before .before .before .before .before .read-element .kept .1 .1 .0 ∙ c .before .before .before .before .before .before .before .before .before .before .before .before .loop .inv .1))
+    (λ c κs. search needs)
+    (λ c. search needs)
+    (λ c. rw (c .standing3 .ensures) (turns-all (c .before .before .loop .inv .0) (c .before .loop-test .left))))

@@ -9,9 +9,10 @@ unfolding taking
 take-token-spec =
     tie.close
     (tie.spec
+    (λ c κs. c .before .before .before .pre (c .if1 .taken))
+    (λ c κs. c .before .before .before .before .before .pre (c .before .before .if1 .taken))
     (λ c κs. search needs)
-    (λ c κs. c .before .before .before .before .before .pre (c .if1 .taken))
-    (λ c κs. c .before .before .before .before .before .before .before .pre (c .before .before .if1 .taken))
     (λ c. search needs)
-    (λ c. rw (c .before .before .before .before .before .if1 .taken, ← c .before .before .before .before .before .before .token-at .ensures, ← c .before .before .before .before .fault .ensures, ← c .before .before .keep-element .ensures))
-    (λ c. rw (c .if1 .left, ← c .before .token-at .ensures)))
+    (λ c. rw (c .standing .ensures, c .before .before .before .before .before .before .if1 .taken, ← c .before .before .before .before .before .fault .ensures, ← c .before .before .before .keep-element .ensures))
+    (λ c κs. search needs)
+    (λ c. rw (c .standing2 .ensures, c .before .if1 .left)))

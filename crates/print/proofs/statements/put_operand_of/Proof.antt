@@ -28,8 +28,8 @@ put-phrase-requires-2 c κs = search needs
 cell-requires : tie.Need-cell-requires
 cell-requires c κs = search needs
 
-put-decimal-requires : tie.Need-put-decimal-requires
-put-decimal-requires c κs = search needs
+put-element-requires : tie.Need-put-element-requires
+put-element-requires c κs = search needs
 
 same-length : tie.Need-same-length
 same-length c = search needs
@@ -47,7 +47,7 @@ same-length-3 : tie.Need-same-length-3
 same-length-3 c = search needs
 
 returns-3 : tie.Need-returns-3
-returns-3 c = as-words (operand-number _ (λ e. c .before .before .before .before .before .match .rest .0 .1 (c .before .before .before .before .before .before .before .before .pre ∙ e)) (λ e. c .before .before .before .before .before .match .rest .1 (c .before .before .before .before .before .before .before .before .pre ∙ e))) (rw (c .before .before .before .cell .ensures) at (c .before .before .put-decimal .ensures))
+returns-3 c = as-words (operand-number _ (λ e. c .before .before .before .before .before .match .rest .0 .1 (c .before .before .before .before .before .before .before .before .pre ∙ e)) (λ e. c .before .before .before .before .before .match .rest .1 (c .before .before .before .before .before .before .before .before .pre ∙ e))) (rw (c .before .before .before .cell .ensures) at (c .before .before .put-element .ensures))
 
 pub put-operand-of-spec : {M : Type 1} → statement M
 put-operand-of-spec =
@@ -60,7 +60,7 @@ put-operand-of-spec =
     slice-aggregate-put-phrase-4
     put-phrase-requires-2
     cell-requires
-    put-decimal-requires
+    put-element-requires
     same-length
     returns
     same-length-2

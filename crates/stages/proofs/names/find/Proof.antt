@@ -1,38 +1,46 @@
 -- `stages::names::find` meets its contract.
 use borrow.Author.Needs.{needs}
-use Rattle.stages.proofs.NameLaws.{find-here, find-none}
+use Rattle.stages.proofs.NameLaws.{find-none, find-along}
 use Rattle.stages.proofs.names.find.Statement.{statement}
 use Rattle.stages.proofs.names.find.Tie as tie
+
+returns : tie.Need-returns
+returns c = find-none (c .before .before .before .args .src .now) (c .before .before .before .args .index .now) (c .before .before .before .args .mark) (c .before .before .before .args .rule) (c .if1 .taken)
 
 key-requires : tie.Need-key-requires
 key-requires c κs = search needs
 
-position-requires : tie.Need-position-requires
-position-requires c κs = search needs
+mul-first : tie.Need-mul-first
+mul-first c = search needs
 
-mul-result : tie.Need-mul-result
-mul-result c = search needs
+shared-slice-read-first : tie.Need-shared-slice-read-first
+shared-slice-read-first c = search needs
 
-shared-slice-read-result : tie.Need-shared-slice-read-result
-shared-slice-read-result c = search needs
+sub-follow : tie.Need-sub-follow
+sub-follow c = search needs
 
-add-result : tie.Need-add-result
-add-result c = search needs
+part-follow-start : tie.Need-part-follow-start
+part-follow-start c = search needs
 
-returns : tie.Need-returns
-returns c = find-here (c .before .before .before .before .before .before .args .src .now) (c .before .before .before .before .before .before .args .index .now) (c .before .before .before .before .before .before .args .mark) (c .before .before .before .before .before .before .args .rule) (c .before .before .before .key .ensures .0) (c .before .before .position .ensures) (c .before .if1 .taken)
+part-follow-end : tie.Need-part-follow-end
+part-follow-end c = search needs
+
+follow-requires : tie.Need-follow-requires
+follow-requires c κs = search needs
 
 returns-2 : tie.Need-returns-2
-returns-2 c = find-none (c .before .before .before .before .before .args .src .now) (c .before .before .before .before .before .args .index .now) (c .before .before .before .before .before .args .mark) (c .before .before .before .before .before .args .rule) (c .before .before .key .ensures .0) (c .before .position .ensures) (c .if1 .left)
+returns-2 c = find-along (c .before .before .before .before .before .before .before .args .src .now) (c .before .before .before .before .before .before .before .args .index .now) (c .before .before .before .before .before .before .before .args .mark) (c .before .before .before .before .before .before .before .args .rule) (c .before .before .before .key .ensures .0) (c .follow .ensures)
 
 pub find-spec : {M : Type 1} → statement M
 find-spec =
     tie.close
     (tie.spec
-    key-requires
-    position-requires
-    mul-result
-    shared-slice-read-result
-    add-result
     returns
+    key-requires
+    mul-first
+    shared-slice-read-first
+    sub-follow
+    part-follow-start
+    part-follow-end
+    follow-requires
     returns-2)

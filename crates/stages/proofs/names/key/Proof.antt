@@ -14,30 +14,14 @@ sub-hash c = search needs
 hash-requires : tie.Need-hash-requires
 hash-requires c κs = search needs
 
-mul-result : tie.Need-mul-result
-mul-result c = search needs
-
 add-result : tie.Need-add-result
 add-result c = search needs
 
 returns-2 : tie.Need-returns-2
 returns-2 c = (key-rule (c .before .before .before .before .args .src .now) (c .before .before .before .before .args .mark) (c .before .before .before .before .args .rule) (c .before .before .if1 .left) (c .before .hash .ensures .0) (c .if2 .taken), omega (arith, c .before .hash .ensures .1))
 
-mul-result-2 : tie.Need-mul-result-2
-mul-result-2 c = search needs
-
 returns-3 : tie.Need-returns-3
 returns-3 c = (key-question (c .before .before .before .before .args .src .now) (c .before .before .before .before .args .mark) (c .before .before .before .before .args .rule) (c .before .before .if1 .left) (c .before .hash .ensures .0) (c .if2 .left), omega (arith, c .before .hash .ensures .1))
 
 pub key-spec : {M : Type 1} → statement M
-key-spec =
-    tie.close
-    (tie.spec
-    returns
-    sub-hash
-    hash-requires
-    mul-result
-    add-result
-    returns-2
-    mul-result-2
-    returns-3)
+key-spec = tie.close (tie.spec returns sub-hash hash-requires add-result returns-2 returns-3)

@@ -1,51 +1,71 @@
--- `stages::names::repeated_name` meets its contract: no name of the entries before the loop's is repeated.
+-- `stages::names::repeated_name` meets its contract: no row before the loop's repeats a name.
 use borrow.Author.Needs.{needs}
-use Prim.Native.Nat.{_-_}
-use mathlib.Core.Path.{sym}
-use lib.ListN.{length}
-use lib.Seq.{length-take-le}
-use Rattle.stages.proofs.NameLaws.{Scanning, scanning-start, scanning-here, scanning-next, scanning-end}
+use Prim.Native.Nat.{ℕ, _-_}
+use mathlib.Core.Path.{refl, ap, _∙_}
+use lib.Dec.{eqb}
+use Rattle.rows.specs.Codes as code
+use Rattle.rows.specs.Columns as column
+use Rattle.stages.specs.Faults.{draftAt}
+use Rattle.stages.specs.Names.{findIn}
+use Rattle.stages.proofs.DraftLaws.{cell-read}
+use Rattle.stages.proofs.NameLaws.{Scanning, scanning-start, scanning-here, scanning-next, scanning-end, repeats-unnamed, repeats-named}
 use Rattle.stages.proofs.names.repeated_name.Statement.{statement}
 use Rattle.stages.proofs.names.repeated_name.Tie as tie
 
 abbrev Inv-loop : tie.InvT-loop
-Inv-loop src index i₀ i = Scanning src index i
+Inv-loop src table count index row₀ row = Scanning src index table count row
 
 abbrev μ-loop : tie.MeasureT-loop
-μ-loop src index i₀ i = length index - i
+μ-loop src table count index row₀ row = count - row
 
 loop-holds : tie.Need-loop-holds Inv-loop μ-loop
-loop-holds c = scanning-start _ _
+loop-holds c = scanning-start _ _ _ _
 
-mul-mark : tie.Need-mul-mark Inv-loop μ-loop
-mul-mark c = search needs
+cell-requires : tie.Need-cell-requires Inv-loop μ-loop
+cell-requires c κs = search needs
 
-shared-slice-read-mark : tie.Need-shared-slice-read-mark Inv-loop μ-loop
-shared-slice-read-mark c = search needs
-
-slice-aggregate-position : tie.Need-slice-aggregate-position Inv-loop μ-loop
-slice-aggregate-position c = sym (length-take-le (c .before .before .before .loop .i) (c .before .before .before .before .before .before .args .index .now) (c .before .before .before .loop .inv .inside))
-
-mul-position : tie.Need-mul-position Inv-loop μ-loop
-mul-position c = search needs
-
-shared-slice-read-position : tie.Need-shared-slice-read-position Inv-loop μ-loop
-shared-slice-read-position c = search needs
-
-position-requires : tie.Need-position-requires Inv-loop μ-loop
-position-requires c κs = search needs
-
-returns : tie.Need-returns Inv-loop μ-loop
-returns c = scanning-here (c .before .before .before .before .before .before .loop .inv) (c .before .before .before .before .before .loop-test .taken) (c .before .position .ensures) (c .if1 .taken)
-
-add-i : tie.Need-add-i Inv-loop μ-loop
-add-i c = search needs
+add-row : tie.Need-add-row Inv-loop μ-loop
+add-row c = search needs
 
 loop-less : tie.Need-loop-less Inv-loop μ-loop
 loop-less c = search needs
 
 loop-again : tie.Need-loop-again Inv-loop μ-loop
-loop-again c = scanning-next (c .before .before .before .before .before .before .loop .inv) (c .before .before .before .before .before .loop-test .taken) (c .before .position .ensures) (c .if1 .left)
+loop-again c = scanning-next (c .before .before .before .loop .inv) (c .before .before .loop-test .taken) (repeats-unnamed (c .before .before .before .before .before .before .before .args .src .now) (c .before .before .before .before .before .before .before .args .index .now) (c .before .before .before .loop .row) (draftAt (c .before .before .before .before .before .before .before .args .table .now) (c .before .before .before .loop .row)) (cell-read (c .before .before .before .before .before .before .before .args .table .now) (c .before .before .before .loop .row) column.NAME refl (c .before .cell .ensures)) (c .if1 .taken))
+
+cell-requires-2 : tie.Need-cell-requires-2 Inv-loop μ-loop
+cell-requires-2 c κs = search needs
+
+find-requires : tie.Need-find-requires Inv-loop μ-loop
+find-requires c κs = search needs
+
+returns : tie.Need-returns Inv-loop μ-loop
+returns c =
+    let s = c .before .before .before .before .before .before .before .before .before .before .args .src .now in
+    let t = c .before .before .before .before .before .before .before .before .before .before .args .table .now in
+    let i = c .before .before .before .before .before .before .loop .row in
+    let m = c .before .before .before .before .cell .result in
+    let name = cell-read t i column.NAME refl (c .before .before .before .before .cell .ensures) in
+    let rule = ap (λ (k : ℕ). findIn s (c .before .before .before .before .before .before .before .before .before .before .args .index .now) m (eqb k code.RULE)) (cell-read t i column.CODE refl (c .before .before .cell2 .ensures)) in
+    let told = repeats-named s (c .before .before .before .before .before .before .before .before .before .before .args .index .now) i (draftAt t i) name (c .before .before .before .if1 .left) (c .before .find .ensures ∙ rule) in
+    scanning-here (c .before .before .before .before .before .before .loop .inv) (c .before .before .before .before .before .loop-test .taken) name (told ∙ c .if2 .taken)
+
+add-row-2 : tie.Need-add-row-2 Inv-loop μ-loop
+add-row-2 c = search needs
+
+loop-less-2 : tie.Need-loop-less-2 Inv-loop μ-loop
+loop-less-2 c = search needs
+
+loop-again-2 : tie.Need-loop-again-2 Inv-loop μ-loop
+loop-again-2 c =
+    let s = c .before .before .before .before .before .before .before .before .before .before .args .src .now in
+    let t = c .before .before .before .before .before .before .before .before .before .before .args .table .now in
+    let i = c .before .before .before .before .before .before .loop .row in
+    let m = c .before .before .before .before .cell .result in
+    let name = cell-read t i column.NAME refl (c .before .before .before .before .cell .ensures) in
+    let rule = ap (λ (k : ℕ). findIn s (c .before .before .before .before .before .before .before .before .before .before .args .index .now) m (eqb k code.RULE)) (cell-read t i column.CODE refl (c .before .before .cell2 .ensures)) in
+    let told = repeats-named s (c .before .before .before .before .before .before .before .before .before .before .args .index .now) i (draftAt t i) name (c .before .before .before .if1 .left) (c .before .find .ensures ∙ rule) in
+    scanning-next (c .before .before .before .before .before .before .loop .inv) (c .before .before .before .before .before .loop-test .taken) (told ∙ c .if2 .left)
 
 returns-2 : tie.Need-returns-2 Inv-loop μ-loop
 returns-2 c = scanning-end (c .before .loop .inv) (c .loop-test .left)
@@ -57,14 +77,14 @@ repeated-name-spec =
     Inv-loop
     μ-loop
     loop-holds
-    mul-mark
-    shared-slice-read-mark
-    slice-aggregate-position
-    mul-position
-    shared-slice-read-position
-    position-requires
-    returns
-    add-i
+    cell-requires
+    add-row
     loop-less
     loop-again
+    cell-requires-2
+    find-requires
+    returns
+    add-row-2
+    loop-less-2
+    loop-again-2
     returns-2)

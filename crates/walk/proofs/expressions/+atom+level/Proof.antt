@@ -4,7 +4,7 @@
 use mathlib.Core.Path.{refl, sym, _∙_}
 use borrow.Author.Needs.{needs}
 use native.Mathlib.Omega.{arith}
-use Prim.Native.Nat.{ℕ, _+_, _-_, _*_, _<_}
+use Prim.Native.Nat.{ℕ, _+_, _*_, _<_}
 use Rattle.grammar.specs.Rules.{<atom>}
 use Rattle.walk.proofs.Rooms.{room-passed, ahead, ahead-passed}
 use Rattle.walk.proofs.ExpressionSteps.{groups-off, not-deep, group-deep, atom-not, atom-group, atom-leaf, room-groups, room-operator, groups-fewer, operator-known, level-climbs, tail-end, tails-none, OperatorLoop, turn-less, turn-again}

@@ -1,5 +1,7 @@
 //! The sources that are timed. A builder fills a source up to a size.
 
+use std::collections::HashMap;
+
 /// Document 01's worked example.
 pub const EXAMPLE: &str = "\
 formset guid={0x1,0x2,0x3,{0x4,0x5,0x6,0x7,0x8,0x9,0xA,0xB}},title=STRING_TOKEN(2),help=STRING_TOKEN(3),
@@ -23,10 +25,11 @@ pub struct Kind {
     pub build: fn(usize) -> String,
 }
 
-pub const KINDS: [Kind; 8] = [
+pub const KINDS: [Kind; 9] = [
     Kind { name: "realistic", build: realistic },
     Kind { name: "operator chain", build: chain },
     Kind { name: "rules of one number", build: rules },
+    Kind { name: "rules whose names have one hash", build: one_hash },
     Kind { name: "references to the last name", build: references },
     Kind { name: "options of one oneof", build: options },
     Kind { name: "deep groups in deep conditions", build: groups },
@@ -107,6 +110,27 @@ fn short_name(mut at: usize) -> String {
         at = (at - 1) / BYTES.len();
     }
     name
+}
+
+/// The worst that names can do to the library: all have one hash in its index, so that a search meets one after another.
+fn one_hash(size: usize) -> String {
+    let names = names_of_one_hash(size / "rule ABCDEF,1 endrule;".len());
+    in_form(size, |at| names.get(at).map_or(" ".repeat(size), |name| format!("rule {name},1 endrule;")))
+}
+
+/// Names of six bytes. The library's hash of a word is `(hash * BASE + byte) % HASHES` from byte to byte (crate `stages`), so
+/// that of a first half of three bytes counts BASE^3.
+fn names_of_one_hash(count: usize) -> Vec<String> {
+    const BASE: u64 = 403;
+    const HASHES: u64 = 1 << 22;
+    const BYTES: &[u8] = b"ABCDEFGHIJKLMNOPQRSTUVWXYZabcdefghijklmnopqrstuvwxyz";
+    let halves = || BYTES.iter().flat_map(|a| BYTES.iter().flat_map(move |b| BYTES.iter().map(move |c| [*a, *b, *c])));
+    let hash = |half: [u8; 3]| half.iter().fold(0, |hash, &byte| (hash * BASE + u64::from(byte)) % HASHES);
+    let mut seconds: HashMap<u64, Vec<[u8; 3]>> = HashMap::new();
+    halves().for_each(|half| seconds.entry(hash(half)).or_default().push(half));
+    let seconds_of = |first| seconds.get(&(HASHES - hash(first) * BASE.pow(3) % HASHES)).into_iter().flatten();
+    let names = halves().flat_map(|first| seconds_of(first).map(move |second| [first, *second].concat()));
+    names.take(count).map(|name| String::from_utf8(name).expect("letters")).collect()
 }
 
 /// Half the bytes declare names, half refer to the last of them.

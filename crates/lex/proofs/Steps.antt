@@ -8,7 +8,7 @@ use native.Mathlib.Nat.{le-of-suc-le-suc}
 use native.Mathlib.Omega.{arith}
 use lib.Dec.{eqb, leb}
 use lib.ListN.{length, getD, take, drop}
-use borrow.Author.Tests.{eq-eqb, ne-eqb, lt-leb, leb-true}
+use borrow.Author.Tests.{ne-eqb, lt-leb, leb-true}
 use Rattle.lex.specs.Bytes.{isDigit, isLetter, isWordByte}
 use Rattle.lex.specs.Tokens.{run, all, same}
 use Rattle.lex.proofs.Lists.{either, and-true, and-false, from-end, from-next}
@@ -64,20 +64,6 @@ module _ (p : ℕ → Bool) (s : List ℕ) (i : ℕ) where
   pub all-yes : i < length s → p (getD s i 0) ≡ true → all p (drop i s) ≡ all p (drop (i + 1) s)
   unfolding all
   all-yes h e = rw (from-next s i 0 h, e)
-
--- two texts, compared from j on
-module _ (w v : List ℕ) (j : ℕ) where
-  pub same-end : length w ≤ j → length v ≤ j → same (drop j w) (drop j v) ≡ true
-  unfolding same
-  same-end h l = rw (from-end w j h, from-end v j l)
-
-  pub same-no : j < length w → j < length v → (getD w j 0 ≡ getD v j 0 → ⊥) → same (drop j w) (drop j v) ≡ false
-  unfolding same
-  same-no h l e = rw (from-next w j 0 h, from-next v j 0 l, ne-eqb _ _ e)
-
-  pub same-yes : j < length w → j < length v → getD w j 0 ≡ getD v j 0 → same (drop j w) (drop j v) ≡ same (drop (j + 1) w) (drop (j + 1) v)
-  unfolding same
-  same-yes h l e = rw (from-next w j 0 h, from-next v j 0 l, eq-eqb _ _ e)
 
 -- texts of other lengths are not the same
 pub same-length : (w v : List ℕ) → (length w ≡ length v → ⊥) → same w v ≡ false

@@ -44,13 +44,6 @@ use Rattle.walk.proofs.Atoms.{constant-word, constant-node, number-node
 
 -- ---- a row after what was read
 
-pub with-live : {parent : ℕ} {k : lex.Token} {x y : State} {t t′ : List ℕ} → WithRow parent k x y t t′ → y .no ≡ 0 → x .no ≡ 0
-with-live {x = x} w q = by (ℕ-discrete (x .no) 0)
-  where
-    by : Dec (x .no ≡ 0) → x .no ≡ 0
-    by (yes z) = z
-    by (no z) = ap (λ (u : State). u .no) (sym (w .off z .0)) ∙ q
-
 row-walked :
     {s : List ℕ} {d : Depth} {parent : ℕ} {k : lex.Token} {x y : State} {t t′ : List ℕ}
     → WithRow parent k x y t t′ → Walked s d [] (After s parent (k .class) (k .start)) x y t t′

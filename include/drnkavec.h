@@ -1,12 +1,13 @@
 /* Drnkavec: a proved reader of UEFI VFR set-up text.
  *
  * Numbers, codes and limits are those of document 01, "VFR sources to rows and resolved text".
- * The library is target/staticlib/libface.a, which `rt staticlib face` writes.
+ * The library is target/staticlib/libface.a, which `rt staticlib face` writes; it is for Linux on x86-64.
  *
  * Every function takes every input. It reads the source without changing it, writes nowhere but to the
- * buffers lent, keeps no pointer and allocates nothing. Buffers of one call must not overlap. A buffer of
- * length 0 is not touched. The deepest source takes vfr_quick_check about 190 KB of stack, and vfr_read about
- * 720 KB.
+ * buffers lent, keeps no pointer and allocates nothing. A buffer of length 0 is not touched, and its pointer
+ * may be NULL. Two things are left to the caller: the buffers of one call do not overlap, and there is stack
+ * enough. vfr_read and vfr_resolve take about 570 KB of it for any source and 720 KB for the deepest, so that
+ * a thread wants 1 MB; vfr_quick_check takes about 190 KB at most.
  */
 #ifndef DRNKAVEC_H
 #define DRNKAVEC_H
@@ -45,10 +46,11 @@ enum {
     VFR_TOO_MANY_RULES = 10,    /* place: the 256th `rule` */
     VFR_NOT_FOUND = 11,         /* place: the number or name that refers to nothing */
     VFR_BAD_CHOICE = 12,        /* place: the maximum, default or value, or the second DEFAULT */
-    VFR_OUTPUT_SHORT = 13       /* resolving alone; place 0; the row count is the bytes needed */
+    VFR_OUTPUT_SHORT = 13       /* resolving alone; place 0; the row count is the bytes needed. If they are more than
+                                   VFR_MAX_TEXT, no output is long enough */
 };
 
-/* ---- Rows: twelve numbers each; fields that a code does not use are 0 ---- */
+/* ---- Rows: VFR_COLUMNS numbers each; fields that a code does not use are 0 ---- */
 
 enum {
     VFR_COL_CODE = 0,
@@ -127,9 +129,9 @@ enum {
 enum {
     VFR_ANSWER_NUMBER = 0,  /* VFR_ACCEPTED or a refusal number */
     VFR_ANSWER_PLACE = 1,   /* byte in the source, from 0 */
-    VFR_ANSWER_ROWS = 2,    /* row count, or the need at 6 and 13 */
-    VFR_ANSWER_FREE = 3,    /* how many of 1 to 65,535 no question bears */
-    VFR_ANSWER_BYTES = 4,   /* bytes of the resolved text; resolving alone */
+    VFR_ANSWER_ROWS = 2,    /* row count, or the need at 6 and 13; 0 on other refusals */
+    VFR_ANSWER_FREE = 3,    /* how many of 1 to 65,535 no question bears; 0 on a refusal */
+    VFR_ANSWER_BYTES = 4,   /* bytes of the resolved text; resolving alone; 0 on a refusal */
     VFR_READ_ANSWER = 4,    /* numbers of a reading's answer */
     VFR_RESOLVE_ANSWER = 5  /* numbers of a resolving's answer */
 };
@@ -139,8 +141,9 @@ enum {
 /* Stages 1 to 5 alone: the refusal number times 2^32 plus the place, or 0. */
 uint64_t vfr_quick_check(const uint8_t *src, size_t src_len);
 
-/* Reads a source into a table of table_len numbers, so table_len / 12 rows. If it is accepted, the rows stand
- * at the start of the table and the rest is 0; on a refusal all of the table is 0. */
+/* Reads a source into a table of table_len numbers, so table_len / VFR_COLUMNS rows. If it is accepted, the rows
+ * stand at the start of the table and the rest is 0; on a refusal all of the table is 0. A source never has more
+ * rows than bytes, so src_len * VFR_COLUMNS numbers are always enough. */
 void vfr_read(const uint8_t *src, size_t src_len, uint64_t *table, size_t table_len, uint64_t *answer,
               size_t answer_len);
 

@@ -1,32 +1,17 @@
-/* Checks the C interface of the library: a line for each check, then the total. The exit status is 0 if all agree. */
+/* Checks the C interface of the library, and the header's constants against what the calls leave: a line for each check,
+ * then the total. The exit status is 0 if all agree. */
 
 #include "../../include/drnkavec.h"
 
+#include <stdarg.h>
 #include <stdbool.h>
 #include <stdio.h>
 #include <string.h>
 
-#define ROWS 40
+#define ROWS 7000
 #define NUMBERS (ROWS * VFR_COLUMNS)
 #define OLD UINT64_C(0x5ea15ea15ea15ea1)
-
-static const char EXAMPLE[] =
-    "formset guid={0x1,0x2,0x3,{0x4,0x5,0x6,0x7,0x8,0x9,0xA,0xB}},title=STRING_TOKEN(2),help=STRING_TOKEN(3),\n"
-    "form formid=0x10,title=STRING_TOKEN(4);\n"
-    "checkbox name=Fan,prompt=STRING_TOKEN(5),help=STRING_TOKEN(6),default=TRUE,endcheckbox;\n"
-    "suppressif NOT questionref(Fan)OR 1+2*3==7;\n"
-    "numeric questionid=1,prompt=STRING_TOKEN(7),help=STRING_TOKEN(8),flags=READ_ONLY,minimum=0,maximum=9,endnumeric;\n"
-    "endif;\n"
-    "endform;\n"
-    "endformset;\n";
-
-/* A form set whose goto finds no form. */
-static const char LOST[] =
-    "formset guid={0x1,0x2,0x3,{0x4,0x5,0x6,0x7,0x8,0x9,0xA,0xB}},title=STRING_TOKEN(2),help=STRING_TOKEN(3),\n"
-    "form formid=0x10,title=STRING_TOKEN(4);\n"
-    "goto 17,prompt=STRING_TOKEN(5),help=STRING_TOKEN(6);\n"
-    "endform;\n"
-    "endformset;\n";
+#define OLD_BYTE 0xa1
 
 static int passed, failed;
 
@@ -40,9 +25,11 @@ static void check(const char *what, bool good)
     }
 }
 
-/* A lent table and answer that hold something before each call, with guards past their ends. */
+/* ---- What is lent: each buffer holds something before a call, and has a guard past its end ---- */
+
 static uint64_t table[NUMBERS + 1];
-static uint64_t answer[VFR_READ_ANSWER + 1];
+static uint64_t answer[VFR_RESOLVE_ANSWER + 1];
+static uint8_t out[VFR_MAX_TEXT + 2];
 
 static void fill(uint64_t *numbers, size_t count)
 {
@@ -61,17 +48,183 @@ static bool all(const uint64_t *numbers, size_t from, size_t to, uint64_t value)
     return true;
 }
 
-static void read_source(const char *source, size_t length, size_t table_len)
+static bool all_bytes(const uint8_t *bytes, size_t from, size_t to, uint8_t value)
+{
+    for (size_t i = from; i < to; i++) {
+        if (bytes[i] != value) {
+            return false;
+        }
+    }
+    return true;
+}
+
+static void fill_all(void)
 {
     fill(table, NUMBERS + 1);
-    fill(answer, VFR_READ_ANSWER + 1);
-    vfr_read((const uint8_t *)source, length, table, table_len, answer, VFR_READ_ANSWER);
+    fill(answer, VFR_RESOLVE_ANSWER + 1);
+    memset(out, OLD_BYTE, sizeof out);
+}
+
+/* ---- Sources ---- */
+
+#define GUID "guid={0x1,0x2,0x3,{0x4,0x5,0x6,0x7,0x8,0x9,0xA,0xB}}"
+#define STRINGS "prompt=STRING_TOKEN(5),help=STRING_TOKEN(6)"
+#define FRAME_START "formset " GUID ",title=STRING_TOKEN(2),help=STRING_TOKEN(3),form formid=1,title=STRING_TOKEN(4);"
+#define FRAME_END "endform;endformset;"
+#define FRAME_ROWS 2
+
+static const char EXAMPLE[] =
+    "formset " GUID ",title=STRING_TOKEN(2),help=STRING_TOKEN(3),\n"
+    "form formid=0x10,title=STRING_TOKEN(4);\n"
+    "checkbox name=Fan," STRINGS ",default=TRUE,endcheckbox;\n"
+    "suppressif NOT questionref(Fan)OR 1+2*3==7;\n"
+    "numeric questionid=1,prompt=STRING_TOKEN(7),help=STRING_TOKEN(8),flags=READ_ONLY,minimum=0,maximum=9,endnumeric;\n"
+    "endif;\n"
+    "endform;\n"
+    "endformset;\n";
+
+#define EXAMPLE_ROWS 15
+#define EXAMPLE_FREE 65533
+
+/* A source that is put together from parts, and the place at which it is to be refused. */
+static char source[VFR_MAX_SOURCE + 2];
+static size_t length;
+static size_t fault;
+
+/* Adds a part; `^` in it stands before the place of the fault. */
+static void add(const char *part)
+{
+    for (; *part != '\0'; part++) {
+        if (*part == '^') {
+            fault = length;
+        } else if (length < sizeof source) {
+            source[length++] = *part;
+        }
+    }
+}
+
+static void add_times(const char *part, size_t times)
+{
+    for (size_t i = 0; i < times; i++) {
+        add(part);
+    }
+}
+
+/* A source with these items, NULL after the last part, in one form. */
+static void make(const char *part, ...)
+{
+    va_list parts;
+
+    length = 0;
+    fault = 0;
+    add(FRAME_START);
+    va_start(parts, part);
+    for (; part != NULL; part = va_arg(parts, const char *)) {
+        add(part);
+    }
+    va_end(parts);
+    add(FRAME_END);
+}
+
+static void make_rules(size_t count)
+{
+    length = 0;
+    add(FRAME_START);
+    for (size_t i = 0; i < count; i++) {
+        char rule[40];
+
+        snprintf(rule, sizeof rule, "%srule A%zu,1 endrule;", i == VFR_MAX_RULES ? "^" : "", i);
+        add(rule);
+    }
+    add(FRAME_END);
+}
+
+static void make_groups(size_t count)
+{
+    length = 0;
+    add(FRAME_START "rule A,");
+    add_times("(", VFR_MAX_GROUPS);
+    add_times("^(", count - VFR_MAX_GROUPS);
+    add("1");
+    add_times(")", count);
+    add(" endrule;" FRAME_END);
+}
+
+static void make_conditions(size_t count)
+{
+    length = 0;
+    add(FRAME_START);
+    add_times("suppressif 1;", VFR_MAX_CONDITIONS);
+    add_times("^suppressif 1;", count - VFR_MAX_CONDITIONS);
+    add_times("endif;", count);
+    add(FRAME_END);
+}
+
+/* A source of so many bytes. */
+static void make_blanks(size_t bytes)
+{
+    make(NULL);
+    memset(source + length, ' ', bytes - length);
+    length = bytes;
+    fault = 0;
+}
+
+/* So many labels, of which some have a digit more. */
+static void make_labels(size_t count, size_t longer)
+{
+    length = 0;
+    add(FRAME_START);
+    add_times("label 0;", count - longer);
+    add_times("label 10;", longer);
+    add(FRAME_END);
+}
+
+/* ---- Calls ---- */
+
+static void read_source(const char *bytes, size_t count, size_t table_len)
+{
+    fill_all();
+    vfr_read((const uint8_t *)bytes, count, table, table_len, answer, VFR_READ_ANSWER);
+}
+
+static void resolve_source(const char *bytes, size_t count, size_t table_len, size_t out_len)
+{
+    fill_all();
+    vfr_resolve((const uint8_t *)bytes, count, table, table_len, out, out_len, answer, VFR_RESOLVE_ANSWER);
+}
+
+static uint64_t quick(const char *bytes, size_t count)
+{
+    return vfr_quick_check((const uint8_t *)bytes, count);
 }
 
 static bool answered(uint64_t number, uint64_t place, uint64_t rows, uint64_t left)
 {
     return answer[VFR_ANSWER_NUMBER] == number && answer[VFR_ANSWER_PLACE] == place &&
-           answer[VFR_ANSWER_ROWS] == rows && answer[VFR_ANSWER_FREE] == left && answer[VFR_READ_ANSWER] == OLD;
+           answer[VFR_ANSWER_ROWS] == rows && answer[VFR_ANSWER_FREE] == left;
+}
+
+/* The answer of reading, and nothing past it. */
+static bool has_read(uint64_t number, uint64_t place, uint64_t rows, uint64_t left)
+{
+    return answered(number, place, rows, left) && all(answer, VFR_READ_ANSWER, VFR_RESOLVE_ANSWER + 1, OLD);
+}
+
+static bool has_resolved(uint64_t number, uint64_t place, uint64_t rows, uint64_t left, uint64_t bytes)
+{
+    return answered(number, place, rows, left) && answer[VFR_ANSWER_BYTES] == bytes &&
+           answer[VFR_RESOLVE_ANSWER] == OLD;
+}
+
+/* Zeros in all of a lent table, and what was there past it; the same of an output. */
+static bool cleared_table(size_t table_len)
+{
+    return all(table, 0, table_len, 0) && all(table, table_len, NUMBERS + 1, OLD);
+}
+
+static bool cleared_out(size_t out_len)
+{
+    return all_bytes(out, 0, out_len, 0) && all_bytes(out, out_len, sizeof out, OLD_BYTE);
 }
 
 static bool row_is(size_t row, const uint64_t cells[VFR_COLUMNS])
@@ -79,101 +232,299 @@ static bool row_is(size_t row, const uint64_t cells[VFR_COLUMNS])
     return memcmp(table + row * VFR_COLUMNS, cells, VFR_COLUMNS * sizeof *cells) == 0;
 }
 
-static uint64_t place_of(const char *source, const char *part)
+static uint64_t cell(size_t row, size_t column)
 {
-    return (uint64_t)(strstr(source, part) - source);
+    return table[row * VFR_COLUMNS + column];
 }
 
-static uint64_t quick(const char *source, size_t length)
+static uint64_t place_of(const char *bytes, const char *part)
 {
-    return vfr_quick_check((const uint8_t *)source, length);
+    return (uint64_t)(strstr(bytes, part) - bytes);
 }
+
+/* ---- Rows: document 01's example, then every column, code and flag of the header ---- */
 
 static void check_example(void)
 {
-    const uint64_t formset[] = {VFR_FORMSET, 0, 0, 2, 3, 0, 0x0000000100020003, 0x0405060708090a0b, 0, 0, 0, 0};
-    const uint64_t form[] = {VFR_FORM, 0, 16, 4, 0, 0, 0, 0, 0, 0, 0, place_of(EXAMPLE, "form formid")};
-    const uint64_t checkbox[] = {VFR_CHECKBOX, 1, 2, 5, 6, VFR_DEFAULT_WRITTEN, 0, 0, 0, 1,
-                                 place_of(EXAMPLE, "Fan,") + 1, place_of(EXAMPLE, "checkbox")};
-    const uint64_t reference[] = {VFR_QUESTIONREF, 3, 0, 0, 0, 0, 2, 0, 0, 0, 0, place_of(EXAMPLE, "questionref")};
-    const uint64_t either[] = {VFR_OR, 3, 0, 0, 0, 0, 0, 0, 0, 0, 0, place_of(EXAMPLE, "OR 1")};
-    const uint64_t numeric[] = {VFR_NUMERIC, 3, 1, 7, 8, VFR_READ_ONLY, 0, 9, 0, 0, 0, place_of(EXAMPLE, "numeric")};
-    const size_t length = sizeof EXAMPLE - 1;
+    const uint64_t formset[VFR_COLUMNS] = {[VFR_COL_CODE] = VFR_FORMSET, [VFR_COL_FIRST] = 2, [VFR_COL_SECOND] = 3,
+                                           [VFR_COL_A] = 0x0000000100020003, [VFR_COL_B] = 0x0405060708090a0b};
+    const uint64_t form[VFR_COLUMNS] = {[VFR_COL_CODE] = VFR_FORM, [VFR_COL_NUMBER] = 16, [VFR_COL_FIRST] = 4,
+                                        [VFR_COL_PLACE] = place_of(EXAMPLE, "form formid")};
+    const uint64_t checkbox[VFR_COLUMNS] = {[VFR_COL_CODE] = VFR_CHECKBOX, [VFR_COL_PARENT] = 1,
+                                            [VFR_COL_NUMBER] = 2, [VFR_COL_FIRST] = 5, [VFR_COL_SECOND] = 6,
+                                            [VFR_COL_FLAGS] = VFR_DEFAULT_WRITTEN, [VFR_COL_D] = 1,
+                                            [VFR_COL_NAME] = place_of(EXAMPLE, "Fan,") + 1,
+                                            [VFR_COL_PLACE] = place_of(EXAMPLE, "checkbox")};
+    const uint64_t reference[VFR_COLUMNS] = {[VFR_COL_CODE] = VFR_QUESTIONREF, [VFR_COL_PARENT] = 3, [VFR_COL_A] = 2,
+                                             [VFR_COL_PLACE] = place_of(EXAMPLE, "questionref")};
+    const uint64_t either[VFR_COLUMNS] = {[VFR_COL_CODE] = VFR_OR, [VFR_COL_PARENT] = 3,
+                                          [VFR_COL_PLACE] = place_of(EXAMPLE, "OR 1")};
+    const size_t count = sizeof EXAMPLE - 1;
 
-    read_source(EXAMPLE, length, NUMBERS);
-    check("the worked example is accepted with 15 rows and 65,533 numbers free", answered(VFR_ACCEPTED, 0, 15, 65533));
+    read_source(EXAMPLE, count, NUMBERS);
+    check("the worked example is accepted with 15 rows and 65,533 numbers free",
+          has_read(VFR_ACCEPTED, 0, EXAMPLE_ROWS, EXAMPLE_FREE));
     check("its form set", row_is(0, formset));
     check("its form", row_is(1, form));
     check("its checkbox, which gets number 2", row_is(2, checkbox));
-    check("its condition", table[3 * VFR_COLUMNS] == VFR_SUPPRESSIF);
     check("its reference by name", row_is(4, reference));
     check("its OR, after both operands", row_is(13, either));
-    check("its numeric, inside the condition", row_is(14, numeric));
-    check("past the rows the table is 0", all(table, 15 * VFR_COLUMNS, NUMBERS, 0));
+    check("past the rows the table is 0", all(table, EXAMPLE_ROWS * VFR_COLUMNS, NUMBERS, 0));
     check("past the table nothing is written", table[NUMBERS] == OLD);
-    check("the quick check passes it", quick(EXAMPLE, length) == 0);
+    check("the quick check passes it", quick(EXAMPLE, count) == 0);
 }
 
-static void check_short_tables(void)
+/* A numeric in which no two columns hold the same number. */
+static void check_columns(void)
 {
-    const size_t length = sizeof EXAMPLE - 1;
+    make("numeric name=N,questionid=17,prompt=STRING_TOKEN(18),help=STRING_TOKEN(19),flags=READ_ONLY,",
+         "minimum=20,maximum=23,step=21,default=22,endnumeric;", NULL);
+    read_source(source, length, NUMBERS);
+    source[length] = '\0';
 
-    read_source(EXAMPLE, length, 15 * VFR_COLUMNS);
-    check("a table of just 15 rows is enough", answered(VFR_ACCEPTED, 0, 15, 65533));
-    read_source(EXAMPLE, length, 15 * VFR_COLUMNS - 1);
-    check("one number fewer is refusal 6 with the need", answered(VFR_TABLE_SHORT, 0, 15, 0));
-    check("and the table is all zeros", all(table, 0, 15 * VFR_COLUMNS - 1, 0));
-    check("and nothing past it is written", all(table, 15 * VFR_COLUMNS - 1, NUMBERS + 1, OLD));
-    read_source(EXAMPLE, length, 0);
-    check("an empty table is refusal 6 with the need", answered(VFR_TABLE_SHORT, 0, 15, 0));
-    check("and is not touched", all(table, 0, NUMBERS + 1, OLD));
-    fill(answer, VFR_READ_ANSWER + 1);
-    vfr_read((const uint8_t *)EXAMPLE, length, NULL, 0, answer, VFR_READ_ANSWER);
-    check("an empty table may be a null pointer", answered(VFR_TABLE_SHORT, 0, 15, 0));
+    const uint64_t numeric[VFR_COLUMNS] = {[VFR_COL_CODE] = VFR_NUMERIC, [VFR_COL_PARENT] = 1,
+                                           [VFR_COL_NUMBER] = 17, [VFR_COL_FIRST] = 18, [VFR_COL_SECOND] = 19,
+                                           [VFR_COL_FLAGS] = VFR_READ_ONLY + VFR_DEFAULT_WRITTEN,
+                                           [VFR_COL_A] = 20, [VFR_COL_B] = 23, [VFR_COL_C] = 21, [VFR_COL_D] = 22,
+                                           [VFR_COL_NAME] = place_of(source, "N,") + 1,
+                                           [VFR_COL_PLACE] = place_of(source, "numeric")};
+
+    check("every column of a numeric", has_read(VFR_ACCEPTED, 0, 3, 65534) && row_is(2, numeric));
+    read_source(source, length, 3 * VFR_COLUMNS);
+    check("three rows are three times the header's row width", has_read(VFR_ACCEPTED, 0, 3, 65534));
+    read_source(source, length, 3 * VFR_COLUMNS - 1);
+    check("and a number fewer is refusal 6", has_read(VFR_TABLE_SHORT, 0, 3, 0));
+}
+
+/* Each statement, operator and atom once, and the codes of their rows. */
+static void check_codes(void)
+{
+    static const uint64_t codes[] = {
+        VFR_FORMSET, VFR_FORM,
+        VFR_RULE, VFR_NUMBER, VFR_TRUE, VFR_MULTIPLY, VFR_FALSE, VFR_DIVIDE, VFR_ZERO, VFR_REMAINDER,
+        VFR_RULE, VFR_ONE, VFR_ONES, VFR_ADD, VFR_UNDEFINED, VFR_SUBTRACT,
+        VFR_RULE, VFR_QUESTIONREF, VFR_NOT, VFR_RULEREF, VFR_SHIFT_LEFT, VFR_NUMBER, VFR_SHIFT_RIGHT,
+        VFR_RULE, VFR_NUMBER, VFR_NUMBER, VFR_LESS, VFR_NUMBER, VFR_LESS_EQUAL, VFR_NUMBER, VFR_GREATER, VFR_NUMBER,
+        VFR_GREATER_EQUAL,
+        VFR_RULE, VFR_NUMBER, VFR_NUMBER, VFR_EQUAL, VFR_NUMBER, VFR_NOT_EQUAL,
+        VFR_RULE, VFR_NUMBER, VFR_NUMBER, VFR_BIT_AND, VFR_NUMBER, VFR_BIT_OR, VFR_NUMBER, VFR_AND, VFR_NUMBER, VFR_OR,
+        VFR_SUBTITLE, VFR_TEXT, VFR_LABEL, VFR_GOTO, VFR_CHECKBOX, VFR_NUMERIC, VFR_ONEOF, VFR_OPTION,
+        VFR_SUPPRESSIF, VFR_TRUE, VFR_GRAYOUTIF, VFR_TRUE, VFR_DISABLEIF, VFR_TRUE,
+    };
+    const size_t rows = sizeof codes / sizeof *codes;
+    bool good = true;
+
+    make("rule A,1*TRUE/FALSE%ZERO endrule;", "rule B,ONE+ONES-UNDEFINED endrule;",
+         "rule C,NOT questionref(Q)<<ruleref(A)>>1 endrule;", "rule D,1<2<=3>4>=5 endrule;",
+         "rule E,1==2!=3 endrule;", "rule F,1&2|3 AND 4 OR 5 endrule;", "subtitle text=STRING_TOKEN(1);",
+         "text help=STRING_TOKEN(1),text=STRING_TOKEN(2);", "label 3;", "goto 1," STRINGS ";",
+         "checkbox name=Q," STRINGS ",endcheckbox;", "numeric " STRINGS ",minimum=0,maximum=1,endnumeric;",
+         "oneof " STRINGS ",option text=STRING_TOKEN(1),value=2,flags=0;endoneof;",
+         "suppressif TRUE;grayoutif TRUE;disableif TRUE;endif;endif;endif;", NULL);
+    read_source(source, length, NUMBERS);
+    for (size_t row = 0; row < rows; row++) {
+        if (cell(row, VFR_COL_CODE) != codes[row]) {
+            printf("row %zu has code %#llx\n", row, (unsigned long long)cell(row, VFR_COL_CODE));
+            good = false;
+        }
+    }
+    check("the code of every statement, operator and atom", good && has_read(VFR_ACCEPTED, 0, rows, 65531));
+}
+
+static void check_flags(void)
+{
+    make("goto 1," STRINGS ",flags=READ_ONLY;", "goto 1," STRINGS ",flags=INTERACTIVE;",
+         "goto 1," STRINGS ",flags=RESET_REQUIRED;", "checkbox " STRINGS ",default=FALSE,endcheckbox;",
+         "oneof " STRINGS ",option text=STRING_TOKEN(1),value=2,flags=DEFAULT;endoneof;", NULL);
+    read_source(source, length, NUMBERS);
+    check("every flag", cell(2, VFR_COL_FLAGS) == VFR_READ_ONLY && cell(3, VFR_COL_FLAGS) == VFR_INTERACTIVE &&
+                            cell(4, VFR_COL_FLAGS) == VFR_RESET_REQUIRED &&
+                            cell(5, VFR_COL_FLAGS) == VFR_DEFAULT_WRITTEN && cell(6, VFR_COL_FLAGS) == 0 &&
+                            cell(7, VFR_COL_FLAGS) == VFR_OPTION_DEFAULT);
+}
+
+/* ---- Refusals: of the made source by every call that can give it ---- */
+
+static void check_refusal(const char *what, uint64_t number)
+{
+    const uint64_t early = number < VFR_TABLE_SHORT ? number << 32 | fault : 0;
+    bool good = quick(source, length) == early;
+
+    read_source(source, length, NUMBERS);
+    good = good && has_read(number, fault, 0, 0) && cleared_table(NUMBERS);
+    resolve_source(source, length, NUMBERS, VFR_MAX_TEXT);
+    good = good && has_resolved(number, fault, 0, 0, 0) && cleared_table(NUMBERS) && cleared_out(VFR_MAX_TEXT);
+    check(what, good);
+}
+
+static void check_accepted(const char *what, uint64_t rows)
+{
+    bool good = quick(source, length) == 0;
+
+    read_source(source, length, NUMBERS);
+    check(what, good && has_read(VFR_ACCEPTED, 0, rows, 65535));
 }
 
 static void check_refusals(void)
 {
-    const size_t length = sizeof LOST - 1;
-
-    read_source(LOST, length, NUMBERS);
-    check("a goto to no form is refusal 11 at its number", answered(VFR_NOT_FOUND, place_of(LOST, "17"), 0, 0));
-    check("and the table is all zeros", all(table, 0, NUMBERS, 0));
-    check("and past the table nothing is written", table[NUMBERS] == OLD);
-    check("the quick check passes it, as 11 comes later", quick(LOST, length) == 0);
-    check("a cut source is refusal 3 at its length for the quick check",
+    make("label ^0X10;", NULL);
+    check_refusal("a bad token is refusal 2", VFR_BAD_TOKEN);
+    make("label ^;", NULL);
+    check_refusal("a token that cannot follow is refusal 3", VFR_NOT_GRAMMAR);
+    make("endform;form formid=^1,title=STRING_TOKEN(4);", NULL);
+    check_refusal("a repeated form number is refusal 7", VFR_FORM_REPEATED);
+    make("goto 1,questionid=0x1A0," STRINGS ";", "goto 1,questionid=^416," STRINGS ";", NULL);
+    check_refusal("a repeated question number is refusal 8", VFR_QUESTION_REPEATED);
+    make("rule A,1 endrule;rule ^A,1 endrule;", NULL);
+    check_refusal("a repeated rule name is refusal 9", VFR_NAME_REPEATED);
+    make("goto 1,name=A," STRINGS ";", "goto 1,name=^A," STRINGS ";", NULL);
+    check_refusal("a repeated question name is refusal 9", VFR_NAME_REPEATED);
+    make("goto ^17," STRINGS ";", NULL);
+    check_refusal("a goto that finds nothing is refusal 11", VFR_NOT_FOUND);
+    make("rule A,questionref(^A) endrule;", NULL);
+    check_refusal("a questionref that finds nothing is refusal 11", VFR_NOT_FOUND);
+    make("rule A,ruleref(^B) endrule;", NULL);
+    check_refusal("a ruleref that finds nothing is refusal 11", VFR_NOT_FOUND);
+    make("numeric " STRINGS ",minimum=5,maximum=^4,endnumeric;", NULL);
+    check_refusal("a maximum below its minimum is refusal 12", VFR_BAD_CHOICE);
+    make("numeric " STRINGS ",minimum=5,maximum=5,default=^6,endnumeric;", NULL);
+    check_refusal("a default outside is refusal 12", VFR_BAD_CHOICE);
+    make("oneof " STRINGS ",option text=STRING_TOKEN(1),value=2,flags=0;option text=STRING_TOKEN(1),value=^2,flags=0;",
+         "endoneof;", NULL);
+    check_refusal("a repeated value is refusal 12", VFR_BAD_CHOICE);
+    make("oneof " STRINGS ",option text=STRING_TOKEN(1),value=2,flags=DEFAULT;",
+         "option text=STRING_TOKEN(1),value=3,flags=^DEFAULT;endoneof;", NULL);
+    check_refusal("a second DEFAULT is refusal 12", VFR_BAD_CHOICE);
+    check("a cut source is refusal 3 at its length",
           quick(EXAMPLE, 100) == ((uint64_t)VFR_NOT_GRAMMAR << 32 | 100));
-    read_source("0X10", 4, NUMBERS);
-    check("0X10 is refusal 2 at 0", answered(VFR_BAD_TOKEN, 0, 0, 0));
 }
 
-static void check_empty_sources(void)
+/* The limits of the header: each kept, and passed by one. */
+static void check_limits(void)
 {
-    read_source("", 0, NUMBERS);
-    check("an empty source is refusal 3 at 0", answered(VFR_NOT_GRAMMAR, 0, 0, 0));
-    check("and the table is all zeros", all(table, 0, NUMBERS, 0));
-    check("an empty source may be a null pointer", quick(NULL, 0) == (uint64_t)VFR_NOT_GRAMMAR << 32);
+    char label[40];
+
+    make_blanks(VFR_MAX_SOURCE);
+    check_accepted("a source of 65,536 bytes is accepted", FRAME_ROWS);
+    make_blanks(VFR_MAX_SOURCE + 1);
+    check_refusal("a byte more is refusal 1", VFR_TOO_LONG);
+    make_groups(VFR_MAX_GROUPS);
+    check_accepted("32 parentheses are accepted", FRAME_ROWS + 2);
+    make_groups(VFR_MAX_GROUPS + 1);
+    check_refusal("a 33rd is refusal 4", VFR_TOO_DEEP);
+    make_conditions(VFR_MAX_CONDITIONS);
+    check_accepted("16 conditions are accepted", FRAME_ROWS + 2 * VFR_MAX_CONDITIONS);
+    make_conditions(VFR_MAX_CONDITIONS + 1);
+    check_refusal("a 17th is refusal 4", VFR_TOO_DEEP);
+    make_rules(VFR_MAX_RULES);
+    check_accepted("255 rules are accepted", FRAME_ROWS + 2 * VFR_MAX_RULES);
+    make_rules(VFR_MAX_RULES + 1);
+    check_refusal("a 256th is refusal 10", VFR_TOO_MANY_RULES);
+    snprintf(label, sizeof label, "label ^%d;", VFR_MAX_ID);
+    make(label, NULL);
+    check_accepted("label 65,535 is accepted", FRAME_ROWS + 1);
+    snprintf(label, sizeof label, "label ^%d;", VFR_MAX_ID + 1);
+    make(label, NULL);
+    check_refusal("label 65,536 is refusal 5", VFR_OUT_OF_RANGE);
+}
+
+/* ---- Tables that are too short, or not there ---- */
+
+static void check_short_tables(void)
+{
+    const size_t count = sizeof EXAMPLE - 1;
+    const size_t exact = EXAMPLE_ROWS * VFR_COLUMNS;
+
+    read_source(EXAMPLE, count, exact);
+    check("a table of just 15 rows is enough", has_read(VFR_ACCEPTED, 0, EXAMPLE_ROWS, EXAMPLE_FREE));
+    read_source(EXAMPLE, count, exact - 1);
+    check("one number fewer is refusal 6 with the need", has_read(VFR_TABLE_SHORT, 0, EXAMPLE_ROWS, 0));
+    check("and the table is all zeros", cleared_table(exact - 1));
+    resolve_source(EXAMPLE, count, exact - 1, VFR_MAX_TEXT);
+    check("so it is for resolving, with zeros in the output too",
+          has_resolved(VFR_TABLE_SHORT, 0, EXAMPLE_ROWS, 0, 0) && cleared_table(exact - 1) &&
+              cleared_out(VFR_MAX_TEXT));
+    read_source(EXAMPLE, count, 0);
+    check("an empty table is refusal 6 with the need", has_read(VFR_TABLE_SHORT, 0, EXAMPLE_ROWS, 0));
+    check("and is not touched", cleared_table(0));
+    read_source(EXAMPLE, count, count * VFR_COLUMNS);
+    check("a row for each byte of the source is always enough",
+          has_read(VFR_ACCEPTED, 0, EXAMPLE_ROWS, EXAMPLE_FREE));
+}
+
+/* A length of 0 may come with a null pointer, in every argument of every call. */
+static void check_null(void)
+{
+    const uint64_t empty = (uint64_t)VFR_NOT_GRAMMAR << 32;
+    const size_t count = sizeof EXAMPLE - 1;
+
+    check("quick check: no source", vfr_quick_check(NULL, 0) == empty);
+    read_source(NULL, 0, NUMBERS);
+    check("reading: no source is refusal 3 at 0", has_read(VFR_NOT_GRAMMAR, 0, 0, 0) && cleared_table(NUMBERS));
+    resolve_source(NULL, 0, NUMBERS, VFR_MAX_TEXT);
+    check("resolving: no source is refusal 3 at 0",
+          has_resolved(VFR_NOT_GRAMMAR, 0, 0, 0, 0) && cleared_table(NUMBERS) && cleared_out(VFR_MAX_TEXT));
+    fill_all();
+    vfr_read((const uint8_t *)EXAMPLE, count, NULL, 0, answer, VFR_READ_ANSWER);
+    check("reading: no table is refusal 6 with the need", has_read(VFR_TABLE_SHORT, 0, EXAMPLE_ROWS, 0));
+    fill_all();
+    vfr_resolve((const uint8_t *)EXAMPLE, count, NULL, 0, out, VFR_MAX_TEXT, answer, VFR_RESOLVE_ANSWER);
+    check("resolving: no table is refusal 6 with the need",
+          has_resolved(VFR_TABLE_SHORT, 0, EXAMPLE_ROWS, 0, 0) && cleared_out(VFR_MAX_TEXT));
+    resolve_source(EXAMPLE, count, NUMBERS, VFR_MAX_TEXT);
+    const uint64_t need = answer[VFR_ANSWER_BYTES];
+    fill_all();
+    vfr_resolve((const uint8_t *)EXAMPLE, count, table, NUMBERS, NULL, 0, answer, VFR_RESOLVE_ANSWER);
+    check("resolving: no output is refusal 13 with the need",
+          has_resolved(VFR_OUTPUT_SHORT, 0, need, 0, 0) && cleared_table(NUMBERS));
+    fill_all();
+    vfr_read((const uint8_t *)EXAMPLE, count, table, NUMBERS, NULL, 0);
+    check("reading: no answer, and the rows all the same", cell(0, VFR_COL_CODE) == VFR_FORMSET);
+    fill_all();
+    vfr_resolve((const uint8_t *)EXAMPLE, count, table, NUMBERS, out, VFR_MAX_TEXT, NULL, 0);
+    check("resolving: no answer, and the text all the same", memcmp(out, "formset ", 8) == 0);
+    vfr_read(NULL, 0, NULL, 0, NULL, 0);
+    vfr_resolve(NULL, 0, NULL, 0, NULL, 0, NULL, 0);
+    check("nothing at all is lent, and the calls return", true);
 }
 
 static void check_source_untouched(void)
 {
-    char source[sizeof EXAMPLE];
+    char copy[sizeof EXAMPLE];
 
-    memcpy(source, EXAMPLE, sizeof source);
-    read_source(source, sizeof source - 1, NUMBERS);
-    quick(source, sizeof source - 1);
-    check("the source is untouched", memcmp(source, EXAMPLE, sizeof source) == 0);
+    memcpy(copy, EXAMPLE, sizeof copy);
+    read_source(copy, sizeof copy - 1, NUMBERS);
+    resolve_source(copy, sizeof copy - 1, NUMBERS, VFR_MAX_TEXT);
+    quick(copy, sizeof copy - 1);
+    check("the source is untouched", memcmp(copy, EXAMPLE, sizeof copy) == 0);
 }
 
+/* Of an answer only what has room is written. */
 static void check_short_answers(void)
 {
-    read_source(EXAMPLE, sizeof EXAMPLE - 1, NUMBERS);
-    fill(answer, VFR_READ_ANSWER + 1);
-    vfr_read((const uint8_t *)EXAMPLE, sizeof EXAMPLE - 1, table, NUMBERS, answer, 2);
-    check("of an answer only what has room is written",
-          answer[VFR_ANSWER_NUMBER] == VFR_ACCEPTED && answer[VFR_ANSWER_PLACE] == 0 &&
-              all(answer, 2, VFR_READ_ANSWER + 1, OLD));
+    const size_t count = sizeof EXAMPLE - 1;
+    uint64_t whole[VFR_RESOLVE_ANSWER];
+    bool good = true;
+
+    resolve_source(EXAMPLE, count, NUMBERS, VFR_MAX_TEXT);
+    memcpy(whole, answer, sizeof whole);
+    check("an answer with room for all is all written", whole[VFR_RESOLVE_ANSWER - 1] != OLD);
+    for (size_t room = 0; room <= VFR_RESOLVE_ANSWER; room++) {
+        const size_t read_room = room < VFR_READ_ANSWER ? room : VFR_READ_ANSWER;
+
+        fill_all();
+        vfr_read((const uint8_t *)EXAMPLE, count, table, NUMBERS, answer, room);
+        good = good && memcmp(answer, whole, read_room * sizeof *whole) == 0 &&
+               all(answer, read_room, VFR_RESOLVE_ANSWER + 1, OLD);
+        fill_all();
+        vfr_resolve((const uint8_t *)EXAMPLE, count, table, NUMBERS, out, VFR_MAX_TEXT, answer, room);
+        good = good && memcmp(answer, whole, room * sizeof *whole) == 0 &&
+               all(answer, room, VFR_RESOLVE_ANSWER + 1, OLD);
+    }
+    check("of an answer only what has room is written", good);
 }
+
+/* ---- Resolving ---- */
 
 static const char RESOLVED[] =
     "formset guid = { 0x00000001 , 0x0002 , 0x0003 , { 0x04 , 0x05 , 0x06 , 0x07 , 0x08 , 0x09 , 0x0a , 0x0b } } , "
@@ -190,33 +541,58 @@ static const char RESOLVED[] =
 static void check_resolve(void)
 {
     const size_t need = sizeof RESOLVED - 1;
-    const uint8_t zeros[sizeof RESOLVED] = {0};
-    const uint64_t accepted[] = {VFR_ACCEPTED, 0, 15, 65533, need};
-    const uint64_t refused[] = {VFR_OUTPUT_SHORT, 0, need, 0, 0};
-    uint8_t out[sizeof RESOLVED];
-    uint64_t told[VFR_RESOLVE_ANSWER];
+    const size_t count = sizeof EXAMPLE - 1;
 
-    memset(out, 'x', sizeof out);
-    vfr_resolve((const uint8_t *)EXAMPLE, sizeof EXAMPLE - 1, table, NUMBERS, out, sizeof out, told,
-                VFR_RESOLVE_ANSWER);
-    check("the worked example resolves", memcmp(told, accepted, sizeof told) == 0);
-    check("to the worked output, with 0 past it", memcmp(out, RESOLVED, sizeof out) == 0);
-    memset(out, 'x', sizeof out);
-    vfr_resolve((const uint8_t *)EXAMPLE, sizeof EXAMPLE - 1, table, NUMBERS, out, need - 1, told, VFR_RESOLVE_ANSWER);
-    check("an output one byte short is refusal 13 with the need", memcmp(told, refused, sizeof told) == 0);
-    check("and table and output are all zeros", all(table, 0, NUMBERS, 0) && memcmp(out, zeros, need - 1) == 0);
-    check("and nothing past the output is written", out[need - 1] == 'x' && out[need] == 'x');
+    resolve_source(EXAMPLE, count, NUMBERS, VFR_MAX_TEXT);
+    check("the worked example resolves", has_resolved(VFR_ACCEPTED, 0, EXAMPLE_ROWS, EXAMPLE_FREE, need));
+    check("to the worked output, with 0 past it",
+          memcmp(out, RESOLVED, need) == 0 && all_bytes(out, need, VFR_MAX_TEXT, 0) && out[VFR_MAX_TEXT] == OLD_BYTE);
+    check("with the rows of reading in the table", cell(EXAMPLE_ROWS - 1, VFR_COL_CODE) == VFR_NUMERIC &&
+                                                       all(table, EXAMPLE_ROWS * VFR_COLUMNS, NUMBERS, 0));
+    resolve_source(EXAMPLE, count, NUMBERS, need);
+    check("an output of just its bytes is enough",
+          has_resolved(VFR_ACCEPTED, 0, EXAMPLE_ROWS, EXAMPLE_FREE, need) && out[need] == OLD_BYTE);
+    resolve_source(EXAMPLE, count, NUMBERS, need - 1);
+    check("one byte short is refusal 13 with the need",
+          has_resolved(VFR_OUTPUT_SHORT, 0, need, 0, 0) && cleared_table(NUMBERS) && cleared_out(need - 1));
+}
+
+/* The longest text there may be, and one byte more, for which no output is enough. */
+static void check_longest_text(void)
+{
+    make(NULL);
+    resolve_source(source, length, NUMBERS, VFR_MAX_TEXT);
+
+    const size_t bytes = VFR_MAX_TEXT - answer[VFR_ANSWER_BYTES];
+    const size_t label = strlen("label 0 ;\n");
+    const size_t labels = bytes / label;
+    const size_t longer = bytes % label;
+
+    make_labels(labels, longer);
+    resolve_source(source, length, NUMBERS, VFR_MAX_TEXT);
+    check("a text of 65,536 bytes is given",
+          has_resolved(VFR_ACCEPTED, 0, FRAME_ROWS + labels, 65535, VFR_MAX_TEXT) && out[VFR_MAX_TEXT - 1] == '\n');
+    make_labels(labels, longer + 1);
+    resolve_source(source, length, NUMBERS, VFR_MAX_TEXT + 1);
+    check("one byte more is refusal 13, although the output lent has room for it",
+          has_resolved(VFR_OUTPUT_SHORT, 0, VFR_MAX_TEXT + 1, 0, 0) && cleared_table(NUMBERS) &&
+              cleared_out(VFR_MAX_TEXT + 1));
 }
 
 int main(void)
 {
     check_example();
-    check_short_tables();
+    check_columns();
+    check_codes();
+    check_flags();
     check_refusals();
-    check_empty_sources();
+    check_limits();
+    check_short_tables();
+    check_null();
     check_source_untouched();
     check_short_answers();
     check_resolve();
+    check_longest_text();
     printf("%d checks passed, %d failed\n", passed, failed);
     return failed != 0;
 }

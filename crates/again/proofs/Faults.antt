@@ -5,8 +5,8 @@ use mathlib.Core.List.{List, [], _∷_, _++_}
 use mathlib.Core.Bool.{Bool, true, false, not, _&&_}
 use Prim.Native.Nat.{ℕ}
 use Rattle.ll1.proofs.Basics.{clash, append-empty}
-use Rattle.grammar.specs.Rows.{Draft}
-use Rattle.grammar.specs.Stages.{faultIf, faultsAfter}
+use Rattle.answers.specs.Rows.{Draft}
+use Rattle.answers.specs.Stages.{faultIf, faultsAfter}
 use Rattle.sound.proofs.Lists.{All, none, more}
 use Rattle.again.specs.Matches.{Pairs, no-pairs, pair}
 

@@ -5,11 +5,12 @@ use mathlib.Core.List.{List, [], _++_}
 use mathlib.Core.Bool.{Bool, true, cond, _&&_}
 use Prim.Native.Nat.{ℕ}
 use lib.Dec.{eqb, ltb}
-use Rattle.lex.proofs.Lists.{either}
+use Rattle.lexemes.proofs.Lists.{either}
 use Rattle.rows.specs.Codes as code
 use Rattle.rows.specs.Columns as column
-use Rattle.grammar.specs.Rows.{Draft, mark}
-use Rattle.grammar.specs.Stages.{cell, is, any, faultIf, repeatedForms, rulesOverLimit, badChoices, outside, beside, numericFaults, optionFaults}
+use Rattle.answers.specs.Rows.{Draft}
+use Rattle.grammar.specs.Parts.{mark}
+use Rattle.answers.specs.Stages.{cell, is, any, faultIf, repeatedForms, rulesOverLimit, badChoices, outside, beside, numericFaults, optionFaults}
 use Rattle.again.specs.Matches.{Pairs, no-pairs}
 use Rattle.again.proofs.Lists.{any-pairs}
 use Rattle.again.proofs.Faults.{no-fault, no-faults, clean-like}

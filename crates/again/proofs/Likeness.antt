@@ -8,15 +8,15 @@ use native.Mathlib.Omega.{arith}
 use lib.Dec.{eqb, ltb}
 use lib.ListN.{getD}
 use lib.Seq.{getD-take, getD-set-same, getD-set-other}
-use Rattle.lex.proofs.Lists.{either}
+use Rattle.lexemes.proofs.Lists.{either}
 use Rattle.numbers.proofs.Ranges.{or-no}
 use Rattle.rows.specs.Codes as code
 use Rattle.rows.specs.Codes.{isQuestion}
 use Rattle.rows.specs.Columns as column
 use Rattle.grammar.specs.Source.{numberAt}
-use Rattle.grammar.specs.Rows.{Draft, columns}
-use Rattle.grammar.specs.Stages.{cell, is, asks, placeOf}
-use Rattle.stages.proofs.RowTests.{other-code}
+use Rattle.answers.specs.Rows.{Draft, columns}
+use Rattle.answers.specs.Stages.{cell, is, asks, placeOf}
+use Rattle.drafts.proofs.RowTests.{other-code}
 use Rattle.again.specs.Matches.{Settled, final, Match}
 use Rattle.again.proofs.NumberedDrafts.{other-asks}
 

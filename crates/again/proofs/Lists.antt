@@ -3,9 +3,9 @@
 use mathlib.Core.Path.{_≡_, refl}
 use mathlib.Core.List.{List, [], _∷_, _++_, map}
 use mathlib.Core.Bool.{Bool, false}
-use Rattle.grammar.specs.Rows.{Draft}
-use Rattle.grammar.specs.Stages.{any}
-use Rattle.stages.specs.Sound.{Sound, AllSound, no-rows, add-row}
+use Rattle.answers.specs.Rows.{Draft}
+use Rattle.answers.specs.Stages.{any}
+use Rattle.drafts.specs.Sound.{Sound, AllSound, no-rows, add-row}
 use Rattle.sound.proofs.Lists.{All, none, more}
 use Rattle.again.specs.Matches.{Pairs, no-pairs, pair}
 

@@ -9,17 +9,17 @@ use lib.Dec.{eqb, ltb}
 use lib.ListN.{length, getD, drop}
 use lib.Seq.{getD-set-same}
 use borrow.Author.Tests.{eq-eqb, eqb-true}
-use Rattle.lex.proofs.Lists.{either, and-true}
+use Rattle.lexemes.proofs.Lists.{either, and-true}
 use Rattle.numbers.specs.Numbers.{isNumber, mem, numbered}
 use Rattle.numbers.proofs.Numbering.{Own, numbering}
 use Rattle.rows.specs.Codes as code
 use Rattle.rows.specs.Codes.{isQuestion, questions, member}
 use Rattle.rows.specs.Columns as column
 use Rattle.ll1.proofs.Basics.{or-right}
-use Rattle.grammar.specs.Rows.{Draft}
-use Rattle.grammar.specs.Stages.{cell, is, asks, writes, any, placeOf, ownNumbers, withCell, withNumbers, declares, finds, ownOfFirst}
-use Rattle.stages.specs.Sound.{Sound, AllSound}
-use Rattle.stages.proofs.RowTests.{any-same, other-code}
+use Rattle.answers.specs.Rows.{Draft}
+use Rattle.answers.specs.Stages.{cell, is, asks, writes, any, placeOf, ownNumbers, withCell, withNumbers, declares, finds, ownOfFirst}
+use Rattle.drafts.specs.Sound.{Sound, AllSound}
+use Rattle.drafts.proofs.RowTests.{any-same, other-code}
 use Rattle.stages.proofs.RepeatFaults.{bears}
 use Rattle.finish.proofs.NumberedRows.{other-column, writes-with}
 use Rattle.sound.proofs.Lists.{All, none, more}

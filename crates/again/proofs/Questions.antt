@@ -8,7 +8,7 @@ use native.Mathlib.Omega.{arith}
 use lib.Dec.{eqb}
 use lib.ListN.{length, getD}
 use borrow.Author.Tests.{eq-eqb, eqb-true, lt-ltb, not-true}
-use Rattle.lex.proofs.Lists.{either}
+use Rattle.lexemes.proofs.Lists.{either}
 use Rattle.numbers.specs.Numbers.{isNumber, mem, written, distinct, numbered, Below}
 use Rattle.numbers.proofs.Ranges.{and-yes, or-no}
 use Rattle.numbers.proofs.Lists.{mem-getD}
@@ -19,12 +19,12 @@ use Rattle.ll1.specs.Trees.{Trees}
 use Rattle.ll1.proofs.Basics.{clash, append-empty}
 use Rattle.grammar.specs.Derivation.{Derives}
 use Rattle.grammar.specs.Source.{sourceTokens, numberAt}
-use Rattle.grammar.specs.Rows.{Draft}
-use Rattle.grammar.specs.Stages.{cell, asks, writes, any, faultIf, faultsAfter, repeatedQuestions, ownNumbers}
-use Rattle.grammar.specs.Answer.{LIMIT, drafts}
-use Rattle.grammar.proofs.QuestionNumbers.{questions-few}
-use Rattle.grammar.proofs.Demand3.{rows-few}
-use Rattle.stages.specs.Sound.{Sound, AllSound, no-rows, add-row}
+use Rattle.answers.specs.Rows.{Draft}
+use Rattle.answers.specs.Stages.{cell, asks, writes, any, faultIf, faultsAfter, repeatedQuestions, ownNumbers}
+use Rattle.answers.specs.Answer.{LIMIT, drafts}
+use Rattle.answers.proofs.QuestionNumbers.{questions-few}
+use Rattle.answers.proofs.Demand3.{rows-few}
+use Rattle.drafts.specs.Sound.{Sound, AllSound, no-rows, add-row}
 use Rattle.stages.proofs.RepeatFaults.{bears}
 use Rattle.again.proofs.Faults.{no-fault}
 

@@ -7,7 +7,7 @@ use Prim.Native.Nat.{ℕ, zero, suc, _+_, _<_}
 use native.Mathlib.Omega.{arith}
 use lib.Dec.{eqb, ltb}
 use borrow.Author.Tests.{eqb-true}
-use Rattle.lex.proofs.Lists.{either}
+use Rattle.lexemes.proofs.Lists.{either}
 use Rattle.numbers.specs.Numbers.{mem}
 use Rattle.rows.specs.Codes as code
 use Rattle.ll1.specs.Trees.{Trees, nil, node, Symbol, terminal, nonterminal, Fits, fits-nil, fits-leaf, fits-node}
@@ -18,12 +18,12 @@ use Rattle.grammar.specs.Grammar.{rules}
 use Rattle.grammar.specs.Derivation.{Derives}
 use Rattle.grammar.specs.Source.{sourceTokens, numberAt}
 use Rattle.grammar.specs.Parts.{child}
-use Rattle.grammar.specs.Expression.{Operator, or, and, bit-or, bit-and, equal, not-equal, less, less-equal, greater, greater-equal, shift-left, shift-right, add, subtract, multiply, divide, modulo, operatorCode}
-use Rattle.grammar.specs.Expression.{Constant, true′, false′, zero′, one′, ones′, undefined′, constantCode}
-use Rattle.grammar.specs.Expression.{Expression, number, constant, question-named, question-numbered, rule-named, negation, binary, expression}
-use Rattle.grammar.specs.Rows.{Draft, rulesIn, item, operand, expressionRows, condition, otherwise, ownRows, draftsOf}
-use Rattle.grammar.specs.Stages.{is}
-use Rattle.grammar.specs.Answer.{drafts}
+use Rattle.answers.specs.Expression.{Operator, or, and, bit-or, bit-and, equal, not-equal, less, less-equal, greater, greater-equal, shift-left, shift-right, add, subtract, multiply, divide, modulo, operatorCode}
+use Rattle.answers.specs.Expression.{Constant, true′, false′, zero′, one′, ones′, undefined′, constantCode}
+use Rattle.answers.specs.Expression.{Expression, number, constant, question-named, question-numbered, rule-named, negation, binary, expression}
+use Rattle.answers.specs.Rows.{Draft, rulesIn, item, operand, expressionRows, condition, otherwise, ownRows, draftsOf}
+use Rattle.answers.specs.Stages.{is}
+use Rattle.answers.specs.Answer.{drafts}
 use Rattle.grammar.proofs.Alternatives.{everywhere, at-alternative}
 use Rattle.sound.proofs.Lists.{apart}
 use Rattle.again.proofs.Owns.{owns-append}

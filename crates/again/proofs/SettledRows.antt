@@ -9,23 +9,24 @@ use lib.Dec.{eqb, ltb}
 use lib.ListN.{length, getD, set}
 use lib.Seq.{getD-set-same}
 use borrow.Author.Tests.{ltb-false}
-use Rattle.lex.proofs.Lists.{either}
+use Rattle.lexemes.proofs.Lists.{either}
 use Rattle.numbers.specs.Numbers.{isNumber, mem, numbered}
 use Rattle.numbers.proofs.FreeNumbers.{number-range}
 use Rattle.numbers.proofs.Numbering.{Own}
 use Rattle.rows.specs.Codes as code
 use Rattle.rows.specs.Columns as column
 use Rattle.ll1.specs.Trees.{Trees}
-use Rattle.grammar.specs.Rows.{Draft, columns, mark}
-use Rattle.grammar.specs.Stages.{cell, is, asks, any, faultIf, rulesOverLimit, unfound, ownNumbers, withCell, numberedRows, finds, refers, ownOfFirst, finished}
-use Rattle.grammar.specs.Answer.{LIMIT, drafts}
-use Rattle.grammar.specs.Text.{rowFirstAt}
-use Rattle.grammar.specs.Demand3 as Demand3
-use Rattle.stages.specs.Sound.{Sound, SoundRows}
+use Rattle.answers.specs.Rows.{Draft, columns}
+use Rattle.grammar.specs.Parts.{mark}
+use Rattle.answers.specs.Stages.{cell, is, asks, any, faultIf, rulesOverLimit, unfound, ownNumbers, withCell, numberedRows, finds, refers, ownOfFirst, finished}
+use Rattle.answers.specs.Answer.{LIMIT, drafts}
+use Rattle.answers.specs.Text.{rowFirstAt}
+use Rattle.answers.specs.Demand3 as Demand3
+use Rattle.drafts.specs.Sound.{Sound, SoundRows}
 use Rattle.finish.proofs.NumberedRows.{other-column}
 use Rattle.sound.proofs.Lists.{All}
 use Rattle.sound.proofs.DraftsSound.{drafts-sound}
-use Rattle.grammar.proofs.RowPlaces.{rows-by-place}
+use Rattle.answers.proofs.RowPlaces.{rows-by-place}
 use Rattle.again.specs.Matches.{Pairs, Settled}
 use Rattle.again.specs.RuleNumbers.{ruleNumbers}
 use Rattle.again.proofs.Lists.{all-then, all-with, sound-each, pairs-first, pairs-alike, firsts}

@@ -8,14 +8,14 @@ use native.Mathlib.Omega.{arith}
 use lib.Dec.{ltb}
 use lib.ListN.{drop}
 use borrow.Author.Tests.{ltb-true}
-use Rattle.lex.specs.Tokens as lex
-use Rattle.lex.proofs.Lists.{either, and-true}
-use Rattle.lex.proofs.Equality.{same-word-true}
+use Rattle.lexemes.specs.Words as lex
+use Rattle.lexemes.proofs.Lists.{either, and-true}
+use Rattle.lexemes.proofs.Equality.{same-word-true}
 use Rattle.rows.specs.Codes as code
 use Rattle.rows.specs.Columns as column
-use Rattle.grammar.specs.Rows.{Draft}
-use Rattle.grammar.specs.Stages.{cell, is, asks, any, placeOf, faultIf, faultsAfter, sameSort, declares, repeatedNames}
-use Rattle.stages.specs.Sound.{Sound}
+use Rattle.answers.specs.Rows.{Draft}
+use Rattle.answers.specs.Stages.{cell, is, asks, any, placeOf, faultIf, faultsAfter, sameSort, declares, repeatedNames}
+use Rattle.drafts.specs.Sound.{Sound}
 use Rattle.sound.proofs.Lists.{All, none, more}
 use Rattle.printing.specs.Spelling.{nameWord}
 use Rattle.printing.proofs.Digits.{decimal-injective}

@@ -8,14 +8,14 @@ use lib.Dec.{eqb, ltb}
 use lib.ListN.{set}
 use lib.Seq.{set-getD}
 use borrow.Author.Tests.{lt-ltb, eq-eqb, eqb-true}
-use Rattle.lex.proofs.Lists.{either, and-true}
-use Rattle.lex.proofs.Equality.{same-word-true, eq-same-word}
+use Rattle.lexemes.proofs.Lists.{either, and-true}
+use Rattle.lexemes.proofs.Equality.{same-word-true, eq-same-word}
 use Rattle.numbers.specs.Numbers.{numbered}
 use Rattle.rows.specs.Codes as code
 use Rattle.rows.specs.Columns as column
-use Rattle.grammar.specs.Rows.{Draft}
-use Rattle.grammar.specs.Stages.{cell, is, asks, writes, any, placeOf, unfound, ownNumbers, withNumbers, numberedRows, declares, finds, refers, ownOfFirst, finished}
-use Rattle.stages.proofs.RowTests.{other-code}
+use Rattle.answers.specs.Rows.{Draft}
+use Rattle.answers.specs.Stages.{cell, is, asks, writes, any, placeOf, unfound, ownNumbers, withNumbers, numberedRows, declares, finds, refers, ownOfFirst, finished}
+use Rattle.drafts.proofs.RowTests.{other-code}
 use Rattle.sound.proofs.Lists.{All}
 use Rattle.again.specs.Matches.{Pairs, final}
 use Rattle.again.proofs.Lists.{all-then, all-with, map-each, any-pairs, pairs-second, firsts}

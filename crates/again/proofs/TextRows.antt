@@ -7,17 +7,17 @@ use Prim.Native.Nat.{ℕ, _<_}
 use native.Mathlib.Omega.{arith}
 use lib.Dec.{ltb}
 use lib.ListN.{getD, drop}
-use Rattle.lex.specs.Tokens as lex
+use Rattle.lexemes.specs.Words as lex
 use Rattle.numbers.specs.Numbers.{mem, numbered}
 use Rattle.numbers.proofs.FreeNumbers.{number-range}
 use Rattle.numbers.proofs.Numbering.{Own}
 use Rattle.rows.specs.Codes as code
 use Rattle.rows.specs.Columns as column
 use Rattle.grammar.specs.Source.{numberAt}
-use Rattle.grammar.specs.Rows.{Draft}
-use Rattle.grammar.specs.Stages.{cell, is, asks, placeOf, ownNumbers}
-use Rattle.grammar.specs.Demand3.{questionNumbers}
-use Rattle.stages.proofs.RowTests.{other-code}
+use Rattle.answers.specs.Rows.{Draft}
+use Rattle.answers.specs.Stages.{cell, is, asks, placeOf, ownNumbers}
+use Rattle.answers.specs.Demand3.{questionNumbers}
+use Rattle.drafts.proofs.RowTests.{other-code}
 use Rattle.sound.proofs.Lists.{All}
 use Rattle.printing.specs.Spelling.{nameWord}
 use Rattle.again.specs.Matches.{Pairs, no-pairs, pair, Match}

@@ -14,17 +14,17 @@ use Rattle.ll1.specs.Trees.{Trees}
 use Rattle.grammar.specs.Derivation.{Derives, NowhereTooDeep}
 use Rattle.grammar.specs.Source.{sourceTokens}
 use Rattle.grammar.specs.Ranges.{outOfRange}
-use Rattle.grammar.specs.Rows.{Draft, rulesIn}
-use Rattle.grammar.specs.Stages.{cell, is, repeatedForms, repeatedQuestions, repeatedNames, rulesOverLimit, unfound, badChoices, ownNumbers, finished}
-use Rattle.grammar.specs.Answer.{LIMIT, drafts}
-use Rattle.grammar.specs.Text.{rowFirstAt}
-use Rattle.grammar.specs.Demand3.{Sound}
-use Rattle.grammar.proofs.Demand3.{numbers-exactly}
-use Rattle.stages.specs.Sound.{SoundRows}
+use Rattle.answers.specs.Rows.{Draft, rulesIn}
+use Rattle.answers.specs.Stages.{cell, is, repeatedForms, repeatedQuestions, repeatedNames, rulesOverLimit, unfound, badChoices, ownNumbers, finished}
+use Rattle.answers.specs.Answer.{LIMIT, drafts}
+use Rattle.answers.specs.Text.{rowFirstAt}
+use Rattle.answers.specs.Demand3.{Sound}
+use Rattle.answers.proofs.Demand3.{numbers-exactly}
+use Rattle.drafts.specs.Sound.{SoundRows}
 use Rattle.sound.proofs.Lists.{All}
 use Rattle.sound.proofs.DraftsSound.{drafts-sound}
-use Rattle.grammar.proofs.FoundRows.{map-map}
-use Rattle.grammar.proofs.RowPlaces.{rows-by-place}
+use Rattle.answers.proofs.FoundRows.{map-map}
+use Rattle.answers.proofs.RowPlaces.{rows-by-place}
 use Rattle.again.specs.Matches.{Pairs, Settled, final, Match}
 use Rattle.again.specs.RuleNumbers.{ruleNumbers, From}
 use Rattle.again.proofs.Lists.{all-with, sound-each, pairs-second, alike-pairs}

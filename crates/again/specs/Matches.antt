@@ -6,12 +6,12 @@ use mathlib.Core.Bool.{true, false, cond, _||_}
 use Prim.Native.Nat.{ℕ, _<_}
 use lib.Dec.{ltb}
 use lib.ListN.{length, set, take, drop}
-use Rattle.lex.specs.Tokens as lex
+use Rattle.lexemes.specs.Words as lex
 use Rattle.rows.specs.Codes as code
 use Rattle.rows.specs.Columns as column
 use Rattle.grammar.specs.Source.{numberAt}
-use Rattle.grammar.specs.Rows.{Draft, columns}
-use Rattle.grammar.specs.Stages.{cell, is, asks, placeOf}
+use Rattle.answers.specs.Rows.{Draft, columns}
+use Rattle.answers.specs.Stages.{cell, is, asks, placeOf}
 use Rattle.printing.specs.Spelling.{nameWord}
 
 -- two lists, pair by pair

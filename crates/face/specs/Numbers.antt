@@ -3,8 +3,8 @@
 use Prim.Native.Nat.{ℕ}
 use mathlib.Core.List.{List}
 use lib.ListN.{set}
-use Rattle.grammar.specs.Answer.{Answer}
-use Rattle.grammar.specs.Resolution.{Resolution}
+use Rattle.answers.specs.Answer.{Answer}
+use Rattle.answers.specs.Resolution.{Resolution}
 
 -- number, place, row count and free count in the first four places, as far as there is room
 abbrev pub answerIn : List ℕ → Answer → List ℕ

@@ -3,9 +3,9 @@
 use read::Answer;
 ghost use mathlib.Core.Path.{_≡_};
 ghost use lib.ListN.{length, set};
-ghost use Rattle.grammar.specs.Answer.{quickCheck, readAnswer, readTable};
+ghost use Rattle.answers.specs.Answer.{quickCheck, readAnswer, readTable};
 ghost use Rattle.read.specs.Answers.{told};
-ghost use Rattle.grammar.specs.Resolution.{resolution, resolvedTable, resolvedOutput};
+ghost use Rattle.answers.specs.Resolution.{resolution, resolvedTable, resolvedOutput};
 ghost use Rattle.text.specs.Answers as text;
 ghost use Rattle.face.specs.Numbers.{answerIn, resolutionIn};
 

@@ -7,8 +7,8 @@ use mathlib.Core.Path.{_≡_, refl, ap, sym, _∙_}
 use mathlib.Core.Logic.{_≢_}
 use native.Mathlib.Omega.{arith}
 use mathlib.Core.List.{List}
-use Rattle.lex.specs.declared.Value.{Value}
-use Rattle.lex.specs.Numbers.{valueAt}
+use Rattle.values.specs.declared.Value.{Value}
+use Rattle.values.specs.Numbers.{valueAt}
 use Rattle.grammar.specs.Source.{held, numberAt}
 use Rattle.fields.specs.Phrases.{markedValue, setIf}
 

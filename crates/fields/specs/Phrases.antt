@@ -5,10 +5,10 @@ use mathlib.Core.Bool.{true, false, cond}
 use mathlib.Core.List.{List, [], _∷_}
 use lib.Dec.{eqb}
 use lib.ListN.{getD}
-use Rattle.lex.specs.Classes as class
+use Rattle.lexemes.specs.Classes as class
 use Rattle.rows.specs.Codes as code
 use Rattle.rows.specs.Flags as flag
-use Rattle.grammar.specs.Rows.{Draft, plain, columns, operand}
+use Rattle.answers.specs.Rows.{Draft, plain, columns, operand}
 
 -- the entries by their number, from 0 on; one that there is not is 0
 abbrev pub kept : List ℕ → ℕ → ℕ

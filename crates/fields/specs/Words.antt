@@ -4,10 +4,10 @@ use Prim.Native.Nat.{ℕ}
 use mathlib.Core.Bool.{true, false}
 use mathlib.Core.List.{List, [], _∷_, _++_, map}
 use lib.Dec.{eqb}
-use Rattle.lex.specs.Classes as class
+use Rattle.lexemes.specs.Classes as class
 use Rattle.rows.specs.Codes as code
-use Rattle.grammar.specs.Expression.{operators, operatorClass, operatorCode, Constant, true′, false′, zero′, one′, ones′, undefined′, constantClass, constantCode}
-use Rattle.grammar.specs.Rows.{Draft, plain, columns}
+use Rattle.answers.specs.Expression.{operators, operatorClass, operatorCode, Constant, true′, false′, zero′, one′, ones′, undefined′, constantClass, constantCode}
+use Rattle.answers.specs.Rows.{Draft, plain, columns}
 
 -- a class, and what it has
 pub data Pair : Type 0 where

@@ -1,5 +1,5 @@
 // The code of a word's row.
-use lex::classes::*;
+use lexemes::classes::*;
 use rows::codes;
 ghost use mathlib.Core.Path.{_≡_};
 ghost use Rattle.fields.specs.Words.{codeOf};

@@ -2,7 +2,7 @@
 use crate::parts::plain_row;
 use crate::parts::value;
 use crate::parts::with_marks;
-use phrases::KEPT;
+use elements::KEPT;
 use rows::codes;
 use rows::columns::A;
 use rows::columns::B;
@@ -12,7 +12,7 @@ use rows::columns::SECOND;
 ghost use mathlib.Core.Path.{_≡_};
 ghost use Prim.Native.Nat.{_%_};
 ghost use Rattle.grammar.specs.Source.{numberAt};
-ghost use Rattle.grammar.specs.Drafts.{encoded};
+ghost use Rattle.answers.specs.Drafts.{encoded};
 ghost use Rattle.fields.specs.Phrases.{kept, markedValue, highOf, lowOf, formSetDraft};
 
 // The lowest byte of the number at a mark.

@@ -1,5 +1,4 @@
 // What the rows are made of.
-use lex::Value;
 use rows::columns::CODE;
 use rows::columns::FIRST;
 use rows::columns::FLAGS;
@@ -8,10 +7,11 @@ use rows::columns::PLACE;
 use rows::columns::ROW;
 use rows::columns::SECOND;
 use rows::draft::with_mark;
+use values::Value;
 ghost use mathlib.Core.Path.{_≡_};
 ghost use Rattle.grammar.specs.Source.{numberAt};
-ghost use Rattle.grammar.specs.Rows.{columns};
-ghost use Rattle.grammar.specs.Drafts.{encoded};
+ghost use Rattle.answers.specs.Rows.{columns};
+ghost use Rattle.answers.specs.Drafts.{encoded};
 ghost use Rattle.fields.specs.Phrases.{markedValue, setIf};
 
 // The value of the number at a mark, 0 where there is none or it does not fit.
@@ -21,7 +21,7 @@ pub fn value(src: &[u8], mark: u64) -> u64
     if mark == 0 {
         return 0;
     }
-    let v = lex::values::value_at(src, (mark - 1) as usize);
+    let v = values::value_at(src, (mark - 1) as usize);
     match v {
         Value::Fits(n) => n,
         Value::TooLarge => 0,

@@ -3,7 +3,7 @@ use crate::parts::plain_row;
 use crate::parts::set_if;
 use crate::parts::value;
 use crate::parts::with_marks;
-use phrases::KEPT;
+use elements::KEPT;
 use rows::codes;
 use rows::columns::A;
 use rows::columns::B;
@@ -18,8 +18,8 @@ use rows::columns::SECOND;
 use rows::flags::HAS_DEFAULT;
 ghost use mathlib.Core.Path.{_≡_};
 ghost use Rattle.grammar.specs.Source.{numberAt};
-ghost use Rattle.grammar.specs.Rows.{columns};
-ghost use Rattle.grammar.specs.Drafts.{encoded};
+ghost use Rattle.answers.specs.Rows.{columns};
+ghost use Rattle.answers.specs.Drafts.{encoded};
 ghost use Rattle.fields.specs.Phrases.{kept, markedValue, gotoDraft, checkboxDraft, numericDraft, oneOfDraft};
 
 // The row of a question with its HEAD.

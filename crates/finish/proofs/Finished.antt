@@ -19,14 +19,14 @@ use Rattle.rows.specs.Rows.{AreRows, rowsFrom, put, laid}
 use Rattle.rows.proofs.FlatLaws.{are-rows-map}
 use Rattle.rows.proofs.RunLaws.{rows-put, put-twice}
 use Rattle.rows.proofs.LaidLaws.{put-cleared}
-use Rattle.grammar.specs.Rows.{Draft}
-use Rattle.grammar.specs.Stages.{cell, is, asks, writes, any, faultIf, faultsAfter, unfound, ownNumbers, withCell, withNumbers, numberedRows, finds, refers, ownOfFirst, finished}
-use Rattle.grammar.specs.Drafts.{encoded}
-use Rattle.stages.specs.Fits.{AllFit}
-use Rattle.stages.specs.Sound.{Sound, AllSound, no-rows, add-row, SoundRows}
-use Rattle.stages.specs.Names.{findIn, declaresMark, firstRow, Indexes}
-use Rattle.stages.proofs.CodingLaws.{sound-fits, sound-fit, are-encoded}
-use Rattle.stages.proofs.RowTests.{any-same}
+use Rattle.answers.specs.Rows.{Draft}
+use Rattle.answers.specs.Stages.{cell, is, asks, writes, any, faultIf, faultsAfter, unfound, ownNumbers, withCell, withNumbers, numberedRows, finds, refers, ownOfFirst, finished}
+use Rattle.answers.specs.Drafts.{encoded}
+use Rattle.drafts.specs.Fits.{AllFit}
+use Rattle.drafts.specs.Sound.{Sound, AllSound, no-rows, add-row, SoundRows}
+use Rattle.names.specs.Names.{findIn, declaresMark, firstRow, Indexes}
+use Rattle.drafts.proofs.CodingLaws.{sound-fits, sound-fit, are-encoded}
+use Rattle.drafts.proofs.RowTests.{any-same}
 use Rattle.stages.proofs.RepeatFaults.{bears}
 use Rattle.finish.specs.Finish.{ownsIn, withOwns, stripped, resolved}
 use Rattle.finish.proofs.RowLoops.{length-stripped}

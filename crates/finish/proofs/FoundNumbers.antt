@@ -12,12 +12,12 @@ use Rattle.rows.specs.Columns as column
 use Rattle.rows.specs.Table.{rowAt, cellAt}
 use Rattle.rows.specs.Rows.{rowsFrom}
 use Rattle.numbers.proofs.Ranges.{and-yes}
-use Rattle.grammar.specs.Rows.{Draft}
-use Rattle.grammar.specs.Stages.{cell, is, asks, writes, any, declares, finds, refers, ownOfFirst, placeOf}
-use Rattle.grammar.specs.Drafts.{encoded}
-use Rattle.stages.specs.Fits.{Fits, AllFit, none-fit, add-fit}
-use Rattle.stages.specs.Names.{findIn, declaresMark, firstRow}
-use Rattle.stages.proofs.CodingLaws.{cell-encoded, set-decoded, decoded-encoded}
+use Rattle.answers.specs.Rows.{Draft}
+use Rattle.answers.specs.Stages.{cell, is, asks, writes, any, declares, finds, refers, ownOfFirst, placeOf}
+use Rattle.answers.specs.Drafts.{encoded}
+use Rattle.drafts.specs.Fits.{Fits, AllFit, none-fit, add-fit}
+use Rattle.names.specs.Names.{findIn, declaresMark, firstRow}
+use Rattle.drafts.proofs.CodingLaws.{cell-encoded, set-decoded, decoded-encoded}
 use Rattle.stages.proofs.RepeatFaults.{bears}
 use Rattle.finish.specs.Finish.{stripped, numberFound, resolved}
 

@@ -10,14 +10,14 @@ use lib.ListN.{getD, set, drop, length-set}
 use lib.Seq.{getD-set-other, getD-drop, set-getD}
 use Rattle.rows.specs.Codes.{isQuestion}
 use Rattle.rows.specs.Columns as column
-use Rattle.grammar.specs.Rows.{Draft}
-use Rattle.grammar.specs.Stages.{cell, asks, writes, any, ownNumbers, withCell, withNumbers}
-use Rattle.grammar.specs.Drafts.{encoded}
-use Rattle.stages.specs.Fits.{Fits, AllFit, none-fit, add-fit}
-use Rattle.stages.specs.Sound.{Sound, AllSound, no-rows, add-row}
-use Rattle.stages.specs.Names.{declaresMark, firstRow}
+use Rattle.answers.specs.Rows.{Draft}
+use Rattle.answers.specs.Stages.{cell, asks, writes, any, ownNumbers, withCell, withNumbers}
+use Rattle.answers.specs.Drafts.{encoded}
+use Rattle.drafts.specs.Fits.{Fits, AllFit, none-fit, add-fit}
+use Rattle.drafts.specs.Sound.{Sound, AllSound, no-rows, add-row}
+use Rattle.names.specs.Names.{declaresMark, firstRow}
 use Rattle.stages.proofs.RepeatFaults.{bears}
-use Rattle.stages.proofs.CodingLaws.{cell-encoded, set-encoded}
+use Rattle.drafts.proofs.CodingLaws.{cell-encoded, set-encoded}
 use Rattle.finish.specs.Finish.{isQuestionRow, ownsIn, withOwns}
 
 -- ---- the questions' numbers, of the cells and of the drafts

@@ -13,8 +13,8 @@ use Rattle.rows.specs.Table.{rowAt, withRow, withCell, cellAt}
 use Rattle.rows.specs.Rows.{rowsFrom, put}
 use Rattle.rows.proofs.RowLaws.{with-own-row}
 use Rattle.rows.proofs.CellLaws.{cell-beside}
-use Rattle.grammar.specs.Drafts.{decoded}
-use Rattle.stages.specs.Names.{findIn}
+use Rattle.answers.specs.Drafts.{decoded}
+use Rattle.names.specs.Names.{findIn}
 use Rattle.finish.specs.Finish.{isReferenceRow, numberFound, resolved}
 use Rattle.finish.proofs.RowLoops.{Mapping, mapping-start, mapping-next, mapping-end}
 

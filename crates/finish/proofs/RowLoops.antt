@@ -11,7 +11,7 @@ use Rattle.rows.specs.Table.{rowAt, withRow, withCell, cellAt}
 use Rattle.rows.specs.Rows.{rowsFrom, put}
 use Rattle.rows.proofs.RowLaws.{length-row, length-with-row, with-row-changed}
 use Rattle.rows.proofs.RunLaws.{rows-next, rows-end, rows-past}
-use Rattle.grammar.specs.Drafts.{decoded}
+use Rattle.answers.specs.Drafts.{decoded}
 use Rattle.finish.specs.Finish.{halved, stripped}
 
 -- ---- rows written from row i on

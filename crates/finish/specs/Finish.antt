@@ -9,8 +9,8 @@ use Rattle.rows.specs.Codes.{isQuestion}
 use Rattle.rows.specs.Columns as column
 use Rattle.rows.specs.Draft.{lowOf}
 use Rattle.rows.specs.Table.{cellAt}
-use Rattle.grammar.specs.Drafts.{decoded}
-use Rattle.stages.specs.Names.{findIn}
+use Rattle.answers.specs.Drafts.{decoded}
+use Rattle.names.specs.Names.{findIn}
 
 -- a question's row
 abbrev pub isQuestionRow : List ℕ → Bool

@@ -5,6 +5,8 @@ ghost use Rattle.numbers.specs.Numbers.{given, givenMap};
 ghost use Rattle.rows.specs.Table.{rowAt, withRow};
 ghost use Rattle.rows.specs.Rows.{rowsFrom, put};
 ghost use Rattle.finish.specs.Finish.{ownsIn, withOwns, halved, stripped, numberFound, resolved};
+use drafts::own_mark;
+use names::find;
 use rows::cell;
 use rows::codes;
 use rows::codes::is_question;
@@ -16,8 +18,6 @@ use rows::columns::OWN;
 use rows::columns::SECOND;
 use rows::draft::low;
 use rows::set_cell;
-use stages::drafts::own_mark;
-use stages::names::find;
 
 // Gives the questions that write no number, in order, the smallest numbers that are not used, and uses these.
 pub fn number_rows(table: &mut [u64], count: usize, used: &mut [u64; 1024])

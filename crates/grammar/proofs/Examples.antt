@@ -7,10 +7,10 @@ use mathlib.Core.Option.{Option, none, some}
 use mathlib.Core.Bool.{Bool, true, false, _&&_, _||_}
 use Prim.Native.Nat.{ℕ, zero, suc, _+_, _*_}
 use lib.Dec.{eqb}
-use Rattle.lex.specs.Classes.{open-brace, close-brace, open-paren, close-paren, comma, semicolon, «=», «|», «&», «==», «!=», «<», «<=», «>», «>=», «<<», «>>», «+» as plus, «-» as minus, «*» as asterisk, «/» as slash, «%» as percent}
-use Rattle.lex.specs.Classes.{«AND», «DEFAULT», «FALSE», «INTERACTIVE», «NOT», «ONE», «ONES», «OR», «READ_ONLY», «RESET_REQUIRED», «STRING_TOKEN», «TRUE», «UNDEFINED», «ZERO»}
-use Rattle.lex.specs.Classes.{«checkbox», «default», «disableif», «endcheckbox», «endform», «endformset», «endif», «endnumeric», «endoneof», «endrule», «flags», «form», «formid», «formset», «goto», «grayoutif», «guid», «help», «label», «maximum», «minimum», «name», «numeric», «oneof», «option», «prompt», «questionid», «questionref», «rule», «ruleref», «step», «subtitle», «suppressif», «text», «title», «value»}
-use Rattle.lex.specs.Classes.{NAME, HEX, DECIMAL, BAD}
+use Rattle.lexemes.specs.Classes.{open-brace, close-brace, open-paren, close-paren, comma, semicolon, «=», «|», «&», «==», «!=», «<», «<=», «>», «>=», «<<», «>>», «+» as plus, «-» as minus, «*» as asterisk, «/» as slash, «%» as percent}
+use Rattle.lexemes.specs.Classes.{«AND», «DEFAULT», «FALSE», «INTERACTIVE», «NOT», «ONE», «ONES», «OR», «READ_ONLY», «RESET_REQUIRED», «STRING_TOKEN», «TRUE», «UNDEFINED», «ZERO»}
+use Rattle.lexemes.specs.Classes.{«checkbox», «default», «disableif», «endcheckbox», «endform», «endformset», «endif», «endnumeric», «endoneof», «endrule», «flags», «form», «formid», «formset», «goto», «grayoutif», «guid», «help», «label», «maximum», «minimum», «name», «numeric», «oneof», «option», «prompt», «questionid», «questionref», «rule», «ruleref», «step», «subtitle», «suppressif», «text», «title», «value»}
+use Rattle.lexemes.specs.Classes.{NAME, HEX, DECIMAL, BAD}
 use Rattle.ll1.specs.Trees.{Token, token, Trees, nil, leaf, node}
 use Rattle.ll1.specs.Verdict.{Verdict, accepted, ends-early, refused}
 use Rattle.ll1.specs.Machine.{run}

@@ -1,29 +1,15 @@
+-- The verdict on a source's tokens is right and the only right one.
 pub mod Theorems
+-- Small texts of the grammar, and numbers in their places, by computation.
+pub mod Examples
+pub mod RangeExamples
+-- Laws for whoever walks by the grammar: the machine's equations, the levels of expressions, the alternatives, which rules are statements.
 pub mod Equations
 pub mod Levels
-pub mod Examples
-pub mod Computed
-pub mod Specimens
-pub mod WorkedExample
-pub mod Decided
-pub mod Printed
 pub mod Alternatives
 pub mod Statements
+-- The tokens of a source, their places, and that no derivation has a bad one.
 pub mod Totals
 pub mod SourceTokens
-pub mod NoBadLeaf
-pub mod ExpressionSymbols
-pub mod ExpressionWeight
-pub mod RowWeight
-pub mod StatementPlaces
-pub mod RowCount
-pub mod RowShape
-pub mod FoundRows
-pub mod Walks
-pub mod RowPlaces
 pub mod Places
-pub mod Checks
-pub mod Answers
-pub mod QuickCheck
-pub mod QuestionNumbers
-pub mod Demand3
+pub mod NoBadLeaf

@@ -5,7 +5,7 @@ use mathlib.Core.List.{List, [], _∷_, _++_}
 use mathlib.Core.Bool.{Bool, true, false, not, _&&_, _||_, or-assoc}
 use lib.Dec.{eqb}
 use borrow.Author.Tests.{not-true}
-use Rattle.lex.specs.Classes.{BAD}
+use Rattle.lexemes.specs.Classes.{BAD}
 use Rattle.ll1.specs.Trees.{Token, token, Trees, leaves, Symbol, terminal, nonterminal, Fits, fits-nil, fits-leaf, fits-node}
 use Rattle.ll1.proofs.Basics.{both}
 use Rattle.grammar.specs.Grammar.{rules}

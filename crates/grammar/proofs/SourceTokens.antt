@@ -10,9 +10,9 @@ use lib.ListN.{length}
 use borrow.Author.Tests.{eqb-true, eqb-false, ltb-true, ltb-false, ne-eqb}
 use Rattle.lex.specs.declared.Token as lex
 use Rattle.lex.specs.declared.Found.the-variants.{At}
-use Rattle.lex.specs.Classes.{BAD, END}
+use Rattle.lexemes.specs.Classes.{BAD, END}
 use Rattle.lex.specs.Tokens.{tokenAt, tokensFrom, tokens, badAmong, firstBad}
-use Rattle.lex.proofs.Lists.{either}
+use Rattle.lexemes.proofs.Lists.{either}
 use Rattle.lex.proofs.Progress.{start-is, past-end, class-le-end, token-moves, bad-is-empty}
 use Rattle.lex.proofs.TokenList.{tokens-unfold}
 use Rattle.ll1.specs.Trees.{Token, token}

@@ -7,11 +7,10 @@ use Prim.Native.Nat.{ℕ, _+_, _≤_, _<_}
 use native.Mathlib.Omega.{arith}
 use lib.Dec.{eqb}
 use borrow.Author.Tests.{eqb-true, eqb-false, ne-eqb}
-use Rattle.lex.proofs.Lists.{either}
+use Rattle.lexemes.proofs.Lists.{either}
 use Rattle.ll1.specs.Trees.{Trees, nil, leaf, node, Token, token, leaves}
 use Rattle.ll1.proofs.Basics.{same}
-use Rattle.grammar.specs.Rows.{Draft}
-use Rattle.grammar.specs.Places.{placesOf, rowPlaces, total, hit, times}
+use Rattle.grammar.specs.Places.{placesOf, total, hit, times}
 use Rattle.grammar.specs.Places.{Absent, absent-none, absent-more, Distinct, distinct-none, distinct-more, Ascending, ascending-none, ascending-more}
 
 -- ---- weights
@@ -20,10 +19,6 @@ module _ (w : ℕ → ℕ) where
   pub total-append : (ps qs : List ℕ) → total w (ps ++ qs) ≡ total w ps + total w qs
   total-append [] qs = omega arith
   total-append (p ∷ ps) qs = omega (arith, total-append ps qs)
-
-  pub rows-append : (ds es : List Draft) → total w (rowPlaces (ds ++ es)) ≡ total w (rowPlaces ds) + total w (rowPlaces es)
-  rows-append [] es = omega arith
-  rows-append (d ∷ ds) es = omega (arith, rows-append ds es)
 
   -- the weight of the leaves
   abbrev pub load : Trees → ℕ

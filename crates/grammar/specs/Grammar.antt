@@ -2,10 +2,10 @@
 -- `t` stands before the class of a token, `r` before a rule; a rule that may be absent has the empty alternative first.
 -- Assumes nothing.
 use mathlib.Core.List.{List, [], _∷_, map}
-use Rattle.lex.specs.Classes.{open-brace, close-brace, open-paren, close-paren, comma, semicolon, «=», «|», «&», «==», «!=», «<», «<=», «>», «>=», «<<», «>>», «+», «-», «*», «/», «%»}
-use Rattle.lex.specs.Classes.{«AND», «DEFAULT», «FALSE», «INTERACTIVE», «NOT», «ONE», «ONES», «OR», «READ_ONLY», «RESET_REQUIRED», «STRING_TOKEN», «TRUE», «UNDEFINED», «ZERO»}
-use Rattle.lex.specs.Classes.{«checkbox», «default», «disableif», «endcheckbox», «endform», «endformset», «endif», «endnumeric», «endoneof», «endrule», «flags», «form», «formid», «formset», «goto», «grayoutif», «guid», «help», «label», «maximum», «minimum», «name», «numeric», «oneof», «option», «prompt», «questionid», «questionref», «rule», «ruleref», «step», «subtitle», «suppressif», «text», «title», «value»}
-use Rattle.lex.specs.Classes.{NAME, HEX}
+use Rattle.lexemes.specs.Classes.{open-brace, close-brace, open-paren, close-paren, comma, semicolon, «=», «|», «&», «==», «!=», «<», «<=», «>», «>=», «<<», «>>», «+», «-», «*», «/», «%»}
+use Rattle.lexemes.specs.Classes.{«AND», «DEFAULT», «FALSE», «INTERACTIVE», «NOT», «ONE», «ONES», «OR», «READ_ONLY», «RESET_REQUIRED», «STRING_TOKEN», «TRUE», «UNDEFINED», «ZERO»}
+use Rattle.lexemes.specs.Classes.{«checkbox», «default», «disableif», «endcheckbox», «endform», «endformset», «endif», «endnumeric», «endoneof», «endrule», «flags», «form», «formid», «formset», «goto», «grayoutif», «guid», «help», «label», «maximum», «minimum», «name», «numeric», «oneof», «option», «prompt», «questionid», «questionref», «rule», «ruleref», «step», «subtitle», «suppressif», «text», «title», «value»}
+use Rattle.lexemes.specs.Classes.{NAME, HEX}
 use Rattle.ll1.specs.Trees.{Grammar}
 use Rattle.grammar.specs.Rules.{<source>, <form>*, <guid>, <guid-end>, <eight>, <H8>, <H4>, <H2>, <str>, <id>, <small>, <large>, <zero>, <form>, <item-or-rule>*, <rule>, <item>, <goto-flags>?, <flags>?, <truth-default>?, <truth>, <step>?, <number-default>?, <option>*, <item>*, <option>, <option-flags>, <head>, <name>?, <questionid>?, <fl>, <flag>*, <flag>}
 use Rattle.grammar.specs.Rules.{<expression>, <or>, <or>*, <and>, <and>*, <bit-or>, <bit-or>*, <bit-and>, <bit-and>*, <equality>, <equality>*, <order>, <order>*, <shift>, <shift>*, <sum>, <sum>*, <product>, <product>*, <atom>, <name-or-number>}

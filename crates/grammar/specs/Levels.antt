@@ -3,7 +3,7 @@
 use mathlib.Core.List.{List, [], _∷_}
 use Prim.Native.Nat.{ℕ}
 use lib.ListN.{getD}
-use Rattle.lex.specs.Classes.{«OR», «AND», «|», «&», «==», «!=», «<», «<=», «>», «>=», «<<», «>>», «+», «-», «*», «/», «%»}
+use Rattle.lexemes.specs.Classes.{«OR», «AND», «|», «&», «==», «!=», «<», «<=», «>», «>=», «<<», «>>», «+», «-», «*», «/», «%»}
 
 -- "loosest level first: `OR`; `AND`; `|`; `&`; `==` `!=`; `<` `<=` `>` `>=`; `<<` `>>`; `+` `-`; `*` `/` `%`" (document 01, Grammar)
 unfoldable pub levels : List (List ℕ)

@@ -1,20 +1,15 @@
+-- Document 01's grammar as a table, and its notation.
 pub mod Rules
 pub mod Notation
 pub mod Grammar
-pub mod Lookahead
 pub mod Levels
-pub mod Derivation
-pub mod Reading
+-- What a derivation of a source is, and the verdict on its tokens.
 pub mod Source
+pub mod Derivation
+pub mod Lookahead
+pub mod Reading
+-- Parts of a derivation: places, flags, numbers and their ranges.
 pub mod Parts
-pub mod Expression
-pub mod Rows
-pub mod Ranges
-pub mod Stages
-pub mod Drafts
-pub mod Answer
-pub mod Text
-pub mod Resolution
-pub mod Demand3
 pub mod Places
-pub mod Reached
+pub mod Flags
+pub mod Ranges

@@ -3,10 +3,10 @@
 -- Assumes nothing.
 use mathlib.Core.List.{List, [], _∷_}
 use Prim.Native.Nat.{ℕ}
-use Rattle.lex.specs.Classes.{open-brace, close-brace, open-paren, close-paren, comma, semicolon, «|», «&», «==», «!=», «<», «<=», «>», «>=», «<<», «>>», «+», «-», «*», «/», «%»}
-use Rattle.lex.specs.Classes.{«AND», «DEFAULT», «FALSE», «INTERACTIVE», «NOT», «ONE», «ONES», «OR», «READ_ONLY», «RESET_REQUIRED», «STRING_TOKEN», «TRUE», «UNDEFINED», «ZERO»}
-use Rattle.lex.specs.Classes.{«checkbox», «default», «disableif», «endcheckbox», «endform», «endformset», «endif», «endnumeric», «endoneof», «endrule», «flags», «form», «formset», «goto», «grayoutif», «label», «minimum», «name», «numeric», «oneof», «option», «prompt», «questionid», «questionref», «rule», «ruleref», «step», «subtitle», «suppressif», «text»}
-use Rattle.lex.specs.Classes.{NAME, HEX, DECIMAL}
+use Rattle.lexemes.specs.Classes.{open-brace, close-brace, open-paren, close-paren, comma, semicolon, «|», «&», «==», «!=», «<», «<=», «>», «>=», «<<», «>>», «+», «-», «*», «/», «%»}
+use Rattle.lexemes.specs.Classes.{«AND», «DEFAULT», «FALSE», «INTERACTIVE», «NOT», «ONE», «ONES», «OR», «READ_ONLY», «RESET_REQUIRED», «STRING_TOKEN», «TRUE», «UNDEFINED», «ZERO»}
+use Rattle.lexemes.specs.Classes.{«checkbox», «default», «disableif», «endcheckbox», «endform», «endformset», «endif», «endnumeric», «endoneof», «endrule», «flags», «form», «formset», «goto», «grayoutif», «label», «minimum», «name», «numeric», «oneof», «option», «prompt», «questionid», «questionref», «rule», «ruleref», «step», «subtitle», «suppressif», «text»}
+use Rattle.lexemes.specs.Classes.{NAME, HEX, DECIMAL}
 use Rattle.ll1.specs.ParseTable.{ParseTable, entry}
 
 -- ---- sets of classes

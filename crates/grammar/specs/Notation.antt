@@ -2,7 +2,7 @@
 -- Assumes nothing.
 use mathlib.Core.List.{List, [], _∷_, _++_, map}
 use Prim.Native.Nat.{ℕ}
-use Rattle.lex.specs.Classes.{HEX, DECIMAL}
+use Rattle.lexemes.specs.Classes.{HEX, DECIMAL}
 use Rattle.ll1.specs.Trees.{Symbol, terminal, nonterminal, nothing, a-condition, a-group, Alternative}
 
 -- ---- symbols: a token of a class, a tree of a rule

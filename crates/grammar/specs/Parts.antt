@@ -1,6 +1,7 @@
--- Parts of a tree, by place among the trees beside one another, counted from 0.
+-- Parts of a tree, by place among the trees beside one another, counted from 0; and small words for what rows say of them.
 -- Assumes nothing.
 use Prim.Native.Nat.{ℕ, zero, suc}
+use mathlib.Core.Bool.{Bool, true, false}
 use Rattle.ll1.specs.Trees.{token, Trees, nil, leaf, node}
 
 -- the trees under the n-th tree
@@ -26,3 +27,12 @@ placeAt zero (leaf (token k p) f) = p
 placeAt (suc n) (leaf t f) = placeAt n f
 placeAt zero (node A i c f) = 0
 placeAt (suc n) (node A i c f) = placeAt n f
+
+-- a mark is a place plus one; 0 is none
+abbrev pub mark : ℕ → ℕ
+mark p = suc p
+
+-- the value, where the condition holds
+abbrev pub when : Bool → ℕ → ℕ
+when true n = n
+when false n = 0

@@ -1,54 +1,16 @@
--- Places of tokens, rows and expressions, and lists without a repeat (document 01, Rows: a row's place).
+-- Places of tokens, and lists of places without a repeat.
 -- Assumes nothing.
-use mathlib.Core.List.{List, [], _∷_, _++_, map}
+use mathlib.Core.List.{List, [], _∷_}
 use mathlib.Core.Bool.{cond}
 use mathlib.Core.Logic.{_≢_}
 use Prim.Native.Nat.{ℕ, suc, _+_, _≤_}
-use lib.Dec.{eqb, ltb}
-use Rattle.rows.specs.Columns as column
-use Rattle.ll1.specs.Trees.{Token, token, Trees, nil, leaf, node}
-use Rattle.grammar.specs.Rules.{<rule>, <item>, <option>, <form>, <source>}
-use Rattle.grammar.specs.Parts.{child, placeAt}
-use Rattle.grammar.specs.Rows.{Draft}
-use Rattle.grammar.specs.Stages.{cell}
-use Rattle.grammar.specs.Expression.{Expression, number, constant, question-named, question-numbered, rule-named, negation, binary, expression}
-
--- ---- places
+use lib.Dec.{eqb}
+use Rattle.ll1.specs.Trees.{Token, token}
 
 -- of tokens
 abbrev pub placesOf : List Token → List ℕ
 placesOf [] = []
 placesOf (token k p ∷ ts) = p ∷ placesOf ts
-
--- of rows: "the place of the first token; of an operator, the operator itself"
-abbrev pub rowPlaces : List Draft → List ℕ
-rowPlaces ds = map (cell column.PLACE) ds
-
--- of an expression, operands before operator
-abbrev pub expressionPlaces : Expression → List ℕ
-expressionPlaces (number p) = p ∷ []
-expressionPlaces (constant c p) = p ∷ []
-expressionPlaces (question-named p q) = p ∷ []
-expressionPlaces (question-numbered p q) = p ∷ []
-expressionPlaces (rule-named p q) = p ∷ []
-expressionPlaces (negation p e) = expressionPlaces e ++ p ∷ []
-expressionPlaces (binary o p l r) = expressionPlaces l ++ (expressionPlaces r ++ p ∷ [])
-
--- of the own rows of a node of rule A that takes alternative i over the trees c: a statement's first word, and then its expression
-unfoldable pub ownPlaces : ℕ → ℕ → Trees → List ℕ
-ownPlaces A i c =
-    let first = placeAt 0 c in
-    cond (eqb A <item>) (first ∷ cond (ltb 6 i) (expressionPlaces (expression (child 1 c))) [])
-    (cond (eqb A <option>) (first ∷ [])
-    (cond (eqb A <rule>) (first ∷ expressionPlaces (expression (child 3 c)))
-    (cond (eqb A <form>) (first ∷ [])
-    (cond (eqb A <source>) (first ∷ []) []))))
-
--- of the rows of trees
-unfoldable pub treePlaces : Trees → List ℕ
-treePlaces nil = []
-treePlaces (leaf t f) = treePlaces f
-treePlaces (node A i c f) = (ownPlaces A i c ++ treePlaces c) ++ treePlaces f
 
 -- ---- repeats
 

@@ -4,9 +4,9 @@ use Prim.Native.Nat.{ℕ}
 use mathlib.Core.Bool.{Bool, true, false, cond, _&&_}
 use mathlib.Core.List.{List, [], _∷_, _++_}
 use lib.Dec.{eqb, leb}
-use Rattle.lex.specs.declared.Value.{Value}
-use Rattle.lex.specs.declared.Value.the-variants.{Fits, TooLarge}
-use Rattle.lex.specs.Numbers.{valueAt, digitsAt}
+use Rattle.values.specs.declared.Value.{Value}
+use Rattle.values.specs.declared.Value.the-variants.{Fits, TooLarge}
+use Rattle.values.specs.Numbers.{valueAt, digitsAt}
 use Rattle.ll1.specs.Trees.{Trees, nil, leaf, node}
 use Rattle.grammar.specs.Rules.{<id>, <small>, <large>, <zero>, <H8>, <H4>, <H2>}
 use Rattle.grammar.specs.Parts.{placeAt}

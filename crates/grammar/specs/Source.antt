@@ -5,10 +5,10 @@ use mathlib.Core.Bool.{cond}
 use mathlib.Core.List.{List, [], _∷_}
 use lib.Dec.{eqb}
 use Rattle.lex.specs.declared.Token as lex
-use Rattle.lex.specs.Classes.{END}
-use Rattle.lex.specs.declared.Value.{Value}
-use Rattle.lex.specs.declared.Value.the-variants.{Fits, TooLarge}
-use Rattle.lex.specs.Numbers.{valueAt}
+use Rattle.lexemes.specs.Classes.{END}
+use Rattle.values.specs.declared.Value.{Value}
+use Rattle.values.specs.declared.Value.the-variants.{Fits, TooLarge}
+use Rattle.values.specs.Numbers.{valueAt}
 use Rattle.lex.specs.Tokens.{tokens}
 use Rattle.ll1.specs.Trees.{Token, token}
 

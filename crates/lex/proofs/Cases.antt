@@ -11,17 +11,18 @@ use lib.ListN.{length, getD, take, drop, length-drop}
 use lib.Seq.{drop-drop, getD-drop}
 use borrow.Author.Tests.{eq-eqb, ne-eqb, lt-ltb, le-ltb}
 use Rattle.lex.specs.declared.Token.{Token}
-use Rattle.lex.specs.Bytes.{isDigit, isWordByte}
-use Rattle.lex.specs.Classes.{SIGNS, NAME, DECIMAL, BAD, END}
-use Rattle.lex.specs.Lexemes.{signs, reserved}
-use Rattle.lex.specs.Lookup.{LikelyEnd}
-use Rattle.lex.specs.Tokens.{run, all, gap, same, placeOf, empty, word, wordClass, wordToken, signClass, signToken, tokenFrom, tokenAfterGap, tokenAt}
-use Rattle.lex.proofs.Lists.{either-less, and-true, from-end, from-next}
+use Rattle.lexemes.specs.Bytes.{isDigit, isWordByte}
+use Rattle.lexemes.specs.Classes.{SIGNS, NAME, DECIMAL, BAD, END}
+use Rattle.lexemes.specs.Lexemes.{signs, reserved}
+use Rattle.lex.specs.Likely.{LikelyEnd}
+use Rattle.lexemes.specs.Words.{run, all, same, placeOf, word}
+use Rattle.lex.specs.Tokens.{gap, empty, wordClass, wordToken, signClass, signToken, tokenFrom, tokenAfterGap, tokenAt}
+use Rattle.lexemes.proofs.Lists.{either-less, and-true, from-end, from-next}
 use Rattle.lex.proofs.Comments.{gap-le}
-use Rattle.lex.proofs.Missed.{byte-missed}
-use Rattle.lex.proofs.Equality.{place-at, place-le}
-use Rattle.lex.proofs.Steps.{run-all, run-is, digits-run, digit-word}
-use Rattle.lex.proofs.WordParts.{word-length, first-byte}
+use Rattle.lexemes.proofs.Missed.{byte-missed}
+use Rattle.lexemes.proofs.Equality.{place-at, place-le}
+use Rattle.lexemes.proofs.Steps.{run-all, run-is, digits-run, digit-word}
+use Rattle.lexemes.proofs.WordParts.{word-length, first-byte}
 
 -- every byte of these texts belongs to a word
 abbrev allWords : List (List ℕ) → Bool

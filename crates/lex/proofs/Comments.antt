@@ -10,10 +10,11 @@ use lib.Dec.{eqb}
 use lib.ListN.{length, getD, drop}
 use lib.Seq.{drop-drop, getD-drop}
 use borrow.Author.Tests.{eqb-true}
-use Rattle.lex.specs.Bytes.{isBlank}
-use Rattle.lex.specs.Tokens.{run, isGap, inComment, gap, opensComment}
-use Rattle.lex.proofs.Lists.{either, and-true, inside, from-end, from-next}
-use Rattle.lex.proofs.Steps.{run-yes}
+use Rattle.lexemes.specs.Bytes.{isBlank}
+use Rattle.lexemes.specs.Words.{run}
+use Rattle.lex.specs.Tokens.{isGap, inComment, gap, opensComment}
+use Rattle.lexemes.proofs.Lists.{either, and-true, inside, from-end, from-next}
+use Rattle.lexemes.proofs.Steps.{run-yes}
 
 -- a byte that does not end a comment
 abbrev pub inLine : ℕ → Bool

@@ -8,15 +8,17 @@ use native.Mathlib.Omega.{arith}
 use lib.ListN.{length, getD, take, drop, List·getD-append}
 use lib.Seq.{drop-drop, getD-append-add}
 use Rattle.lex.specs.declared.Token.{Token}
-use Rattle.lex.specs.Bytes.{isDigit}
-use Rattle.lex.specs.Classes.{SIGNS, NAME, HEX, BAD}
-use Rattle.lex.specs.Lexemes.{signs, reserved, lexemes}
-use Rattle.lex.specs.Tokens.{all, gap, isHex, placeOf, word, wordClass, tokenAt}
-use Rattle.lex.specs.Numbers.{numeral, fitted, valueAt, digitsAt}
-use Rattle.lex.proofs.Lists.{either, either-less}
+use Rattle.lexemes.specs.Bytes.{isDigit}
+use Rattle.lexemes.specs.Classes.{SIGNS, NAME, HEX, BAD}
+use Rattle.lexemes.specs.Lexemes.{signs, reserved, lexemes}
+use Rattle.lexemes.specs.Words.{all, placeOf, word}
+use Rattle.lex.specs.Tokens.{gap, wordClass, tokenAt}
+use Rattle.values.specs.Numbers.{isHex}
+use Rattle.values.specs.Numbers.{numeral, fitted, valueAt, digitsAt}
+use Rattle.lexemes.proofs.Lists.{either, either-less}
 use Rattle.lex.proofs.Comments.{gap-stops}
-use Rattle.lex.proofs.WordParts.{word-length, word-part}
-use Rattle.lex.proofs.Equality.{place-at, member-place, place-member}
+use Rattle.lexemes.proofs.WordParts.{word-length, word-part}
+use Rattle.lexemes.proofs.Equality.{place-at, member-place, place-member}
 use Rattle.lex.proofs.Cases.{token-end, token-from}
 use Rattle.lex.proofs.Progress.{past-end, start-is, from-start, shape}
 

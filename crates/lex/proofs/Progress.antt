@@ -9,9 +9,9 @@ use lib.ListN.{length, drop, length-drop}
 use lib.Seq.{drop-length}
 use borrow.Author.Tests.{le-ltb}
 use Rattle.lex.specs.declared.Token.{Token}
-use Rattle.lex.specs.Classes.{BAD, END}
+use Rattle.lexemes.specs.Classes.{BAD, END}
 use Rattle.lex.specs.Tokens.{gap, empty, tokenFrom, tokenAfterGap, tokenAt}
-use Rattle.lex.proofs.Lists.{either-less}
+use Rattle.lexemes.proofs.Lists.{either-less}
 use Rattle.lex.proofs.Comments.{gap-le}
 use Rattle.lex.proofs.Cases.{start-le, token-from}
 use Rattle.lex.proofs.Shape.{Shape, from-shape}

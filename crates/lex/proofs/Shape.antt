@@ -9,14 +9,16 @@ use lib.Dec.{eqb, ltb}
 use lib.ListN.{length, getD, take, length-take}
 use borrow.Author.Tests.{eqb-false, ltb-true}
 use Rattle.lex.specs.declared.Token.{Token}
-use Rattle.lex.specs.Bytes.{isDigit, isWordByte}
-use Rattle.lex.specs.Classes.{SIGNS, BAD, END}
-use Rattle.lex.specs.Lexemes.{signs, reserved}
-use Rattle.lex.specs.Tokens.{all, isHex, placeOf, empty, word, wordClass, wordToken, signClass, signToken, tokenFrom}
-use Rattle.lex.proofs.Lists.{either, take-own}
-use Rattle.lex.proofs.Steps.{run-le}
-use Rattle.lex.proofs.WordParts.{word-length, word-some}
-use Rattle.lex.proofs.Equality.{place-at, place-le}
+use Rattle.lexemes.specs.Bytes.{isDigit, isWordByte}
+use Rattle.lexemes.specs.Classes.{SIGNS, BAD, END}
+use Rattle.lexemes.specs.Lexemes.{signs, reserved}
+use Rattle.lexemes.specs.Words.{all, placeOf, word}
+use Rattle.values.specs.Numbers.{isHex}
+use Rattle.lex.specs.Tokens.{empty, wordClass, wordToken, signClass, signToken, tokenFrom}
+use Rattle.lexemes.proofs.Lists.{either, take-own}
+use Rattle.lexemes.proofs.Steps.{run-le}
+use Rattle.lexemes.proofs.WordParts.{word-length, word-some}
+use Rattle.lexemes.proofs.Equality.{place-at, place-le}
 
 -- the token t is read at the place i, where the source goes on with s
 pub record Shape (s : List ℕ) (i : ℕ) (t : Token) : Type 0 where

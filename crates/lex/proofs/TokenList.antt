@@ -13,9 +13,9 @@ use lib.Seq.{drop-drop}
 use borrow.Author.Tests.{eqb-true, eqb-false, eq-eqb, ne-eqb, lt-ltb, le-ltb, ltb-true}
 use Rattle.lex.specs.declared.Found.the-variants.{At, Nothing}
 use Rattle.lex.specs.declared.Token.{Token}
-use Rattle.lex.specs.Classes.{BAD, END}
+use Rattle.lexemes.specs.Classes.{BAD, END}
 use Rattle.lex.specs.Tokens.{gap, tokenFrom, tokenAfterGap, tokenAt, tokensWithin, tokensFrom, tokens, badAmong, firstBad}
-use Rattle.lex.proofs.Lists.{either, either-less, from-end}
+use Rattle.lexemes.proofs.Lists.{either, either-less, from-end}
 use Rattle.lex.proofs.Progress.{token-moves, after-moves}
 
 -- any number of tokens above the number of bytes is enough

@@ -1,6 +1,3 @@
-pub mod Bytes
-pub mod Lexemes
-pub mod Classes
+-- Tokens, and how the code guesses where a word ends.
 pub mod Tokens
-pub mod Numbers
-pub mod Lookup
+pub mod Likely

@@ -1,40 +1,18 @@
 -- The token at a place of a source, and all of a source's tokens (document 01, Tokens).
 -- Assumes nothing.
 use Prim.Native.Nat.{ℕ, zero, suc, _+_, _-_}
-use mathlib.Core.Bool.{Bool, true, false, not, cond, _&&_, _||_}
+use mathlib.Core.Bool.{Bool, false, not, cond, _&&_, _||_}
 use mathlib.Core.List.{List, [], _∷_}
 use lib.Dec.{eqb, ltb}
 use lib.ListN.{length, getD, take, drop}
 use Rattle.lex.specs.declared.Token.{Token}
 use Rattle.lex.specs.declared.Found.{Found}
 use Rattle.lex.specs.declared.Found.the-variants.{At, Nothing}
-use Rattle.lex.specs.Bytes.{isBlank, isDigit, isHexDigit, isWordByte}
-use Rattle.lex.specs.Lexemes.{signs, reserved}
-use Rattle.lex.specs.Classes.{SIGNS, HEX, DECIMAL, BAD, END}
-
--- ---- runs of bytes
-
--- how many bytes at the start of s pass the test p
-unfoldable pub run : (ℕ → Bool) → List ℕ → ℕ
-run p [] = 0
-run p (b ∷ s) = let more = suc (run p s) in cond (p b) more 0
-
--- every byte passes the test p
-unfoldable pub all : (ℕ → Bool) → List ℕ → Bool
-all p [] = true
-all p (b ∷ s) = p b && all p s
-
--- two texts are the same
-unfoldable pub same : List ℕ → List ℕ → Bool
-same [] [] = true
-same [] (b ∷ v) = false
-same (a ∷ w) [] = false
-same (a ∷ w) (b ∷ v) = eqb a b && same w v
-
--- the place of a text in a list of texts, or the list's length where it is not there
-unfoldable pub placeOf : List ℕ → List (List ℕ) → ℕ
-placeOf w [] = 0
-placeOf w (v ∷ vs) = let later = suc (placeOf w vs) in cond (same w v) 0 later
+use Rattle.lexemes.specs.Bytes.{isBlank, isDigit, isWordByte}
+use Rattle.lexemes.specs.Lexemes.{signs, reserved}
+use Rattle.lexemes.specs.Words.{all, placeOf, word}
+use Rattle.values.specs.Numbers.{isHex}
+use Rattle.lexemes.specs.Classes.{SIGNS, HEX, DECIMAL, BAD, END}
 
 -- ---- blanks and comments
 
@@ -58,14 +36,6 @@ gap comment (b ∷ s) =
     cond (isGap comment b (getD s 0 0)) more 0
 
 -- ---- words and numbers
-
--- all the letters, digits and `_` from the start of s on
-abbrev pub word : List ℕ → List ℕ
-word s = take (run isWordByte s) s
-
--- `0x` and one or more hex digits
-unfoldable pub isHex : List ℕ → Bool
-isHex w = ltb 2 (length w) && eqb (getD w 0 0) 48 && eqb (getD w 1 0) 120 && all isHexDigit (drop 2 w)
 
 -- a word that starts with a digit is a number: decimal digits only, or hex; else it is bad. Any other is reserved, or NAME
 unfoldable pub wordClass : List ℕ → ℕ
@@ -137,7 +107,3 @@ badAmong (t ∷ ts) = let later = badAmong ts in cond (eqb (t .class) BAD) (At (
 
 unfoldable pub firstBad : List ℕ → Found
 firstBad s = badAmong (tokens s)
-
--- the words that start at two places of a source are the same
-unfoldable pub sameWord : List ℕ → ℕ → ℕ → Bool
-sameWord s p q = same (word (drop p s)) (word (drop q s))

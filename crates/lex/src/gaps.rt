@@ -4,8 +4,9 @@ ghost use mathlib.Core.Bool.{not};
 ghost use Prim.Native.Nat.{_+_};
 ghost use lib.Dec.{eqb};
 ghost use lib.ListN.{getD, drop};
-ghost use Rattle.lex.specs.Tokens.{run, opensComment};
-use crate::bytes;
+ghost use Rattle.lexemes.specs.Words.{run};
+ghost use Rattle.lex.specs.Tokens.{opensComment};
+use lexemes::bytes::byte_at;
 
 // The first LF from `at` on, or the end.
 pub fn line_end(src: &[u8], at: usize) -> usize
@@ -28,7 +29,7 @@ pub fn starts_comment(src: &[u8], at: usize) -> bool
 {
     if at < src.len() {
         if src[at] == b'/' {
-            bytes::byte_at(src, at + 1) == b'/'
+            byte_at(src, at + 1) == b'/'
         } else {
             false
         }

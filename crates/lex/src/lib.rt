@@ -1,37 +1,33 @@
 // Tokens of a source: a slice and a place in, a token by value out (document 01, Tokens).
-mod bytes;
-pub mod classes;
 mod gaps;
-mod reserved;
 mod signs;
-pub mod values;
 mod words;
 
 ghost use mathlib.Core.Path.{_≡_};
 ghost use mathlib.Core.Bool.{true, false};
 ghost use Prim.Native.Nat.{_<_};
 ghost use lib.ListN.{length, getD, drop};
-ghost use Rattle.lex.specs.Bytes.{isDigit, isWordByte};
-ghost use Rattle.lex.specs.Tokens.{word, wordToken, signToken, tokenFrom, tokenAt, firstBad, sameWord};
-use crate::classes::BAD;
-use crate::classes::DECIMAL;
-use crate::classes::END;
-use crate::classes::NAME;
-use crate::classes::SEMICOLON;
-use crate::classes::SIGNS;
+ghost use Rattle.lexemes.specs.Bytes.{isDigit, isWordByte};
+ghost use Rattle.lexemes.specs.Words.{word};
+ghost use Rattle.lex.specs.Tokens.{wordToken, signToken, tokenFrom, tokenAt, firstBad};
+use lexemes::bytes::byte_at;
+use lexemes::bytes::in_word;
+use lexemes::bytes::is_blank;
+use lexemes::bytes::is_digit;
+use lexemes::classes::BAD;
+use lexemes::classes::DECIMAL;
+use lexemes::classes::END;
+use lexemes::classes::NAME;
+use lexemes::classes::SEMICOLON;
+use lexemes::classes::SIGNS;
+use lexemes::reserved::class_of;
+use lexemes::words::word_end;
 
-// A class of `classes`; start and end, both the first byte of a bad token, and the source's length at the end.
+// A class of `lexemes::classes`; start and end, both the first byte of a bad token, and the source's length at the end.
 pub struct Token {
     pub class: u8,
     pub start: usize,
     pub end: usize,
-}
-
-// The value of a number token.
-pub enum Value {
-    Fits(u64),
-    // 2^64 or more.
-    TooLarge,
 }
 
 // What a search finds.
@@ -59,7 +55,7 @@ fn word_token(src: &[u8], at: usize) -> Token
     let mut end = words::likely_end(src, at);
     let mut sure = false;
     loop {
-        let class = reserved::class_of(&src[at..end]);
+        let class = class_of(&src[at..end]);
         if class < NAME {
             return Token {
                 class,
@@ -74,7 +70,7 @@ fn word_token(src: &[u8], at: usize) -> Token
                 end,
             };
         }
-        end = words::word_end(src, at + 1);
+        end = word_end(src, at + 1);
         sure = true;
     }
 }
@@ -84,7 +80,7 @@ fn any_number(src: &[u8], at: usize) -> Token
     requires { ⌜ (at < length (now src)) × (isDigit (getD (now src) at 0) ≡ true) ⌝ }
     ensures { λ r. ⌜ r ≡ wordToken (word (drop at (now (src .entry)))) at ⌝ }
 {
-    let end = words::word_end(src, at);
+    let end = word_end(src, at);
     let class = words::number_class(&src[at..end]);
     if class == BAD {
         return empty(BAD, at);
@@ -104,10 +100,10 @@ fn number_token(src: &[u8], at: usize) -> Token
     let mut i = at + 1;
     while i < src.len() {
         let b = src[i];
-        if bytes::is_digit(b) {
+        if is_digit(b) {
             i += 1;
         } else {
-            if bytes::in_word(b) {
+            if in_word(b) {
                 return any_number(src, at);
             }
             return Token {
@@ -138,7 +134,7 @@ fn sign_token(src: &[u8], at: usize) -> Token
             end: at + 1,
         };
     }
-    let two = signs::two_bytes(b, bytes::byte_at(src, at + 1));
+    let two = signs::two_bytes(b, byte_at(src, at + 1));
     if two < SIGNS {
         return Token {
             class: two,
@@ -162,8 +158,8 @@ fn token_from(src: &[u8], at: usize) -> Token
     ensures { λ r. ⌜ r ≡ tokenFrom (drop at (now (src .entry))) at ⌝ }
 {
     let b = src[at];
-    if bytes::in_word(b) {
-        if bytes::is_digit(b) {
+    if in_word(b) {
+        if is_digit(b) {
             return number_token(src, at);
         }
         return word_token(src, at);
@@ -177,7 +173,7 @@ pub fn token_at(src: &[u8], at: usize) -> Token
 {
     let mut i = at;
     while i < src.len() {
-        if bytes::is_blank(src[i]) {
+        if is_blank(src[i]) {
             i += 1;
         } else {
             if gaps::starts_comment(src, i) {
@@ -205,34 +201,4 @@ pub fn first_bad(src: &[u8]) -> Found
         }
         at = token.end;
     }
-}
-
-// The byte at an index if it is a letter, a digit or `_`, and else 0.
-pub fn word_byte(src: &[u8], i: usize) -> u8
-    ensures { λ r. ⌜ r ≡ getD (word (drop i (now (src .entry)))) 0 0 ⌝ }
-{
-    let b = bytes::byte_at(src, i);
-    if bytes::is_word_byte(b) { b } else { 0 }
-}
-
-// The words that start at two places are the same.
-pub fn same_word(src: &[u8], p: usize, q: usize) -> bool
-    ensures { λ r. ⌜ r ≡ sameWord (now (src .entry)) p q ⌝ }
-{
-    let mut i = p;
-    let mut j = q;
-    while i < src.len() {
-        let b = src[i];
-        if b != bytes::byte_at(src, j) {
-            // The same only where both end.
-            return word_byte(src, i) == word_byte(src, j);
-        }
-        if bytes::is_word_byte(b) {
-            i += 1;
-            j += 1;
-        } else {
-            return true;
-        }
-    }
-    word_byte(src, j) == 0
 }

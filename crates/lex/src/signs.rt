@@ -1,9 +1,9 @@
 // Signs of one and of two bytes.
 ghost use mathlib.Core.Path.{_≡_};
 ghost use mathlib.Core.List.{[], _∷_};
-ghost use Rattle.lex.specs.Lexemes.{signs};
-ghost use Rattle.lex.specs.Tokens.{placeOf};
-use crate::classes::*;
+ghost use Rattle.lexemes.specs.Lexemes.{signs};
+ghost use Rattle.lexemes.specs.Words.{placeOf};
+use lexemes::classes::*;
 
 // The class of the sign of one byte, or SIGNS.
 pub fn one_byte(b: u8) -> u8

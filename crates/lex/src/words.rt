@@ -1,30 +1,17 @@
-// Words and numbers: where one ends, and its class.
+// Words and numbers: a guess where a word ends, and the class of a number.
 ghost use mathlib.Core.Path.{_≡_};
 ghost use mathlib.Core.Bool.{true};
-ghost use Prim.Native.Nat.{_+_, _≤_, _<_};
-ghost use lib.ListN.{length, getD, drop};
-ghost use Rattle.lex.specs.Bytes.{isDigit, isHexDigit, isWordByte};
-ghost use Rattle.lex.specs.Lookup.{LikelyEnd};
-ghost use Rattle.lex.specs.Tokens.{run, all, isHex, wordClass};
-use crate::bytes;
-use crate::classes::BAD;
-use crate::classes::DECIMAL;
-use crate::classes::HEX;
-
-// Past the letters, digits and `_` from `at` on.
-pub fn word_end(src: &[u8], at: usize) -> usize
-    ensures { λ r. ⌜ r ≡ at + run isWordByte (drop at (now (src .entry))) ⌝ }
-{
-    let mut i = at;
-    while i < src.len() {
-        if bytes::is_word_byte(src[i]) {
-            i += 1;
-        } else {
-            return i;
-        }
-    }
-    i
-}
+ghost use Prim.Native.Nat.{_≤_, _<_};
+ghost use lib.ListN.{length, getD};
+ghost use Rattle.lexemes.specs.Bytes.{isDigit};
+ghost use Rattle.lex.specs.Likely.{LikelyEnd};
+ghost use Rattle.lex.specs.Tokens.{wordClass};
+use lexemes::bytes::in_word;
+use lexemes::classes::BAD;
+use lexemes::classes::DECIMAL;
+use lexemes::classes::HEX;
+use values::numerals::all_digits;
+use values::numerals::is_hex;
 
 // The length of the most frequent reserved word that starts with a letter.
 fn likely_length(b: u8) -> usize
@@ -67,57 +54,13 @@ pub fn likely_end(src: &[u8], at: usize) -> usize
 {
     let size = likely_length(src[at]);
     if size < src.len() - at {
-        return if bytes::in_word(src[at + size]) {
+        return if in_word(src[at + size]) {
             src.len()
         } else {
             at + size
         };
     }
     src.len()
-}
-
-fn all_digits(w: &[u8]) -> bool
-    ensures { λ r. ⌜ r ≡ all isDigit (now (w .entry)) ⌝ }
-{
-    let mut i = 0;
-    while i < w.len() {
-        if bytes::is_digit(w[i]) {
-            i += 1;
-        } else {
-            return false;
-        }
-    }
-    true
-}
-
-fn all_hex_digits(w: &[u8]) -> bool
-    ensures { λ r. ⌜ r ≡ all isHexDigit (now (w .entry)) ⌝ }
-{
-    let mut i = 0;
-    while i < w.len() {
-        if bytes::is_hex_digit(w[i]) {
-            i += 1;
-        } else {
-            return false;
-        }
-    }
-    true
-}
-
-// `0x` and one or more hex digits.
-fn is_hex(w: &[u8]) -> bool
-    ensures { λ r. ⌜ r ≡ isHex (now (w .entry)) ⌝ }
-{
-    if w.len() <= 2 {
-        return false;
-    }
-    if w[0] != b'0' {
-        return false;
-    }
-    if w[1] != b'x' {
-        return false;
-    }
-    all_hex_digits(&w[2..])
 }
 
 // The class of a run of letters, digits and `_` that starts with a digit.

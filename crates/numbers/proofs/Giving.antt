@@ -1,15 +1,14 @@
 -- Giving numbers to own numbers that are 0, one after the other: the laws by which code numbers a list, wherever the list is kept.
-use mathlib.Core.Path.{_≡_, refl, sym, _∙_}
-use mathlib.Core.List.{List, [], _∷_, _++_, append-assoc, append-nil}
+use mathlib.Core.Path.{_≡_, refl}
+use mathlib.Core.List.{List, [], _∷_, _++_}
 use Prim.Native.Nat.{ℕ, zero, suc, _+_, _≤_, _<_}
-use native.Mathlib.Numerals.{add-one}
 use native.Mathlib.Omega.{arith}
-use lib.ListN.{length, getD, set, take, drop, length-set, drop-of-length-le, take-append-drop}
-use lib.Seq.{take-suc, drop-cons, take-suc-set, drop-set-lt, take-all, take-nil}
-use Rattle.numbers.specs.Numbers.{limit, used, marked, markedAll, freeFrom, firstFree, borne, freeNumbers, fill, unwritten, numbered, freeCount, usedCount, emptyMap, Holds, given, givenMap}
+use lib.ListN.{take}
+use lib.Seq.{take-nil}
+use Rattle.numbers.specs.Numbers.{limit, used, marked, markedAll, freeFrom, firstFree, borne, freeNumbers, fill, unwritten, numbered, Holds, given, givenMap}
 use Rattle.numbers.proofs.FreeNumbers.{free-same}
 use Rattle.numbers.proofs.Lists.{mem-append, suc-written, fill-end, fill-none, fill-kept, fill-given, fill-mem, unwritten-kept, unwritten-given}
-use Rattle.numbers.proofs.Maps.{holds-empty, holds-all, holds-same, free-count}
+use Rattle.numbers.proofs.Maps.{holds-all, holds-same}
 use Rattle.numbers.proofs.Search.{next-found, next-none}
 
 -- ---- the first element: what is left to do after it
@@ -73,71 +72,3 @@ module _ {ws l : List ℕ} (v : Holds ws l) where
       bears zero = refl
       bears (suc k) =
           rw (mem-append (suc k) l (take (unwritten l) (freeNumbers l)), fill-mem (suc k) (freeNumbers l) l (λ z. absurd (omega arith)), suc-written k l)
-
--- ---- the loop of `give`: the first i own numbers are done, and doing the others comes to the same numbers and map
-
-pub record Giving (ws₀ own₀ ws own : List ℕ) (at i : ℕ) : Type 0 where
-  pub long : length own ≡ length own₀
-  pub inside : i ≤ length own
-  pub numbers : given ws₀ 1 own₀ ≡ take i own ++ given ws at (drop i own)
-  pub map : givenMap ws₀ 1 own₀ ≡ givenMap ws at (drop i own)
-
-pub giving-start : (ws own : List ℕ) → Giving ws own ws own 1 0
-giving-start ws own = record { long = refl; inside = omega arith; numbers = refl; map = refl }
-
-module _ {ws₀ own₀ ws own : List ℕ} {at i : ℕ} (v : Giving ws₀ own₀ ws own at i) where
-  module _ (h : i < length own) where
-    rest : List ℕ
-    rest = drop (suc i) own
-
-    pub giving-kept : (getD own i 0 ≡ 0 → ⊥) → Giving ws₀ own₀ ws own at (i + 1)
-    unfolding rest
-    giving-kept z =
-        record {
-          long = v .long;
-          inside = omega arith;
-          numbers = v .numbers
-              ∙ rw (add-one i, take-suc own i 0 h, drop-cons own i 0 h, given-kept ws at rest z)
-              (sym (append-assoc (take i own) (getD own i 0 ∷ []) (given ws at rest)));
-          map = v .map ∙ rw (add-one i, drop-cons own i 0 h) (map-kept ws at rest z);
-        }
-
-    pub giving-next : {n : ℕ} {ws′ : List ℕ} → getD own i 0 ≡ 0 → n ≡ firstFree ws at → n < limit → ws′ ≡ marked ws n
-        → Giving ws₀ own₀ ws′ (set own i n) (n + 1) (i + 1)
-    unfolding rest
-    giving-next {n} {ws′} z e l m =
-        rw m
-        record {
-          long = length-set own i n ∙ v .long;
-          inside = rw (length-set own i n) (omega arith);
-          numbers = v .numbers
-              ∙ rw (add-one i, take-suc-set own i n h, drop-set-lt (suc i) own i n (omega arith), drop-cons own i 0 h, given-next ws at rest z e l)
-              (sym (append-assoc (take i own) (n ∷ []) (given (marked ws n) (n + 1) rest)));
-          map = v .map ∙ rw (add-one i, drop-set-lt (suc i) own i n (omega arith), drop-cons own i 0 h) (map-next ws at rest z e l);
-        }
-
-  -- at the end, and where no number is left
-  pub giving-end : length own ≤ i → (own ≡ given ws₀ 1 own₀) × (ws ≡ givenMap ws₀ 1 own₀)
-  giving-end h = (
-    sym (v .numbers ∙ rw (take-all i own h, drop-of-length-le own h, given-end ws at) (append-nil own)),
-    sym (v .map ∙ rw (drop-of-length-le own h) (map-end ws at)),
-  )
-
-  pub giving-none : {n : ℕ} → n ≡ firstFree ws at → limit ≤ n → (own ≡ given ws₀ 1 own₀) × (ws ≡ givenMap ws₀ 1 own₀)
-  giving-none e h = (
-    sym (v .numbers ∙ rw (given-none ws at (drop i own) e h) (take-append-drop i own)),
-    sym (v .map ∙ map-none ws at (drop i own) e h),
-  )
-
--- ---- all steps: from an empty map, all own numbers are marked, and then those that are 0 get theirs
-
-pub record Assigned (own ws₁ ws : List ℕ) : Type 0 where
-  pub numbers : given ws₁ 1 own ≡ numbered own
-  pub holds : Holds ws (numbered own)
-  pub count : usedCount ws + freeCount (numbered own) ≡ 65535
-
-pub assigned : {own ws₀ ws₁ ws : List ℕ} → ws₀ ≡ emptyMap → ws₁ ≡ markedAll ws₀ own → ws ≡ givenMap ws₁ 1 own → Assigned own ws₁ ws
-assigned {own} {ws₀} {ws₁} {ws} e a m =
-    let start : Holds ws₁ own = rw (a, e) (holds-all own holds-empty) in
-    let end : Holds ws (numbered own) = rw m (map-numbered start) in
-    record { numbers = given-numbered start; holds = end; count = free-count end }

@@ -4,15 +4,14 @@ use mathlib.Core.Bool.{Bool, true, false, _&&_, _||_, or-true, or-false, and-fal
 use mathlib.Core.List.{List, [], _∷_, _++_, append-nil, append-assoc}
 use Prim.Native.Nat.{ℕ, zero, suc, _+_, _*_, _/_, _%_, _^_, _≤_, _<_, zero-le, max}
 use native.Mathlib.Nat.{div-eq-of-lt, zero-lt-suc, max-zero}
-use native.Mathlib.Numerals.{add-one}
 use native.Mathlib.Omega.{arith}
 use borrow.Author.Tests.{eq-eqb, eqb-true, eqb-false, ltb-true, ltb-false, le-ltb}
 use lib.Dec.{ltb, eqb}
 use lib.Bits.{bitOr}
 use lib.Count.{ones, ones-step}
 use lib.Pow.{shr-shr}
-use lib.ListN.{length, getD, set, drop, replicate, length-set, length-replicate, drop-of-length-le, List·getD-eq-default}
-use lib.Seq.{drop-cons, getD-set-same, getD-set-other, set-out}
+use lib.ListN.{length, getD, set, replicate, length-set, length-replicate, List·getD-eq-default}
+use lib.Seq.{getD-set-same, getD-set-other, set-out}
 use Rattle.numbers.specs.Numbers.{limit, isNumber, picked, emptyMap, digit, used, marked, markedAll, usedCount, mem, borne, freeCount, Holds}
 use Rattle.numbers.proofs.Digits.{digit-or, digit-le, digit-past, bit-same, bit-other, bit-fits}
 use Rattle.numbers.proofs.Ranges.{one, count-none, count-next, count-add, pick-same}
@@ -121,31 +120,6 @@ module _ (ws : List ℕ) (n : ℕ) where
           rw (p, marked-number ws n c) (stored-same (omega arith) ∙ sym (or-true (used ws n)))
       go true e false c = rw (marked-none ws n c, or-false (used ws k))
       go false e c d = marked-other k (eqb-false k n e) ∙ sym (or-false (used ws k))
-
--- ---- marking a list, from the front
-
-pub all-end : (ws : List ℕ) → markedAll ws [] ≡ ws
-unfolding markedAll
-all-end ws = refl
-
-pub all-next : (ws : List ℕ) {ws′ : List ℕ} (n : ℕ) (l : List ℕ) → ws′ ≡ marked ws n → markedAll ws (n ∷ l) ≡ markedAll ws′ l
-unfolding markedAll
-all-next ws n l e = rw e
-
--- the loop of `mark_all`: marking what is left comes to the same map
-pub record Marking (ws₀ own ws : List ℕ) (i : ℕ) : Type 0 where
-  pub inside : i ≤ length own
-  pub same : markedAll ws₀ own ≡ markedAll ws (drop i own)
-
-pub marking-start : (ws own : List ℕ) → Marking ws own ws 0
-marking-start ws own = record { inside = omega arith; same = refl }
-
-module _ {ws₀ own ws : List ℕ} {i : ℕ} (v : Marking ws₀ own ws i) where
-  pub marking-next : {ws′ : List ℕ} → i < length own → ws′ ≡ marked ws (getD own i 0) → Marking ws₀ own ws′ (i + 1)
-  marking-next h e = record { inside = omega arith; same = v .same ∙ rw (add-one i, drop-cons own i 0 h) (all-next ws (getD own i 0) (drop (suc i) own) e) }
-
-  pub marking-end : length own ≤ i → ws ≡ markedAll ws₀ own
-  marking-end h = sym (v .same ∙ rw (drop-of-length-le own h) (all-end ws))
 
 -- ---- the numbers that the map holds
 

@@ -108,15 +108,6 @@ distinct (q ∷ l) = not (mem q l) && distinct l
 abbrev pub Below : List ℕ → Type 0
 Below l = (k : ℕ) → mem k l ≡ true → k < limit
 
--- how many elements stand before the first question number that stands in seen or earlier in the list
-unfoldable pub repeatAfter : List ℕ → List ℕ → ℕ
-repeatAfter seen [] = 0
-repeatAfter seen (q ∷ l) = let more = suc (repeatAfter (q ∷ seen) l) in cond (borne seen q) 0 more
-
--- the index of the first question number that stands earlier in the list too, the list's length where there is none (document 01, refusals 7 and 8)
-abbrev pub firstRepeat : List ℕ → ℕ
-firstRepeat l = repeatAfter [] l
-
 -- ---- the map beside a list
 
 -- the map holds the question numbers of the list, and no other

@@ -1,7 +1,6 @@
-// The map of used question numbers, and the numbers of questions that write none (document 01, "Rows").
+// The map of used question numbers (document 01, "Rows"). Which question gets which number is in specs/.
 ghost use mathlib.Core.Path.{_≡_};
-ghost use Rattle.numbers.specs.Numbers.{emptyMap, used, marked, markedAll, usedCount, firstFree};
-ghost use Rattle.numbers.specs.Numbers.{numbered, freeCount, firstRepeat, given, givenMap};
+ghost use Rattle.numbers.specs.Numbers.{emptyMap, used, marked, usedCount, firstFree};
 
 // How many words the map has.
 pub const WORDS: usize = 1024;
@@ -80,61 +79,4 @@ pub fn next_free(map: &Map, from: u64) -> u64
         at = at / WORD_BITS * WORD_BITS + WORD_BITS;
     }
     LIMIT
-}
-
-// Marks every number of `own` as used.
-fn mark_all(map: &mut Map, own: &[u64])
-    ensures { λ r. ⌜ now (map .exit) ≡ markedAll (now (map .entry)) (now (own .entry)) ⌝ }
-{
-    for i in 0..own.len() {
-        let written = own[i];
-        mark(map, written);
-    }
-}
-
-// Gives each 0 of `own`, in order, the next number that is not used, and marks it.
-fn give(map: &mut Map, own: &mut [u64])
-    ensures { λ r. ⌜ now (own .exit) ≡ given (now (map .entry)) 1 (now (own .entry)) ⌝ }
-    ensures { λ r. ⌜ now (map .exit) ≡ givenMap (now (map .entry)) 1 (now (own .entry)) ⌝ }
-{
-    let mut at: u64 = 1;
-    for i in 0..own.len() {
-        if own[i] != 0 {
-            continue;
-        }
-        let n = next_free(map, at);
-        if n >= LIMIT {
-            return;
-        }
-        own[i] = n;
-        mark(map, n);
-        at = n + 1;
-    }
-}
-
-// Gives each question that writes no number, a 0 of `own`, in order, the next number that no question writes.
-// Answers how many of 1 to 65,535 no question then bears.
-pub fn assign(own: &mut [u64]) -> u64
-    ensures { λ r. ⌜ now (own .exit) ≡ numbered (now (own .entry)) ⌝ }
-    ensures { λ r. ⌜ r ≡ freeCount (numbered (now (own .entry))) ⌝ }
-{
-    let mut map = empty();
-    mark_all(&mut map, own);
-    give(&mut map, own);
-    LIMIT - 1 - used_count(&map)
-}
-
-// The index of the first question number that stands earlier in `own` too, the length where there is none.
-pub fn first_repeat(own: &[u64]) -> usize
-    ensures { λ r. ⌜ r ≡ firstRepeat (now (own .entry)) ⌝ }
-{
-    let mut map = empty();
-    for i in 0..own.len() {
-        let n = own[i];
-        if has(&map, n) {
-            return i;
-        }
-        mark(&mut map, n);
-    }
-    own.len()
 }

@@ -9,16 +9,16 @@ use native.Mathlib.Omega.{arith}
 use lib.ListN.{length}
 use borrow.Author.Tests.{eq-eqb, ne-eqb}
 use Rattle.lex.specs.declared.Token.{Token}
-use Rattle.lex.specs.Classes.{«|»}
+use Rattle.lexemes.specs.Classes.{«|»}
 use Rattle.lex.specs.Tokens.{tokenAt}
 use Rattle.ll1.specs.ParseTable.{member}
-use Rattle.phrases.specs.declared.flags.Words.{Words}
-use Rattle.phrases.specs.Words.{noWords, withWord, bitsOf}
+use Rattle.elements.specs.declared.flags.Words.{Words}
+use Rattle.elements.specs.Words.{noWords, withWord, bitsOf}
 use Rattle.phrases.specs.Stream.{stream}
-use Rattle.phrases.specs.Elements.{flagWords}
+use Rattle.elements.specs.Kinds.{flagWords}
 use Rattle.phrases.specs.Phrase.{Reader, Kept, withEntry, ready, refusing, flagsFrom, takingFlags}
 use Rattle.phrases.proofs.Streams.{stream-falls}
-use Rattle.phrases.proofs.FlagWords.{flag-below}
+use Rattle.elements.proofs.FlagWords.{flag-below}
 
 -- from the token u on, after the words w, the rest of the list is the rest of the whole
 pub record Going (s : List ℕ) (x : Reader) (u : Token) (w : Words) : Type 0 where

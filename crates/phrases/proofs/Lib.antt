@@ -1,4 +1,4 @@
-pub mod ElementLaws
+-- The laws of the reader. The layers above use Streams, Resume and Keeping.
 pub mod ReadingLaws
 pub mod Streams
 pub mod Resume
@@ -6,11 +6,8 @@ pub mod Keeping
 pub mod Pieces
 pub mod Nodes
 pub mod Taking
-pub mod ElementKinds
-pub mod FlagWords
+pub mod FlagLists
 pub mod FlagLoop
-pub mod Spelling
-pub mod Alternatives
-pub mod Spelled
+pub mod Runs
 pub mod Theorems
 pub mod PhraseLoop

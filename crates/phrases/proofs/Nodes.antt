@@ -2,62 +2,30 @@
 -- Assumes nothing.
 use Prim.Native.Nat.{ℕ, _<_}
 use mathlib.Core.Path.{_≡_, refl, sym, ap, _∙_}
-use mathlib.Core.Bool.{true, false}
 use mathlib.Core.List.{List, [], _∷_, _++_}
-use mathlib.Core.Option.{none, some}
-use mathlib.Core.Logic.{_⊎_, _≢_}
+use mathlib.Core.Option.{some}
+use mathlib.Core.Logic.{_≢_}
 use native.Mathlib.Omega.{arith}
-use Rattle.lex.specs.Classes.{BAD}
+use Rattle.lexemes.specs.Classes.{BAD}
 use Rattle.lex.specs.Tokens.{tokenAt}
-use Rattle.ll1.specs.Trees.{Trees, nil, node, leaves, Symbol, alternativeOf, Fits, fits-nil, fits-leaf, fits-node, Depth}
-use Rattle.ll1.specs.ParseTable.{predict, nullable}
+use Rattle.ll1.specs.Trees.{nil, node, leaves, Symbol, alternativeOf, fits-nil, fits-node, Depth}
+use Rattle.ll1.specs.ParseTable.{predict}
 use Rattle.ll1.specs.Machine.{Due, due, dueAll}
 use Rattle.grammar.specs.Grammar.{rules}
 use Rattle.grammar.specs.Notation.{t, r, plain}
 use Rattle.grammar.specs.Lookahead.{lookahead}
 use Rattle.grammar.specs.Reading.{verdictFrom}
-use Rattle.grammar.specs.Ranges.{free, rangeOf, keeps, outOfRange}
+use Rattle.grammar.specs.Ranges.{outOfRange}
+use Rattle.grammar.proofs.Equations.{verdict-in, verdict-open}
+use Rattle.elements.specs.Entries.{entries}
+use Rattle.elements.proofs.MarkLaws.{marked-none}
+use Rattle.elements.proofs.TreeLaws.{entries-node, out-node}
+use Rattle.elements.proofs.Alternatives.{Plain, Single, Optional}
 use Rattle.phrases.specs.Stream.{stream, resume}
-use Rattle.phrases.specs.Entries.{nodeEntries, entries}
 use Rattle.phrases.specs.Phrase.{Reader, ready, withEntry, withEntries}
 use Rattle.phrases.proofs.Streams.{stream-on}
-use Rattle.phrases.proofs.Keeping.{marked-none}
 use Rattle.phrases.proofs.Resume.{resume-on, resume-like, skipped-here}
-use Rattle.grammar.proofs.Equations.{verdict-in, verdict-open}
 use Rattle.phrases.proofs.Pieces.{Grew, One, Many}
-
--- a tree that is not empty keeps what its rule says
-pub entries-node : (A i : ℕ) {x : Symbol} {β : List Symbol} {c : Trees} (f : Trees) → Fits rules (x ∷ β) c → entries (node A i c f) ≡ nodeEntries A i c (entries c) ++ entries f
-unfolding entries
-entries-node A i f (fits-leaf h) = refl
-entries-node A i f (fits-node e h₁ h₂) = refl
-
--- a rule without a range
-pub out-node : (s : List ℕ) (A i : ℕ) (c f : Trees) → rangeOf A ≡ free → outOfRange s (node A i c f) ≡ outOfRange s c ++ outOfRange s f
-unfolding outOfRange keeps
-out-node s A i c f e = rw (e, keeps)
-
--- a rule that keeps what its parts keep and has no range
-pub record Plain (A : ℕ) : Type 0 where
-  pub keeps-parts : (i : ℕ) (c : Trees) (es : List ℕ) → nodeEntries A i c es ≡ es
-  pub no-range : rangeOf A ≡ free
-
--- rule A has one alternative
-pub record Single (A : ℕ) (α : List Symbol) : Type 0 where
-  pub plainly : Plain A
-  pub full : nullable rules A ≡ false
-  pub only : alternativeOf rules A 0 ≡ some (plain α)
-  pub told : (k : ℕ) → (predict lookahead A k ≡ some 0) ⊎ (predict lookahead A k ≡ none)
-
--- rule A may be absent, and else starts with a token of class k
-pub record Optional (A k : ℕ) (β : List Symbol) : Type 0 where
-  pub plainly : Plain A
-  pub known : k < BAD
-  pub empty : nullable rules A ≡ true
-  pub absent : alternativeOf rules A 0 ≡ some (plain [])
-  pub there : alternativeOf rules A 1 ≡ some (plain (t k ∷ β))
-  pub tells : predict lookahead A k ≡ some 1
-  pub alone : (j : ℕ) → j ≢ k → predict lookahead A j ≡ none
 
 -- without a part that is absent
 abbrev pub without : Reader → Reader

@@ -12,14 +12,14 @@ use lib.ListN.{length, getD, drop, drop-of-length-le}
 use lib.Seq.{drop-cons, drop-drop, getD-drop}
 use borrow.Author.Tests.{eq-eqb, ne-eqb}
 use Rattle.lex.specs.declared.Token.{Token}
-use Rattle.lex.specs.Classes.{«|», NAME}
+use Rattle.lexemes.specs.Classes.{«|», NAME}
 use Rattle.lex.specs.Tokens.{tokenAt}
 use Rattle.ll1.specs.ParseTable.{member}
 use Rattle.phrases.specs.declared.Cursor.{Cursor}
-use Rattle.phrases.specs.declared.flags.Words.{Words}
-use Rattle.phrases.specs.Words.{withWord}
+use Rattle.elements.specs.declared.flags.Words.{Words}
+use Rattle.elements.specs.Words.{withWord}
 use Rattle.phrases.specs.Stream.{Within}
-use Rattle.phrases.specs.Elements.{FLAG-LIST, MAYBE, GROUP, flagWords, startsOf, isKept}
+use Rattle.elements.specs.Kinds.{FLAG-LIST, MAYBE, GROUP, flagWords, startsOf, isKept}
 use Rattle.phrases.specs.Phrase.{Kept, keptAt, withEntry, Reader, reader, ready, onward, skipping, refusing, taking, flagsFrom, takingFlags, fitting, stepOf, phraseFrom}
 use Rattle.phrases.proofs.Streams.{within-at}
 use Rattle.phrases.proofs.ReadingLaws.{reads-group, leaves-group, reads-tokens, takes-word, refuses-word, step-on, left-out, handed-on}

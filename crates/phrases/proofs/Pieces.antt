@@ -13,10 +13,11 @@ use Rattle.grammar.specs.Grammar.{rules}
 use Rattle.grammar.specs.Derivation.{tooDeep}
 use Rattle.grammar.specs.Ranges.{outOfRange}
 use Rattle.phrases.specs.Stream.{stream, resume, Within}
-use Rattle.phrases.specs.Marks.{marked}
-use Rattle.phrases.specs.Entries.{entries}
+use Rattle.elements.specs.Marks.{marked}
+use Rattle.elements.specs.Entries.{entries}
 use Rattle.phrases.specs.Phrase.{Reader, withEntries}
-use Rattle.phrases.proofs.Keeping.{marked-append, marked-none, keep-append}
+use Rattle.elements.proofs.MarkLaws.{marked-append, marked-none}
+use Rattle.phrases.proofs.Keeping.{keep-append}
 use Rattle.phrases.proofs.Resume.{resume-off}
 
 module _ (s : List ℕ) where

@@ -8,11 +8,11 @@ use mathlib.Core.Logic.{_≢_}
 use native.Mathlib.Omega.{arith}
 use lib.ListN.{getD, drop}
 use borrow.Author.Tests.{eq-eqb, ne-eqb}
-use Rattle.lex.specs.Classes.{NAME}
+use Rattle.lexemes.specs.Classes.{NAME}
 use Rattle.ll1.specs.ParseTable.{member}
-use Rattle.phrases.specs.Elements.{FLAG-LIST, MAYBE, GROUP, startsOf}
+use Rattle.elements.specs.Kinds.{FLAG-LIST, MAYBE, GROUP, startsOf}
 use Rattle.phrases.specs.Phrase.{Kept, withEntry, Reader, ready, skipping, passing, refusing, leavingOne, taking, takingFlags, fitting, reading, stepOf, phraseFrom}
-use Rattle.phrases.proofs.ElementLaws.{starts-word, not-kept}
+use Rattle.elements.proofs.KindLaws.{starts-word, not-kept}
 
 module _ (s : List ℕ) (x : Reader) (e next : ℕ) where
   -- an optional group that is there, and one that is not

@@ -10,7 +10,7 @@ use native.Mathlib.Decide.{ℕ-discrete}
 use lib.Dec.{eqb}
 use borrow.Author.Tests.{eq-eqb, ne-eqb}
 use Rattle.lex.specs.declared.Token as lex
-use Rattle.lex.specs.Classes.{END}
+use Rattle.lexemes.specs.Classes.{END}
 use Rattle.ll1.specs.Trees.{Token, token, Depth}
 use Rattle.ll1.specs.Verdict.{Verdict, ends-early, refused}
 use Rattle.ll1.specs.ParseTable.{predict, nullable}

@@ -11,7 +11,7 @@ use lib.Dec.{eqb, ltb, leb}
 use lib.ListN.{length, drop-of-length-le}
 use borrow.Author.Tests.{eq-eqb, ne-eqb, lt-ltb, ltb-true, leb-true, leb-false}
 use Rattle.lex.specs.declared.Token as lex
-use Rattle.lex.specs.Classes.{BAD, END}
+use Rattle.lexemes.specs.Classes.{BAD, END}
 use Rattle.lex.specs.Tokens.{gap, tokenFrom, tokenAfterGap, tokenAt, tokensWithin, tokensFrom, tokens}
 use Rattle.lex.proofs.Progress.{past-end, token-moves}
 use Rattle.lex.proofs.TokenList.{tokens-unfold, tokens-count}

@@ -11,15 +11,17 @@ use Rattle.lex.specs.declared.Token.{Token}
 use Rattle.ll1.specs.Trees.{Symbol}
 use Rattle.ll1.specs.Machine.{dueAll}
 use Rattle.phrases.specs.declared.Cursor.{Cursor}
-use Rattle.phrases.specs.Entries.{entries}
+use Rattle.elements.specs.Entries.{entries}
 use Rattle.phrases.specs.Phrase.{Kept, reader, starting, skipping, phraseFrom}
-use Rattle.phrases.specs.Symbols.{GROUP-CLOSE, phraseSymbols, symbolsOf}
-use Rattle.phrases.specs.Passed.{KEPT, Passed}
+use Rattle.elements.specs.Symbols.{GROUP-CLOSE, phraseSymbols, symbolsOf}
+use Rattle.elements.specs.Entries.{KEPT}
+use Rattle.phrases.specs.Passed.{Passed}
 use Rattle.phrases.proofs.Keeping.{kept-written}
 use Rattle.phrases.proofs.Resume.{resume-off}
 use Rattle.phrases.proofs.Pieces.{Many}
-use Rattle.phrases.proofs.Spelling.{widths, Spells, spells-nil, ran}
-use Rattle.phrases.proofs.Spelled.{spells?, spelled, has-room}
+use Rattle.elements.proofs.Spelling.{widths, Spells, spells-nil}
+use Rattle.phrases.proofs.Runs.{ran}
+use Rattle.elements.proofs.Spelled.{spells?, spelled, has-room}
 
 module _ {s : List ℕ} {α : List Symbol} {t : Token} {bad : ℕ} {l : List ℕ} {c : Cursor} {l′ : List ℕ} where
   passed : {w : ℕ} → w ≤ KEPT → Many s α w (starting t bad l) (reader c l′) → Passed s α 0 t bad l c l′

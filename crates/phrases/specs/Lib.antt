@@ -1,8 +1,4 @@
+-- The definitions that the contracts of `phrases` cite.
 pub mod Stream
-pub mod Marks
-pub mod Entries
-pub mod Elements
-pub mod Words
 pub mod Phrase
 pub mod Passed
-pub mod Symbols

@@ -13,12 +13,8 @@ use Rattle.grammar.specs.Derivation.{tooDeep}
 use Rattle.grammar.specs.Ranges.{outOfRange}
 use Rattle.phrases.specs.declared.Cursor.{Cursor}
 use Rattle.phrases.specs.Stream.{stream, resume, Within}
-use Rattle.phrases.specs.Marks.{marked}
-use Rattle.phrases.specs.Entries.{entries}
-
--- how many entries a phrase keeps at most
-abbrev pub KEPT : ℕ
-KEPT = 12
+use Rattle.elements.specs.Marks.{marked}
+use Rattle.elements.specs.Entries.{KEPT, entries}
 
 -- what was kept, with the entries in its first places, as far as there is room
 unfoldable pub written : List ℕ → List ℕ → List ℕ

@@ -6,15 +6,15 @@ use mathlib.Core.List.{List, [], _∷_}
 use lib.Dec.{eqb, ltb}
 use lib.ListN.{length, getD, set}
 use Rattle.lex.specs.declared.Token.{Token}
-use Rattle.lex.specs.Classes.{«|»}
+use Rattle.lexemes.specs.Classes.{«|»}
 use Rattle.lex.specs.Tokens.{tokenAt}
 use Rattle.ll1.specs.ParseTable.{member}
 use Rattle.phrases.specs.declared.Cursor.{Cursor}
-use Rattle.phrases.specs.declared.flags.Words.{Words}
-use Rattle.phrases.specs.Words.{noWords, withWord, bitsOf}
+use Rattle.elements.specs.declared.flags.Words.{Words}
+use Rattle.elements.specs.Words.{noWords, withWord, bitsOf}
 use Rattle.phrases.specs.Stream.{stream}
-use Rattle.phrases.specs.Marks.{marked, outOf}
-use Rattle.phrases.specs.Elements.{FLAG-LIST, MAYBE, GROUP, startsOf, flagWords, isKept, elementRange, elementEntries}
+use Rattle.elements.specs.Marks.{marked, outOf}
+use Rattle.elements.specs.Kinds.{FLAG-LIST, MAYBE, GROUP, startsOf, flagWords, isKept, elementRange, elementEntries}
 
 -- ---- what is kept
 

@@ -6,7 +6,7 @@ use mathlib.Core.List.{List, [], _∷_}
 use lib.Dec.{eqb, ltb}
 use lib.ListN.{length}
 use Rattle.lex.specs.declared.Token as lex
-use Rattle.lex.specs.Classes.{BAD, END}
+use Rattle.lexemes.specs.Classes.{BAD, END}
 use Rattle.lex.specs.Tokens.{tokensFrom}
 use Rattle.ll1.specs.Trees.{Token}
 use Rattle.ll1.specs.Verdict.{Verdict, ends-early, refused}

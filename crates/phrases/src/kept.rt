@@ -1,11 +1,11 @@
 // The entries that a phrase keeps for its row, in a lent slice, as far as there is room.
 ghost use mathlib.Core.Path.{_≡_};
 ghost use Prim.Native.Nat.{_<_, _+_, _^_};
-ghost use Rattle.phrases.specs.Elements.{elementEntry, referenceEntries, elementEntries};
+ghost use Rattle.elements.specs.Kinds.{elementEntry, referenceEntries, elementEntries};
 ghost use Rattle.phrases.specs.Phrase.{keptAt, withEntry, withEntries};
-use crate::elements::*;
+use elements::kinds::*;
 use lex::Token;
-use lex::classes::*;
+use lexemes::classes::*;
 
 // Keeps an entry after the first `count`; how many there are then.
 pub fn keep(kept: &mut [u64], count: usize, entry: u64) -> usize

@@ -1,22 +1,17 @@
-// The grammar's fixed phrases: each is read by its number (document 01, Grammar).
-pub mod elements;
-mod flags;
+// Reading the grammar's fixed phrases: each by its number (document 01, Grammar).
 mod kept;
-pub mod patterns;
-pub mod phrase;
 mod reader;
 
 ghost use mathlib.Core.Path.{_≡_};
 ghost use Prim.Native.Nat.{_≤_};
 ghost use Rattle.phrases.specs.Stream.{Within};
 ghost use Rattle.phrases.specs.Passed.{Passed};
-ghost use Rattle.phrases.specs.Symbols.{FORM-SET-CLOSE, FORM-OPEN, RULE-CLOSE, SUBTITLE, NUMERIC, ONE-OF-OPEN, OPTION, CONDITION-CLOSE, GROUP-CLOSE, symbolsOf};
+ghost use Rattle.elements.specs.Symbols.{FORM-SET-CLOSE, FORM-OPEN, RULE-CLOSE, SUBTITLE, NUMERIC, ONE-OF-OPEN, OPTION, CONDITION-CLOSE, GROUP-CLOSE, symbolsOf};
 use crate::reader::read_phrase;
+use elements::patterns;
+use elements::phrase;
 use lex::Token;
-use lex::classes::BAD;
-
-// How many entries a phrase keeps at most.
-pub const KEPT: usize = 12;
+use lexemes::classes::BAD;
 
 // The refusal of a token that does not fit (document 01, No. 3).
 pub const SYNTAX: u64 = 3;

@@ -4,19 +4,19 @@ ghost use mathlib.Core.Bool.{true};
 ghost use Prim.Native.Nat.{_+_, _<_, _^_};
 ghost use lib.ListN.{getD};
 ghost use Rattle.phrases.specs.Stream.{Within};
-ghost use Rattle.phrases.specs.Marks.{marked, outOf};
-ghost use Rattle.phrases.specs.Elements.{isKept, elementRange};
+ghost use Rattle.elements.specs.Marks.{marked, outOf};
+ghost use Rattle.elements.specs.Kinds.{isKept, elementRange};
 ghost use Rattle.phrases.specs.Phrase.{reader, starting, onward, taking, takingFlags, fitting, phraseFrom};
 use crate::Cursor;
 use crate::SYNTAX;
-use crate::elements::*;
-use crate::flags;
-use crate::flags::Words;
 use crate::kept;
 use crate::kept::keep;
 use crate::standing;
+use elements::flags;
+use elements::flags::Words;
+use elements::kinds::*;
 use lex::Token;
-use lex::classes::*;
+use lexemes::classes::*;
 
 // The mark of the first number out of its range, with the token, which suits the element.
 fn fault(src: &[u8], bad: usize, token: Token, want: u8) -> usize

@@ -1,7 +1,4 @@
-pub mod Outputs
-pub mod DigitLaws
-pub mod SpellingLaws
-pub mod TextLaws
+-- The laws of `print`: a phrase element by element, and the phrases of statements.
 pub mod PhraseLaws
 pub mod Patterns
 pub mod StatementLaws

@@ -10,19 +10,15 @@ use lib.Dec.{eqb}
 use lib.ListN.{length, getD, drop, List·getD-eq-default, drop-of-length-le}
 use lib.Seq.{drop-cons, drop-drop, getD-drop}
 use borrow.Author.Tests.{ne-eqb, lt-ltb, le-ltb}
-use Rattle.lex.specs.Classes.{«|», «READ_ONLY», «INTERACTIVE», «RESET_REQUIRED», «TRUE», «FALSE», NAME}
-use Rattle.lex.specs.Lexemes.{lexemes, signs, reserved}
-use Rattle.phrases.specs.Elements.{MAYBE, GROUP}
-use Rattle.grammar.specs.Text.{Word, lexeme, decimal, flagList, truth, textOf}
+use Rattle.lexemes.specs.Classes.{«|», «READ_ONLY», «INTERACTIVE», «RESET_REQUIRED», «TRUE», «FALSE», NAME}
+use Rattle.lexemes.specs.Lexemes.{lexemes, signs, reserved}
+use Rattle.elements.specs.Kinds.{MAYBE, GROUP}
+use Rattle.answers.specs.Text.{Word, lexeme, decimal, flagList, truth, textOf}
 use Rattle.print.specs.declared.phrase.Progress.{Progress}
-use Rattle.print.specs.Output.{Prints}
+use Rattle.spellings.specs.Output.{Prints}
 use Rattle.print.specs.Phrase.{flagWords, elementWords, shownBy, anyFlag, hasDefault, valueFrom, oneMore, added, skipAfter, passedAfter, phraseFrom, shownIn, elementIn}
 use Rattle.print.specs.Steps.{leftOf, Entered, Stepped}
-use Rattle.print.proofs.Outputs.{prints-none, prints-then, text-append}
-
--- the same words
-pub as-words : {o o′ : List ℕ} {at r : ℕ} {a b : List Word} → a ≡ b → Prints o at a o′ r → Prints o at b o′ r
-as-words e p = rw (← e) p
+use Rattle.spellings.proofs.Outputs.{prints-none, prints-then, text-append, as-words}
 
 -- ---- what an element is printed as
 

@@ -7,13 +7,13 @@ use mathlib.Core.List.{List, [], _∷_, _++_, append-assoc, append-nil}
 use lib.Dec.{eqb}
 use lib.ListN.{getD, take, drop}
 use borrow.Author.Tests.{ne-eqb, eqb-true}
-use Rattle.lex.specs.Lexemes.{lexemes, signs, reserved}
+use Rattle.lexemes.specs.Lexemes.{lexemes, signs, reserved}
 use Rattle.rows.specs.Columns as column
 use Rattle.rows.specs.Flags as flag
-use Rattle.phrases.specs.Elements.{LARGE}
-use Rattle.grammar.specs.Text as text
+use Rattle.elements.specs.Kinds.{LARGE}
+use Rattle.answers.specs.Text as text
 use Rattle.rows.specs.Codes.{member, questions, isQuestion}
-use Rattle.grammar.specs.Text.{Word, words, decimal, decimalDigits, head, flagList, framed, Phrase, _prints_, opening, phraseAmong}
+use Rattle.answers.specs.Text.{Word, words, decimal, decimalDigits, head, flagList, framed, Phrase, _prints_, opening, phraseAmong}
 use Rattle.print.specs.Phrase.{bit, flagWords, optionFlags, elementWords, shownBy, anyFlag, hasDefault, valueFrom, added, skipAfter, passedAfter, phraseFrom, elementIn, phraseWords}
 use Rattle.print.specs.Statements.{conditionWords, closing, operandWords}
 use Rattle.print.proofs.Patterns as p

@@ -5,11 +5,11 @@ use mathlib.Core.Bool.{Bool, true, false, cond, _||_}
 use mathlib.Core.List.{List, [], _∷_, _++_}
 use lib.Dec.{eqb, ltb}
 use lib.ListN.{getD}
-use Rattle.lex.specs.Classes.{«name», «questionid», «step», «default», «DEFAULT», NAME}
+use Rattle.lexemes.specs.Classes.{«name», «questionid», «step», «default», «DEFAULT», NAME}
 use Rattle.rows.specs.Columns as column
 use Rattle.rows.specs.Flags as flag
-use Rattle.phrases.specs.Elements.{OPTION-FLAGS, TRUTH, FLAG-LIST, H8, H4, H2, MAYBE, GROUP}
-use Rattle.grammar.specs.Text.{Word, decimal, hex, ruleName, lexeme, flagList, truth}
+use Rattle.elements.specs.Kinds.{OPTION-FLAGS, TRUTH, FLAG-LIST, H8, H4, H2, MAYBE, GROUP}
+use Rattle.answers.specs.Text.{Word, decimal, hex, ruleName, lexeme, flagList, truth}
 
 -- ---- one element
 

@@ -7,7 +7,7 @@ use lib.Dec.{eqb}
 use lib.ListN.{getD}
 use Rattle.rows.specs.Codes as code
 use Rattle.rows.specs.Columns as column
-use Rattle.grammar.specs.Text.{Word, words, decimal, ruleName}
+use Rattle.answers.specs.Text.{Word, words, decimal, ruleName}
 
 -- the end of a statement that others stand in; of any other nothing
 unfoldable pub closing : ℕ → List Word

@@ -4,9 +4,9 @@ use Prim.Native.Nat.{ℕ, _<_}
 use mathlib.Core.Path.{_≡_}
 use mathlib.Core.List.{List, _++_}
 use lib.ListN.{drop}
-use Rattle.grammar.specs.Text.{Word}
+use Rattle.answers.specs.Text.{Word}
 use Rattle.print.specs.declared.phrase.Progress.{Progress}
-use Rattle.print.specs.Output.{Prints}
+use Rattle.spellings.specs.Output.{Prints}
 use Rattle.print.specs.Phrase.{shownIn, elementIn, phraseFrom}
 
 -- the words that are left of a phrase of the row r

@@ -2,19 +2,19 @@
 use crate::shown::put_element;
 use crate::shown::shows;
 use crate::sources::value_from;
-use crate::words::put_word;
-use lex::classes::NAME;
-use phrases::elements::GROUP;
-use phrases::elements::MAYBE;
+use elements::kinds::GROUP;
+use elements::kinds::MAYBE;
+use lexemes::classes::NAME;
 use rows::cell;
 use rows::columns::FLAGS;
+use spellings::words::put_word;
 ghost use mathlib.Core.Path.{_≡_};
 ghost use Prim.Native.Nat.{_≤_, _<_};
 ghost use lib.ListN.{length, getD};
-ghost use Rattle.lex.specs.Classes.{NAME};
+ghost use Rattle.lexemes.specs.Classes.{NAME};
 ghost use Rattle.rows.specs.Table.{rowAt};
-ghost use Rattle.phrases.specs.Elements.{MAYBE};
-ghost use Rattle.print.specs.Output.{Prints};
+ghost use Rattle.elements.specs.Kinds.{MAYBE};
+ghost use Rattle.spellings.specs.Output.{Prints};
 ghost use Rattle.print.specs.Phrase.{oneMore, phraseWords};
 ghost use Rattle.print.specs.Steps.{Stepped, Entered};
 

@@ -1,15 +1,15 @@
 // What an element of a phrase is printed as, and which of the parts that may be absent are printed.
-use crate::numerals::put_decimal;
-use crate::numerals::put_hex;
-use crate::numerals::put_rule_name;
-use crate::words::put_word;
-use crate::words::put_word_if;
-use lex::classes::*;
-use phrases::elements::*;
+use elements::kinds::*;
+use lexemes::classes::*;
 use rows::flags;
+use spellings::numerals::put_decimal;
+use spellings::numerals::put_hex;
+use spellings::numerals::put_rule_name;
+use spellings::words::put_word;
+use spellings::words::put_word_if;
 ghost use mathlib.Core.Path.{_≡_};
-ghost use Rattle.grammar.specs.Text.{truth};
-ghost use Rattle.print.specs.Output.{Prints};
+ghost use Rattle.answers.specs.Text.{truth};
+ghost use Rattle.spellings.specs.Output.{Prints};
 ghost use Rattle.print.specs.Phrase.{bit, flagWords, optionFlags, elementWords, shownBy, anyFlag, hasDefault};
 
 // The flag READ_ONLY is set; so of the others.

@@ -10,11 +10,11 @@ use lib.Arith.{mod-mul}
 use lib.Dec.{ltb}
 use lib.ListN.{length}
 use borrow.Author.Tests.{lt-ltb, le-ltb, le-leb, lt-leb}
-use Rattle.lex.specs.Bytes.{isDigit, isHexDigit}
-use Rattle.lex.specs.Tokens.{all}
-use Rattle.lex.specs.Numbers.{digitValue, valueFrom}
-use Rattle.lex.proofs.Lists.{either-less}
-use Rattle.grammar.specs.Text.{decimalDigits, hexDigits}
+use Rattle.lexemes.specs.Bytes.{isDigit, isHexDigit}
+use Rattle.lexemes.specs.Words.{all}
+use Rattle.values.specs.Numbers.{digitValue, valueFrom}
+use Rattle.lexemes.proofs.Lists.{either-less}
+use Rattle.answers.specs.Text.{decimalDigits, hexDigits}
 use Rattle.printing.specs.Spelling.{decimalWord}
 
 -- ---- one digit

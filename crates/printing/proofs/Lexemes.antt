@@ -8,14 +8,16 @@ use native.Mathlib.Omega.{arith}
 use lib.Dec.{eqb, ltb}
 use lib.ListN.{length, getD}
 use borrow.Author.Tests.{eqb-true, lt-ltb, le-ltb}
-use Rattle.lex.specs.Bytes.{isWordByte}
-use Rattle.lex.specs.Classes.{SIGNS, NAME}
-use Rattle.lex.specs.Lexemes.{signs, reserved, lexemes}
-use Rattle.lex.specs.Tokens.{all, same, placeOf, isGap, gap, isHex, wordClass, signClass, signToken, tokenFrom}
-use Rattle.lex.proofs.Lists.{either-less, and-true}
+use Rattle.lexemes.specs.Bytes.{isWordByte}
+use Rattle.lexemes.specs.Classes.{SIGNS, NAME}
+use Rattle.lexemes.specs.Lexemes.{signs, reserved, lexemes}
+use Rattle.lexemes.specs.Words.{all, same, placeOf}
+use Rattle.lex.specs.Tokens.{isGap, gap, wordClass, signClass, signToken, tokenFrom}
+use Rattle.values.specs.Numbers.{isHex}
+use Rattle.lexemes.proofs.Lists.{either-less, and-true}
 use Rattle.lex.proofs.Specimens.{tok}
 use Rattle.ll1.specs.Test.{allAt}
-use Rattle.grammar.specs.Text.{Word}
+use Rattle.answers.specs.Text.{Word}
 use Rattle.printing.proofs.Runs.{Blank, space, line, Reads, word-reads}
 
 -- ---- the test

@@ -8,14 +8,16 @@ use native.Mathlib.Omega.{arith}
 use lib.Dec.{eqb, leb}
 use lib.ListN.{length, getD}
 use borrow.Author.Tests.{lt-ltb, le-leb, lt-leb, leb-true, eqb-true, eqb-false}
-use Rattle.lex.specs.Bytes.{isDigit, isHexDigit, isWordByte}
-use Rattle.lex.specs.Classes.{NAME, HEX, DECIMAL}
-use Rattle.lex.specs.Lexemes.{reserved}
-use Rattle.lex.specs.Tokens.{all, same, placeOf, isHex, wordClass}
-use Rattle.lex.specs.Numbers.{valueFrom, numeral}
-use Rattle.lex.proofs.Lists.{either, and-true}
-use Rattle.lex.proofs.Equality.{same-refl, same-true}
-use Rattle.grammar.specs.Text.{hexDigits}
+use Rattle.lexemes.specs.Bytes.{isDigit, isHexDigit, isWordByte}
+use Rattle.lexemes.specs.Classes.{NAME, HEX, DECIMAL}
+use Rattle.lexemes.specs.Lexemes.{reserved}
+use Rattle.lexemes.specs.Words.{all, same, placeOf}
+use Rattle.values.specs.Numbers.{isHex}
+use Rattle.lex.specs.Tokens.{wordClass}
+use Rattle.values.specs.Numbers.{valueFrom, numeral}
+use Rattle.lexemes.proofs.Lists.{either, and-true}
+use Rattle.lexemes.proofs.Equality.{same-refl, same-true}
+use Rattle.answers.specs.Text.{hexDigits}
 use Rattle.printing.specs.Spelling.{decimalWord, hexWord, nameWord}
 use Rattle.printing.proofs.Digits.{decimal-value, decimal-bytes, decimal-some, decimal-injective, hex-length, hex-bytes, hex-value}
 use Rattle.printing.proofs.Runs.{Reads, not-byte, word-reads}

@@ -9,12 +9,13 @@ use lib.Dec.{eqb}
 use lib.ListN.{length, getD}
 use lib.Seq.{take-at}
 use borrow.Author.Tests.{ne-eqb}
-use Rattle.lex.specs.Bytes.{isWordByte}
-use Rattle.lex.specs.Classes.{BAD}
-use Rattle.lex.specs.Tokens.{run, all, same, isGap, gap, word, wordClass, wordToken, tokenFrom}
-use Rattle.lex.proofs.Lists.{either, and-true}
+use Rattle.lexemes.specs.Bytes.{isWordByte}
+use Rattle.lexemes.specs.Classes.{BAD}
+use Rattle.lexemes.specs.Words.{run, all, same, word}
+use Rattle.lex.specs.Tokens.{isGap, gap, wordClass, wordToken, tokenFrom}
+use Rattle.lexemes.proofs.Lists.{either, and-true}
 use Rattle.lex.proofs.Specimens.{tok}
-use Rattle.grammar.specs.Text.{Word, gapAfter}
+use Rattle.answers.specs.Text.{Word, gapAfter}
 
 -- ---- what stands after a word
 

@@ -7,13 +7,13 @@ use Prim.Native.Nat.{ℕ, _+_, _≤_, _<_}
 use native.Mathlib.Omega.{arith}
 use lib.ListN.{length, drop, length-append}
 use lib.Seq.{drop-at, drop-drop}
-use Rattle.lex.specs.Bytes.{isWordByte}
-use Rattle.lex.specs.Classes.{NAME}
-use Rattle.lex.specs.Tokens.{all}
-use Rattle.lex.specs.Numbers.{numeral}
-use Rattle.lex.proofs.Lists.{either-less, from-end}
+use Rattle.lexemes.specs.Bytes.{isWordByte}
+use Rattle.lexemes.specs.Classes.{NAME}
+use Rattle.lexemes.specs.Words.{all}
+use Rattle.values.specs.Numbers.{numeral}
+use Rattle.lexemes.proofs.Lists.{either-less, from-end}
 use Rattle.ll1.specs.Trees.{Token}
-use Rattle.grammar.specs.Text.{Word, gapAfter, textOf}
+use Rattle.answers.specs.Text.{Word, gapAfter, textOf}
 use Rattle.printing.specs.Spelling.{nameWord, Spells, a-lexeme, a-decimal, a-hex, a-name, Spelled, spelled-none, spelled-next}
 use Rattle.printing.specs.Spelling.{placed, Stands, Standing, standing-none, standing-next}
 use Rattle.printing.proofs.Numbers.{decimal-in-word, hex-in-word, name-in-word, decimal-numeral, hex-numeral, name-numeral}

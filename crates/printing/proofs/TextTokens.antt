@@ -10,12 +10,12 @@ use lib.Seq.{drop-at, drop-append-add}
 use borrow.Author.Tests.{lt-ltb, ne-eqb}
 use Rattle.lex.specs.declared.Token as lex
 use Rattle.lex.specs.declared.Found.the-variants.{Nothing}
-use Rattle.lex.specs.Classes.{BAD, END}
+use Rattle.lexemes.specs.Classes.{BAD, END}
 use Rattle.lex.specs.Tokens.{isGap, inComment, gap, tokenFrom, tokenAfterGap, tokensWithin, tokensFrom, tokens, badAmong, firstBad}
 use Rattle.lex.proofs.Specimens.{tok}
 use Rattle.ll1.specs.Trees.{Token, token}
 use Rattle.grammar.specs.Source.{grammarTokens, sourceTokens}
-use Rattle.grammar.specs.Text.{Word, gapAfter, textOf}
+use Rattle.answers.specs.Text.{Word, gapAfter, textOf}
 use Rattle.printing.specs.Spelling.{Spells, a-lexeme, a-decimal, a-hex, a-name, Spelled, spelled-none, spelled-next, placed}
 use Rattle.printing.proofs.Runs.{Blank, space, line, gap-blank, Reads}
 use Rattle.printing.proofs.Lexemes.{lexeme-reads}

@@ -10,16 +10,17 @@ use lib.Dec.{eqb}
 use lib.ListN.{length, drop}
 use borrow.Author.Tests.{le-leb, lt-ltb}
 use Rattle.lex.specs.declared.Found.the-variants.{Nothing}
-use Rattle.lex.specs.declared.Value.the-variants.{Fits}
-use Rattle.lex.specs.Classes.{NAME}
-use Rattle.lex.specs.Tokens.{word, sameWord, firstBad, tokenAfterGap, tokenAt}
-use Rattle.lex.specs.Numbers.{fitted, valueAt, digitsAt}
+use Rattle.values.specs.declared.Value.the-variants.{Fits}
+use Rattle.lexemes.specs.Classes.{NAME}
+use Rattle.lexemes.specs.Words.{word, sameWord}
+use Rattle.lex.specs.Tokens.{firstBad, tokenAfterGap, tokenAt}
+use Rattle.values.specs.Numbers.{fitted, valueAt, digitsAt}
 use Rattle.lex.proofs.Specimens.{tok}
-use Rattle.lex.proofs.ValueLaws.{fitted-fits}
+use Rattle.values.proofs.ValueLaws.{fitted-fits}
 use Rattle.ll1.specs.Trees.{Token}
 use Rattle.grammar.specs.Source.{sourceTokens, numberAt}
 use Rattle.grammar.specs.Ranges.{between, digits, within, keeps}
-use Rattle.grammar.specs.Text.{Word, textOf}
+use Rattle.answers.specs.Text.{Word, textOf}
 use Rattle.printing.specs.Spelling.{hexWord, Spells, a-hex, Spelled, placed, Stands, Standing}
 use Rattle.printing.proofs.Digits.{hex-length}
 use Rattle.printing.proofs.Runs.{gap-blank, word-is}

@@ -4,10 +4,10 @@ use mathlib.Core.Path.{_≡_}
 use mathlib.Core.List.{List, [], _∷_, _++_}
 use Prim.Native.Nat.{ℕ, suc, _+_, _%_, _^_, _<_}
 use lib.ListN.{length, getD, drop}
-use Rattle.lex.specs.Classes.{NAME, HEX, DECIMAL}
-use Rattle.lex.specs.Lexemes.{bytes, lexemes}
+use Rattle.lexemes.specs.Classes.{NAME, HEX, DECIMAL}
+use Rattle.lexemes.specs.Lexemes.{bytes, lexemes}
 use Rattle.ll1.specs.Trees.{Token, token}
-use Rattle.grammar.specs.Text.{Word, decimalDigits, hexDigits, gapAfter}
+use Rattle.answers.specs.Text.{Word, decimalDigits, hexDigits, gapAfter}
 
 -- ---- words
 

@@ -9,10 +9,10 @@ use Rattle.numbers.specs.Numbers.{numbered, freeCount, usedCount, given, givenM
 use Rattle.rows.specs.Columns.{ROW}
 use Rattle.rows.specs.Table.{cleared}
 use Rattle.rows.specs.Rows.{rowsFrom, put, laid}
-use Rattle.grammar.specs.Rows.{Draft}
-use Rattle.grammar.specs.Stages.{ownNumbers, finished}
-use Rattle.grammar.specs.Drafts.{draftsFrom}
-use Rattle.grammar.specs.Answer.{accepts}
+use Rattle.answers.specs.Rows.{Draft}
+use Rattle.answers.specs.Stages.{ownNumbers, finished}
+use Rattle.answers.specs.Drafts.{draftsFrom}
+use Rattle.answers.specs.Answer.{accepts}
 use Rattle.finish.specs.Finish.{ownsIn, withOwns, stripped, resolved}
 use Rattle.finish.proofs.Finished.{finished-table, free-finished}
 use Rattle.read.specs.Drafted.{Ready}

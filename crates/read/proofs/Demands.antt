@@ -13,11 +13,11 @@ use Rattle.rows.specs.Columns.{ROW}
 use Rattle.rows.specs.Rows.{rowsFrom, laid}
 use Rattle.rows.proofs.RunLaws.{rows-flat}
 use Rattle.ll1.specs.Trees.{Trees}
-use Rattle.grammar.specs.Stages.{ownNumbers, finished}
-use Rattle.grammar.specs.Answer as grammar
-use Rattle.grammar.specs.Answer.{LIMIT, accepts, drafts, readAnswer, readTable}
-use Rattle.grammar.specs.Demand3.{Sound, Refuses, questionNumbers}
-use Rattle.grammar.proofs.Demand3 as Demand3
+use Rattle.answers.specs.Stages.{ownNumbers, finished}
+use Rattle.answers.specs.Answer as grammar
+use Rattle.answers.specs.Answer.{LIMIT, accepts, drafts, readAnswer, readTable}
+use Rattle.answers.specs.Demand3.{Sound, Refuses, questionNumbers}
+use Rattle.answers.proofs.Demand3 as Demand3
 use Rattle.read.specs.declared.Answer.{Answer}
 use Rattle.read.specs.Answers.{told}
 

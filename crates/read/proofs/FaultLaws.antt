@@ -9,18 +9,19 @@ use mathlib.Core.List.{List, []}
 use lib.Dec.{eqb}
 use borrow.Author.Tests.{eq-eqb, ne-eqb, eqb-true}
 use Rattle.numbers.specs.Numbers.{emptyMap, Holds}
-use Rattle.grammar.specs.Rows.{Draft}
-use Rattle.grammar.specs.Stages.{placeOf, ownNumbers, repeatedForms, repeatedQuestions, repeatedNames, rulesOverLimit, unfound, badChoices}
-use Rattle.grammar.specs.Answer.{Answer, refuses, stage}
-use Rattle.stages.specs.Faults.{firstFault, alone, ruleFault}
+use Rattle.answers.specs.Rows.{Draft}
+use Rattle.answers.specs.Stages.{placeOf, ownNumbers, repeatedForms, repeatedQuestions, repeatedNames, rulesOverLimit, unfound, badChoices}
+use Rattle.answers.specs.Answer.{Answer, refuses, stage}
+use Rattle.drafts.specs.Faults.{firstFault, alone}
+use Rattle.stages.specs.Rules.{ruleFault}
 use Rattle.stages.specs.Choices.{choiceFault}
-use Rattle.stages.specs.Names.{repeatedFrom, Indexes}
+use Rattle.names.specs.Names.{repeatedFrom, Indexes}
 use Rattle.stages.specs.References.{referenceFault}
 use Rattle.stages.specs.Repeats.{repeatedMark, mapAfter, formNumber, writtenNumber}
-use Rattle.stages.specs.Sound.{SoundRows, First}
-use Rattle.stages.proofs.Firsts.{stage-first, first-none}
+use Rattle.drafts.specs.Sound.{SoundRows, First}
+use Rattle.drafts.proofs.Firsts.{stage-first, first-none}
 use Rattle.stages.proofs.RepeatFaults.{forms-first, forms-told, questions-first, questions-told, written-held}
-use Rattle.stages.proofs.NameFaults.{names-first}
+use Rattle.names.proofs.NameFaults.{names-first}
 use Rattle.stages.proofs.RuleLaws.{rules-first}
 use Rattle.stages.proofs.ReferenceFaults.{references-first}
 use Rattle.stages.proofs.ChoiceFaults.{choices-first}

@@ -12,12 +12,12 @@ use Rattle.rows.specs.Columns.{ROW}
 use Rattle.rows.specs.Table.{cleared}
 use Rattle.rows.specs.Rows.{laid}
 use Rattle.rows.proofs.ClearLaws.{cleared-whole}
-use Rattle.grammar.specs.Rows.{Draft}
-use Rattle.grammar.specs.Stages.{ownNumbers, finished}
-use Rattle.grammar.specs.Drafts.{draftsFrom}
-use Rattle.grammar.specs.Answer.{Answer, refuses, accepts, answerOf}
-use Rattle.stages.specs.Names.{BUCKETS, namesIn, indexed, Indexes}
-use Rattle.stages.proofs.NameFaults.{index-made, names-few}
+use Rattle.answers.specs.Rows.{Draft}
+use Rattle.answers.specs.Stages.{ownNumbers, finished}
+use Rattle.answers.specs.Drafts.{draftsFrom}
+use Rattle.answers.specs.Answer.{Answer, refuses, accepts, answerOf}
+use Rattle.names.specs.Names.{BUCKETS, namesIn, indexed, Indexes}
+use Rattle.names.proofs.NameFaults.{index-made, names-few}
 use Rattle.read.specs.declared.Fault.{Fault}
 use Rattle.read.specs.Faults.{firstFaultOf, writtenAfter}
 use Rattle.read.specs.Drafted.{Drafted, Ready, tableAfter}

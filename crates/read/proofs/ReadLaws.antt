@@ -14,12 +14,12 @@ use Rattle.rows.specs.Rows.{rowsFrom}
 use Rattle.rows.proofs.ClearLaws.{cleared-whole}
 use Rattle.rows.proofs.RunLaws.{length-put, rows-put}
 use Rattle.ll1.specs.Trees.{Trees}
-use Rattle.grammar.specs.Rows.{Draft}
-use Rattle.grammar.specs.Drafts.{encoded, draftsFrom}
-use Rattle.grammar.specs.Answer.{Checked, refusal, derived, checked, quickCheck, Answer, refuses, needs, answerOf, drafts, readAnswer, rowsOf, readTable}
-use Rattle.grammar.proofs.Checks.{Decided, stopped, passed, decided}
-use Rattle.stages.specs.Fits.{AllFit}
-use Rattle.stages.proofs.CodingLaws.{sound-fit, are-encoded, drafts-held}
+use Rattle.answers.specs.Rows.{Draft}
+use Rattle.answers.specs.Drafts.{encoded, draftsFrom}
+use Rattle.answers.specs.Answer.{Checked, refusal, derived, checked, quickCheck, Answer, refuses, needs, answerOf, drafts, readAnswer, rowsOf, readTable}
+use Rattle.answers.proofs.Checks.{Decided, stopped, passed, decided}
+use Rattle.drafts.specs.Fits.{AllFit}
+use Rattle.drafts.proofs.CodingLaws.{sound-fit, are-encoded, drafts-held}
 use Rattle.read.specs.declared.Survey.{Survey}
 use Rattle.read.specs.Surveyed.{Derived, Surveyed}
 use Rattle.read.specs.Drafted.{Drafted, tableAfter}

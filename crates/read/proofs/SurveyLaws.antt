@@ -17,12 +17,12 @@ use Rattle.grammar.specs.Grammar.{rules}
 use Rattle.grammar.specs.Reading.{verdict, derivation}
 use Rattle.grammar.specs.Ranges.{outOfRange}
 use Rattle.grammar.specs.Source.{sourceTokens}
-use Rattle.grammar.specs.Answer.{LIMIT, refusal, derived, checked, parsed}
-use Rattle.grammar.specs.Demand3.{Grammatical}
+use Rattle.answers.specs.Answer.{LIMIT, refusal, derived, checked, parsed}
+use Rattle.answers.specs.Demand3.{Grammatical}
 use Rattle.grammar.proofs.Theorems.{verdict-right, accepted-exactly, one-derivation}
-use Rattle.grammar.proofs.Checks.{checked-1, checked-2, checked-parsed, checked-5, checked-derived}
+use Rattle.answers.proofs.Checks.{checked-1, checked-2, checked-parsed, checked-5, checked-derived}
 use Rattle.sound.proofs.DraftsSound.{drafts-sound}
-use Rattle.phrases.specs.Marks.{firstMark}
+use Rattle.elements.specs.Marks.{firstMark}
 use Rattle.walk.specs.declared.Outcome.{Outcome}
 use Rattle.walk.specs.Whole.{refusalNumber, refusalPlace, Derived, Walks}
 use Rattle.read.specs.declared.Survey.{Survey}

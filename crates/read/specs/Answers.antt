@@ -1,7 +1,7 @@
 -- Document 01's number and values of each case of reading's answer (document 01, Refusal numbers).
 -- Assumes nothing.
-use Rattle.grammar.specs.Answer as grammar
-use Rattle.grammar.specs.Answer.{accepts, refuses, needs}
+use Rattle.answers.specs.Answer as grammar
+use Rattle.answers.specs.Answer.{accepts, refuses, needs}
 use Rattle.read.specs.declared.Answer.{Answer}
 use Rattle.read.specs.declared.Answer.the-variants.{Accepted, Refused, Short}
 

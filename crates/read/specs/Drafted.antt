@@ -10,12 +10,12 @@ use Rattle.numbers.specs.Numbers.{Holds}
 use Rattle.rows.specs.Columns.{ROW}
 use Rattle.rows.specs.Table.{wholeRows}
 use Rattle.rows.specs.Rows.{rowsFrom, laid}
-use Rattle.grammar.specs.Rows.{Draft}
-use Rattle.grammar.specs.Drafts.{encoded, draftsFrom}
-use Rattle.grammar.specs.Stages.{unfound, ownNumbers, finished}
-use Rattle.grammar.specs.Answer.{answerOf}
-use Rattle.stages.specs.Sound.{SoundRows}
-use Rattle.stages.specs.Names.{Indexes}
+use Rattle.answers.specs.Rows.{Draft}
+use Rattle.answers.specs.Drafts.{encoded, draftsFrom}
+use Rattle.answers.specs.Stages.{unfound, ownNumbers, finished}
+use Rattle.answers.specs.Answer.{answerOf}
+use Rattle.drafts.specs.Sound.{SoundRows}
+use Rattle.names.specs.Names.{Indexes}
 
 -- the first rows of the table t are drafts that passed stages 1 to 6
 pub record Drafted (t : List ℕ) (count : ℕ) : Type 0 where

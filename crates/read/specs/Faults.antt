@@ -5,11 +5,12 @@ use mathlib.Core.Bool.{cond}
 use mathlib.Core.List.{List}
 use lib.Dec.{eqb}
 use Rattle.numbers.specs.Numbers.{emptyMap}
-use Rattle.grammar.specs.Rows.{Draft}
-use Rattle.grammar.specs.Stages.{placeOf}
-use Rattle.stages.specs.Faults.{firstFault, alone, ruleFault}
+use Rattle.answers.specs.Rows.{Draft}
+use Rattle.answers.specs.Stages.{placeOf}
+use Rattle.drafts.specs.Faults.{firstFault, alone}
+use Rattle.stages.specs.Rules.{ruleFault}
 use Rattle.stages.specs.Choices.{choiceFault}
-use Rattle.stages.specs.Names.{repeatedFrom}
+use Rattle.names.specs.Names.{repeatedFrom}
 use Rattle.stages.specs.References.{referenceFault}
 use Rattle.stages.specs.Repeats.{repeatedMark, mapAfter, formNumber, writtenNumber}
 use Rattle.read.specs.declared.Fault.{Fault}

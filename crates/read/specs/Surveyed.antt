@@ -9,9 +9,9 @@ use Rattle.lex.specs.declared.Found.{Found}
 use Rattle.lex.specs.declared.Found.the-variants.{At, Nothing}
 use Rattle.rows.specs.Rows.{put}
 use Rattle.ll1.specs.Trees.{Trees}
-use Rattle.grammar.specs.Drafts.{encoded}
-use Rattle.grammar.specs.Answer.{refusal, derived, checked, drafts}
-use Rattle.stages.specs.Sound.{SoundRows}
+use Rattle.answers.specs.Drafts.{encoded}
+use Rattle.answers.specs.Answer.{refusal, derived, checked, drafts}
+use Rattle.drafts.specs.Sound.{SoundRows}
 use Rattle.read.specs.declared.Survey.{Survey}
 
 abbrev pub refusing : ℕ → ℕ → Survey

@@ -1,8 +1,7 @@
 // Stages 7 to 12.
 use crate::Fault;
-use stages::names;
 ghost use mathlib.Core.Path.{_≡_};
-ghost use Rattle.grammar.specs.Drafts.{draftsFrom};
+ghost use Rattle.answers.specs.Drafts.{draftsFrom};
 ghost use Rattle.read.specs.Faults.{faultAt, firstFaultOf, writtenAfter};
 
 // The fault at a mark, a place plus one.

@@ -3,44 +3,27 @@
 use mathlib.Core.Path.{_≡_, refl, ap}
 use mathlib.Core.List.{List, [], _∷_, _++_}
 use mathlib.Core.Bool.{true, false}
-use Prim.Native.Nat.{ℕ, zero, suc, _<_}
+use Prim.Native.Nat.{ℕ, suc}
 use native.Mathlib.Omega.{arith}
 use lib.Dec.{eqb}
 use lib.ListN.{length, getD, take}
-use Rattle.lex.specs.Classes as class
+use Rattle.lexemes.specs.Classes as class
 use Rattle.rows.specs.Columns as column
 use Rattle.rows.specs.Flags as flag
 use Rattle.ll1.specs.Trees.{token, Trees, nil, leaf, node}
 use Rattle.grammar.specs.Rules.{<source>, <form>*, <form>, <item-or-rule>*, <rule>, <item>, <option>*, <item>*, <option>}
 use Rattle.grammar.specs.Parts.{child, placeAt}
-use Rattle.grammar.specs.Expression.{expression}
-use Rattle.grammar.specs.Rows.{Draft}
-use Rattle.grammar.specs.Stages.{cell}
-use Rattle.grammar.specs.Text.{opening, hasFlag}
+use Rattle.answers.specs.Expression.{expression}
+use Rattle.answers.specs.Rows.{Draft}
+use Rattle.answers.specs.Stages.{cell}
+use Rattle.answers.specs.Text.{opening, hasFlag}
 use Rattle.again.specs.Matches.{Pairs, no-pairs, pair, final}
-use Rattle.roundtrip.proofs.Shapes.{sign, Shape, s-nil, s-leaf, s-node}
-use Rattle.roundtrip.proofs.Formula.{formula}
+use Rattle.formulas.specs.Shapes.{sign, Shape, s-nil, s-leaf, s-node, part, taken}
+use Rattle.formulas.specs.Formula.{formula}
 use Rattle.roundtrip.proofs.Phrases as row
 use Rattle.roundtrip.proofs.Phrases.{say, subtitleUnder, textUnder, labelUnder, gotoUnder, checkboxUnder, numericUnder, oneOfUnder, conditionUnder, optionUnder, ruleUnder, formUnder, formSetUnder}
 
--- ---- parts of a shape
-
--- the shape under the n-th tree, and the alternative that it takes
-abbrev pub part : ℕ → Shape → Shape
-part n s-nil = s-nil
-part zero (s-leaf l x) = s-nil
-part (suc n) (s-leaf l x) = part n x
-part zero (s-node A i c x) = c
-part (suc n) (s-node A i c x) = part n x
-
-abbrev pub taken : ℕ → Shape → ℕ
-taken n s-nil = 0
-taken zero (s-leaf l x) = 0
-taken (suc n) (s-leaf l x) = taken n x
-taken zero (s-node A i c x) = i
-taken (suc n) (s-node A i c x) = taken n x
-
--- the n-th tree, of the rule A
+-- the n-th tree of a shape, of the rule A
 abbrev pub again : ℕ → ℕ → Shape → Shape → Shape
 again A n x f = s-node A (taken n x) (part n x) f
 

@@ -12,12 +12,12 @@ use Rattle.grammar.specs.Rules.{<item>, <option>}
 use Rattle.grammar.specs.Source.{numberAt}
 use Rattle.grammar.specs.Derivation.{tooDeep}
 use Rattle.grammar.specs.Parts.{placeAt}
-use Rattle.grammar.specs.Rows.{Draft, columns}
-use Rattle.grammar.specs.Stages as draft
-use Rattle.grammar.specs.Text.{opening, hasFlag}
+use Rattle.answers.specs.Rows.{Draft, columns}
+use Rattle.answers.specs.Stages as draft
+use Rattle.answers.specs.Text.{opening, hasFlag}
 use Rattle.sound.proofs.Lists.{All, more}
-use Rattle.roundtrip.proofs.Shapes.{spelling}
-use Rattle.roundtrip.proofs.Fitted.{f-nil}
+use Rattle.formulas.specs.Shapes.{spelling}
+use Rattle.formulas.specs.Fitted.{f-nil}
 use Rattle.roundtrip.proofs.Phrases.{cell, subtitleUnder, textUnder, labelUnder, gotoUnder, checkboxUnder, numericUnder, optionUnder}
 use Rattle.roundtrip.proofs.PhraseWords.{subtitle-words, text-words, label-words, goto-words, checkbox-words, numeric-words, option-words}
 use Rattle.roundtrip.proofs.PhraseFits.{subtitle-fits, text-fits, label-fits, goto-fits, checkbox-fits, numeric-fits, option-fits}

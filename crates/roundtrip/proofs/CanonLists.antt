@@ -7,10 +7,10 @@ use lib.ListN.{length}
 use Rattle.ll1.specs.Trees.{Trees, nil, node, Depth}
 use Rattle.grammar.specs.Rules.{<form>*, <form>, <item-or-rule>*, <rule>, <item>, <option>*, <item>*, <option>}
 use Rattle.grammar.specs.Grammar.{rules}
-use Rattle.grammar.specs.Rows.{rulesIn}
-use Rattle.grammar.specs.Text.{around, wordsOf}
-use Rattle.roundtrip.proofs.Shapes.{s-nil, s-node, Over, over-nil, over-node}
-use Rattle.roundtrip.proofs.Fitted.{f-nil, f-node}
+use Rattle.answers.specs.Rows.{rulesIn}
+use Rattle.answers.specs.Text.{around, wordsOf}
+use Rattle.formulas.specs.Shapes.{s-nil, s-node, Over, over-nil, over-node}
+use Rattle.formulas.specs.Fitted.{f-nil, f-node}
 use Rattle.roundtrip.proofs.Core.{within}
 use Rattle.roundtrip.proofs.CanonSeq.{spell-node, OverOk, made, Ok, seq-none, seq-node}
 

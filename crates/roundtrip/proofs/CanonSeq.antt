@@ -11,17 +11,19 @@ use Rattle.rows.specs.Codes as code
 use Rattle.rows.specs.Columns as column
 use Rattle.ll1.specs.Trees.{Trees, nil, node, Symbol, nonterminal, Depth, Fits, fits-node}
 use Rattle.ll1.proofs.Basics.{both}
-use Rattle.lex.proofs.Lists.{either}
+use Rattle.lexemes.proofs.Lists.{either}
 use borrow.Author.Tests.{not-true}
 use Rattle.grammar.specs.Rules.{<rule>}
 use Rattle.grammar.specs.Grammar.{rules}
 use Rattle.grammar.specs.Source.{numberAt}
-use Rattle.grammar.specs.Rows.{Draft, when, rulesIn, draftsOf}
-use Rattle.grammar.specs.Stages.{cell, is, placeOf}
-use Rattle.grammar.specs.Text.{Word, opening, around, wordsOf}
+use Rattle.answers.specs.Rows.{Draft, rulesIn, draftsOf}
+use Rattle.grammar.specs.Parts.{when}
+use Rattle.answers.specs.Stages.{cell, is, placeOf}
+use Rattle.answers.specs.Text.{Word, opening, around, wordsOf}
 use Rattle.sound.proofs.Lists.{All}
-use Rattle.roundtrip.proofs.Shapes.{word, Shape, s-nil, s-leaf, s-node, flat, lexed, spelling, Over, over-nil, over-leaf, over-node}
-use Rattle.roundtrip.proofs.Fitted.{Fitted, to-fits, over-fitted}
+use Rattle.formulas.specs.Shapes.{word, Shape, s-nil, s-leaf, s-node, flat, lexed, spelling, Over, over-nil, over-leaf, over-node}
+use Rattle.formulas.specs.Fitted.{Fitted}
+use Rattle.formulas.proofs.Fitted.{to-fits, over-fitted}
 use Rattle.grammar.proofs.Statements.{states}
 use Rattle.roundtrip.proofs.Core.{core, within, Told, told}
 use Rattle.roundtrip.proofs.Expressions.{all-parts}

@@ -6,28 +6,31 @@ use mathlib.Core.Bool.{false}
 use Prim.Native.Nat.{ℕ, suc, _+_, _^_, _≤_, _<_}
 use native.Mathlib.Omega.{arith}
 use lib.ListN.{length}
-use Rattle.lex.specs.Lexemes.{signs, reserved, lexemes}
-use Rattle.lex.specs.Classes as class
+use Rattle.lexemes.specs.Lexemes.{signs, reserved, lexemes}
+use Rattle.lexemes.specs.Classes as class
 use Rattle.rows.specs.Flags as flag
 use Rattle.ll1.specs.Trees.{token, Trees, nil, leaf, node, Depth, depth}
 use Rattle.grammar.specs.Rules.{<source>, <form>*, <guid>, <str>, <id>, <form>, <item-or-rule>*, <rule>, <item>, <flags>?, <option>*, <item>*, <option>, <head>, <expression>}
 use Rattle.grammar.specs.Source.{numberAt}
 use Rattle.grammar.specs.Derivation.{tooDeep}
-use Rattle.grammar.specs.Expression.{Expression, expression}
-use Rattle.grammar.specs.Rows.{Draft, rulesIn, draftsOf, item, form, ruleDraft, formSet, guidHigh, guidLow, guidBytes, expressionRows}
-use Rattle.grammar.specs.Text.{Word, words, opening, hasFlag, printed, around, wordsOf}
+use Rattle.answers.specs.Expression.{Expression, expression}
+use Rattle.answers.specs.Rows.{Draft, rulesIn, draftsOf, item, form, ruleDraft, formSet, guidHigh, guidLow, guidBytes, expressionRows}
+use Rattle.answers.specs.Text.{Word, words, opening, hasFlag, printed, around, wordsOf}
 use Rattle.sound.proofs.Lists.{All}
-use Rattle.roundtrip.proofs.Shapes.{word, read-rule, Shape, s-node, spelling, read-sign, Over, over-nil, over-leaf, over-node}
-use Rattle.roundtrip.proofs.Fitted.{f-nil, f-leaf, fine}
-use Rattle.roundtrip.proofs.Formula.{Formula, formula, nest, print}
-use Rattle.roundtrip.proofs.FormulaWords.{printed-words}
-use Rattle.roundtrip.proofs.FormulaTree.{Rel}
+use Rattle.formulas.specs.Shapes.{word, read-rule, Shape, s-node, spelling, read-sign, Over, over-nil, over-leaf, over-node}
+use Rattle.formulas.specs.Fitted.{f-nil, f-leaf}
+use Rattle.formulas.proofs.Fitted.{fine}
+use Rattle.formulas.specs.Formula.{Formula, formula, nest}
+use Rattle.formulas.specs.Words.{print}
+use Rattle.formulas.proofs.Words.{printed-words}
+use Rattle.formulas.specs.Tree.{Rel, Expressed, an-expression}
 use Rattle.roundtrip.proofs.Phrases.{say, oneOfUnder, conditionUnder, ruleUnder, formUnder, formSetUnder}
 use Rattle.roundtrip.proofs.PhraseWords.{one-of-words, condition-words, rule-words, form-words, form-set-words}
 use Rattle.roundtrip.proofs.PhraseFits.{one-of-fits, rule-fits, form-fits, form-set-fits, suppressif-fits, grayoutif-fits, disableif-fits}
 use Rattle.roundtrip.proofs.PhraseRows.{lowOf}
 use Rattle.roundtrip.proofs.Matches.{one-of-match, suppress-match, gray-out-match, disable-match, rule-match, form-match, form-set-match}
-use Rattle.roundtrip.proofs.Expressions.{all-parts, rows-match, formula-again, Expressed, an-expression, expressed}
+use Rattle.roundtrip.proofs.Expressions.{all-parts, rows-match, formula-again}
+use Rattle.formulas.proofs.Expressed.{expressed}
 use Rattle.roundtrip.proofs.Core.{within, Told}
 use Rattle.again.specs.Matches.{Settled, Match, Pairs, pair}
 use Rattle.roundtrip.proofs.Canon.{ending, Found, pairs-append, pairs-length}

@@ -8,20 +8,22 @@ use Prim.Native.Nat.{ℕ, zero, suc, _+_, _≤_}
 use lib.Dec.{eqb}
 use lib.ListN.{length}
 use borrow.Author.Tests.{eqb-true}
-use Rattle.lex.specs.Classes as class
-use Rattle.lex.proofs.Lists.{either}
+use Rattle.lexemes.specs.Classes as class
+use Rattle.lexemes.proofs.Lists.{either}
 use Rattle.ll1.specs.Trees.{token, Trees, nil, leaf, node, Symbol, terminal, nonterminal, Alternative, alternativeOf, Depth, depth, deeper}
 use Rattle.ll1.proofs.Basics.{clash}
 use Rattle.grammar.specs.Notation.{t, r, plain, condition}
 use Rattle.grammar.specs.Rules.{<source>, <form>*, <guid>, <str>, <id>, <small>, <large>, <form>, <item-or-rule>*, <rule>, <item>, <goto-flags>?, <flags>?, <truth-default>?, <step>?, <number-default>?, <option>*, <item>*, <option>, <option-flags>, <head>, <expression>}
 use Rattle.grammar.specs.Grammar.{rules}
 use Rattle.grammar.specs.Derivation.{tooDeep}
-use Rattle.grammar.specs.Expression.{number, expression}
-use Rattle.grammar.specs.Rows.{Draft, rulesIn, draftsOf, expressionRows, item, ruleDraft, guidBytes}
+use Rattle.answers.specs.Expression.{number, expression}
+use Rattle.answers.specs.Rows.{Draft, rulesIn, draftsOf, expressionRows, item, ruleDraft, guidBytes}
 use Rattle.sound.proofs.Lists.{All}
-use Rattle.roundtrip.proofs.Fitted.{Fitted, f-nil, f-leaf, f-node, to-fits}
-use Rattle.roundtrip.proofs.Formula.{formula, nest}
-use Rattle.roundtrip.proofs.FormulaSource.{expression-node}
+use Rattle.formulas.specs.Fitted.{Fitted, f-nil, f-leaf, f-node}
+use Rattle.formulas.proofs.Fitted.{to-fits}
+use Rattle.formulas.specs.Formula.{formula, nest}
+use Rattle.formulas.proofs.Inverse.{alternative-is, no-alternative}
+use Rattle.formulas.proofs.Nesting.{expression-node}
 use Rattle.roundtrip.proofs.Expressions.{all-parts}
 use Rattle.grammar.proofs.Statements.{states}
 use Rattle.roundtrip.proofs.Core.{core, within, Told, told}
@@ -187,69 +189,76 @@ module _ (text : List ℕ) (look look′ : ℕ → List ℕ) (source : ℕ → �
     told-c : Told source look c
     told-c = told source look (to-fits h)
 
+    -- the trees under the alternative that it is
+    under-it : {x : Alternative} → some x ≡ some a → Each (deeper d (x .opens)) (x .symbols) c
+    under-it q = subst (λ b. Each (deeper d (b .opens)) (b .symbols) c) (sym (alternative-is q)) e
+
     source-good : (i : ℕ) → alternativeOf rules <source> i ≡ some a → Stated d <source> i c
     unfolding rules
-    source-good zero q = let z : a ≡ plain (t class.«formset» ∷ t class.«guid» ∷ t class.«=» ∷ r <guid> ∷ t class.comma ∷ t class.«title» ∷ t class.«=» ∷ r <str> ∷ t class.comma ∷ t class.«help» ∷ t class.«=» ∷ r <str> ∷ t class.comma ∷ r <form> ∷ r <form>* ∷ t class.«endformset» ∷ t class.semicolon ∷ []) = cc in form-set-case told-c (rw z at e)
-    source-good (suc i) q = clash cc
+    source-good zero q = form-set-case told-c (under-it q)
+    source-good (suc i) q = no-alternative q
 
     form-good : (i : ℕ) → alternativeOf rules <form> i ≡ some a → Stated d <form> i c
     unfolding rules
-    form-good zero q = let z : a ≡ plain (t class.«form» ∷ t class.«formid» ∷ t class.«=» ∷ r <id> ∷ t class.comma ∷ t class.«title» ∷ t class.«=» ∷ r <str> ∷ t class.semicolon ∷ r <item-or-rule>* ∷ t class.«endform» ∷ t class.semicolon ∷ []) = cc in form-case told-c (rw z at e)
-    form-good (suc i) q = clash cc
+    form-good zero q = form-case told-c (under-it q)
+    form-good (suc i) q = no-alternative q
 
     option-good : (i : ℕ) → alternativeOf rules <option> i ≡ some a → Stated d <option> i c
     unfolding rules
-    option-good zero q = let z : a ≡ plain (t class.«option» ∷ t class.«text» ∷ t class.«=» ∷ r <str> ∷ t class.comma ∷ t class.«value» ∷ t class.«=» ∷ r <large> ∷ t class.comma ∷ t class.«flags» ∷ t class.«=» ∷ r <option-flags> ∷ t class.semicolon ∷ []) = cc in option-case told-c (rw z at e)
-    option-good (suc i) q = clash cc
+    option-good zero q = option-case told-c (under-it q)
+    option-good (suc i) q = no-alternative q
 
     forms-good : (i : ℕ) → alternativeOf rules <form>* i ≡ some a → Stated d <form>* i c
     unfolding rules
-    forms-good zero q = let z : a ≡ plain [] = cc in no-forms-case (rw z at e)
-    forms-good (suc zero) q = let z : a ≡ plain (r <form> ∷ r <form>* ∷ []) = cc in more-forms-case (rw z at e)
-    forms-good (suc (suc i)) q = clash cc
+    forms-good zero q = no-forms-case (under-it q)
+    forms-good (suc zero) q = more-forms-case (under-it q)
+    forms-good (suc (suc i)) q = no-alternative q
 
     items-or-rules-good : (i : ℕ) → alternativeOf rules <item-or-rule>* i ≡ some a → Stated d <item-or-rule>* i c
     unfolding rules
-    items-or-rules-good zero q = let z : a ≡ plain [] = cc in no-items-or-rules-case (rw z at e)
-    items-or-rules-good (suc zero) q = let z : a ≡ plain (r <item> ∷ r <item-or-rule>* ∷ []) = cc in item-first-case (rw z at e)
-    items-or-rules-good (suc (suc zero)) q = let z : a ≡ plain (r <rule> ∷ r <item-or-rule>* ∷ []) = cc in rule-first-case (rw z at e)
-    items-or-rules-good (suc (suc (suc i))) q = clash cc
+    items-or-rules-good zero q = no-items-or-rules-case (under-it q)
+    items-or-rules-good (suc zero) q = item-first-case (under-it q)
+    items-or-rules-good (suc (suc zero)) q = rule-first-case (under-it q)
+    items-or-rules-good (suc (suc (suc i))) q = no-alternative q
 
     options-good : (i : ℕ) → alternativeOf rules <option>* i ≡ some a → Stated d <option>* i c
     unfolding rules
-    options-good zero q = let z : a ≡ plain [] = cc in no-options-case (rw z at e)
-    options-good (suc zero) q = let z : a ≡ plain (r <option> ∷ r <option>* ∷ []) = cc in more-options-case (rw z at e)
-    options-good (suc (suc i)) q = clash cc
+    options-good zero q = no-options-case (under-it q)
+    options-good (suc zero) q = more-options-case (under-it q)
+    options-good (suc (suc i)) q = no-alternative q
 
     items-good : (i : ℕ) → alternativeOf rules <item>* i ≡ some a → Stated d <item>* i c
     unfolding rules
-    items-good zero q = let z : a ≡ plain [] = cc in no-items-case (rw z at e)
-    items-good (suc zero) q = let z : a ≡ plain (r <item> ∷ r <item>* ∷ []) = cc in more-items-case (rw z at e)
-    items-good (suc (suc i)) q = clash cc
+    items-good zero q = no-items-case (under-it q)
+    items-good (suc zero) q = more-items-case (under-it q)
+    items-good (suc (suc i)) q = no-alternative q
 
   -- conditions and rules need to know the depth
   module _ (x y : ℕ) (a : Alternative) (c : Trees) (h : Fitted (deeper (depth x y) (a .opens)) (a .symbols) c) (e : Each (deeper (depth x y) (a .opens)) (a .symbols) c) where
     told-d : Told source look c
     told-d = told source look (to-fits h)
 
+    under-that : {b : Alternative} → some b ≡ some a → Each (deeper (depth x y) (b .opens)) (b .symbols) c
+    under-that q = subst (λ b. Each (deeper (depth x y) (b .opens)) (b .symbols) c) (sym (alternative-is q)) e
+
     rule-good : (i : ℕ) → alternativeOf rules <rule> i ≡ some a → Stated (depth x y) <rule> i c
     unfolding rules
-    rule-good zero q = let z : a ≡ plain (t class.«rule» ∷ t class.NAME ∷ t class.comma ∷ r <expression> ∷ t class.«endrule» ∷ t class.semicolon ∷ []) = cc in rule-case told-d (rw z at e)
-    rule-good (suc i) q = clash cc
+    rule-good zero q = rule-case told-d (under-that q)
+    rule-good (suc i) q = no-alternative q
 
     item-good : (i : ℕ) → alternativeOf rules <item> i ≡ some a → Stated (depth x y) <item> i c
     unfolding rules
-    item-good zero q = let z : a ≡ plain (t class.«subtitle» ∷ t class.«text» ∷ t class.«=» ∷ r <str> ∷ t class.semicolon ∷ []) = cc in subtitle-case told-d (rw z at e)
-    item-good (suc zero) q = let z : a ≡ plain (t class.«text» ∷ t class.«help» ∷ t class.«=» ∷ r <str> ∷ t class.comma ∷ t class.«text» ∷ t class.«=» ∷ r <str> ∷ t class.semicolon ∷ []) = cc in text-case told-d (rw z at e)
-    item-good (suc (suc zero)) q = let z : a ≡ plain (t class.«label» ∷ r <small> ∷ t class.semicolon ∷ []) = cc in label-case told-d (rw z at e)
-    item-good (suc (suc (suc zero))) q = let z : a ≡ plain (t class.«goto» ∷ r <id> ∷ t class.comma ∷ r <head> ∷ r <goto-flags>? ∷ t class.semicolon ∷ []) = cc in goto-case told-d (rw z at e)
-    item-good (suc (suc (suc (suc zero)))) q = let z : a ≡ plain (t class.«checkbox» ∷ r <head> ∷ t class.comma ∷ r <flags>? ∷ r <truth-default>? ∷ t class.«endcheckbox» ∷ t class.semicolon ∷ []) = cc in checkbox-case told-d (rw z at e)
-    item-good (suc (suc (suc (suc (suc zero))))) q = let z : a ≡ plain (t class.«numeric» ∷ r <head> ∷ t class.comma ∷ r <flags>? ∷ t class.«minimum» ∷ t class.«=» ∷ r <large> ∷ t class.comma ∷ t class.«maximum» ∷ t class.«=» ∷ r <large> ∷ t class.comma ∷ r <step>? ∷ r <number-default>? ∷ t class.«endnumeric» ∷ t class.semicolon ∷ []) = cc in numeric-case told-d (rw z at e)
-    item-good (suc (suc (suc (suc (suc (suc zero)))))) q = let z : a ≡ plain (t class.«oneof» ∷ r <head> ∷ t class.comma ∷ r <flags>? ∷ r <option> ∷ r <option>* ∷ t class.«endoneof» ∷ t class.semicolon ∷ []) = cc in one-of-case told-d (rw z at e)
-    item-good (suc (suc (suc (suc (suc (suc (suc zero))))))) q = let z : a ≡ condition (t class.«suppressif» ∷ r <expression> ∷ t class.semicolon ∷ r <item>* ∷ t class.«endif» ∷ t class.semicolon ∷ []) = cc in suppress-case told-d (rw z at e)
-    item-good (suc (suc (suc (suc (suc (suc (suc (suc zero)))))))) q = let z : a ≡ condition (t class.«grayoutif» ∷ r <expression> ∷ t class.semicolon ∷ r <item>* ∷ t class.«endif» ∷ t class.semicolon ∷ []) = cc in gray-out-case told-d (rw z at e)
-    item-good (suc (suc (suc (suc (suc (suc (suc (suc (suc zero))))))))) q = let z : a ≡ condition (t class.«disableif» ∷ r <expression> ∷ t class.semicolon ∷ r <item>* ∷ t class.«endif» ∷ t class.semicolon ∷ []) = cc in disable-case told-d (rw z at e)
-    item-good (suc (suc (suc (suc (suc (suc (suc (suc (suc (suc i)))))))))) q = clash cc
+    item-good zero q = subtitle-case told-d (under-that q)
+    item-good (suc zero) q = text-case told-d (under-that q)
+    item-good (suc (suc zero)) q = label-case told-d (under-that q)
+    item-good (suc (suc (suc zero))) q = goto-case told-d (under-that q)
+    item-good (suc (suc (suc (suc zero)))) q = checkbox-case told-d (under-that q)
+    item-good (suc (suc (suc (suc (suc zero))))) q = numeric-case told-d (under-that q)
+    item-good (suc (suc (suc (suc (suc (suc zero)))))) q = one-of-case told-d (under-that q)
+    item-good (suc (suc (suc (suc (suc (suc (suc zero))))))) q = suppress-case told-d (under-that q)
+    item-good (suc (suc (suc (suc (suc (suc (suc (suc zero)))))))) q = gray-out-case told-d (under-that q)
+    item-good (suc (suc (suc (suc (suc (suc (suc (suc (suc zero))))))))) q = disable-case told-d (under-that q)
+    item-good (suc (suc (suc (suc (suc (suc (suc (suc (suc (suc i)))))))))) q = no-alternative q
 
   stated : (d : Depth) (A i : ℕ) (a : Alternative) (c : Trees) → alternativeOf rules A i ≡ some a → Fitted (deeper d (a .opens)) (a .symbols) c → Each (deeper d (a .opens)) (a .symbols) c → states A ≡ true → Stated d A i c
   stated (depth x y) A i a c q h e s =

@@ -12,13 +12,14 @@ use lib.ListN.{length}
 use borrow.Author.Tests.{not-true}
 use Rattle.ll1.specs.Trees.{Trees, nil, leaf, node, Symbol, Alternative, alternativeOf, Fits, fits-nil, fits-leaf, fits-node}
 use Rattle.ll1.proofs.Basics.{both}
-use Rattle.lex.proofs.Lists.{either}
+use Rattle.lexemes.proofs.Lists.{either}
 use Rattle.grammar.specs.Rules.{<source>, <form>, <rule>, <item>, <option>}
 use Rattle.grammar.specs.Grammar.{rules}
-use Rattle.grammar.specs.Rows.{Draft, when, rulesIn, ownRows, parentIn, draftsOf}
-use Rattle.grammar.specs.Rows as Rows
-use Rattle.grammar.specs.Text as Text
-use Rattle.grammar.specs.Text.{Word, around, wordsOf}
+use Rattle.answers.specs.Rows.{Draft, rulesIn, ownRows, parentIn, draftsOf}
+use Rattle.grammar.specs.Parts.{when}
+use Rattle.answers.specs.Rows as Rows
+use Rattle.answers.specs.Text as Text
+use Rattle.answers.specs.Text.{Word, around, wordsOf}
 use Rattle.grammar.proofs.Statements.{statements, states, apart, free, no-statements}
 
 -- the nodes that state something

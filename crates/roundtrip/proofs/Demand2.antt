@@ -6,24 +6,24 @@ use mathlib.Core.Bool.{true, false}
 use Prim.Native.Nat.{ℕ, _/_, _≤_}
 use native.Mathlib.Omega.{arith}
 use lib.Dec.{eqb, ltb}
-use lib.ListN.{length, take}
+use lib.ListN.{length}
 use borrow.Author.Tests.{eqb-true, eqb-false, ltb-false}
-use Rattle.lex.proofs.Lists.{either}
+use Rattle.lexemes.proofs.Lists.{either}
 use Rattle.numbers.specs.Numbers.{numbered, freeCount}
 use Rattle.rows.specs.Columns as column
 use Rattle.rows.specs.Columns.{ROW}
 use Rattle.ll1.specs.Trees.{Trees}
-use Rattle.grammar.specs.Rows.{Draft}
-use Rattle.grammar.specs.Stages.{cell, ownNumbers, finished}
-use Rattle.grammar.specs.Answer.{LIMIT, derived, checked, accepts, drafts, readAnswer, rowsOf}
-use Rattle.grammar.specs.Text.{wordsOf, textOf, rowFirstAt, resolvedText}
-use Rattle.grammar.specs.Resolution.{textOfSource, room, resolvedInto, resolution, resolvedOutput}
-use Rattle.grammar.specs.Demand3.{Sound, Passes, to-4, to-5, to-6, to-7, to-8, to-9, to-10, to-11, to-12}
-use Rattle.grammar.proofs.Checks.{checked-derived}
-use Rattle.grammar.proofs.Answers.{sound-passes, passes-sound, past-12}
-use Rattle.grammar.proofs.Demand3.{accepts-passing}
+use Rattle.answers.specs.Rows.{Draft}
+use Rattle.answers.specs.Stages.{cell, ownNumbers, finished}
+use Rattle.answers.specs.Answer.{LIMIT, derived, checked, accepts, drafts, readAnswer, rowsOf}
+use Rattle.answers.specs.Text.{wordsOf, textOf, rowFirstAt, resolvedText}
+use Rattle.answers.specs.Resolution.{textOfSource, room, resolvedInto, resolution, resolvedOutput}
+use Rattle.answers.specs.Demand3.{Sound, Passes, to-4, to-5, to-6, to-7, to-8, to-9, to-10, to-11, to-12}
+use Rattle.answers.proofs.Checks.{checked-derived}
+use Rattle.answers.proofs.Answers.{sound-passes, passes-sound, past-12}
+use Rattle.answers.proofs.Demand3.{accepts-passing}
 use Rattle.sound.proofs.Lists.{All, none, more}
-use Rattle.grammar.proofs.RowPlaces.{rows-by-place}
+use Rattle.answers.proofs.RowPlaces.{rows-by-place}
 use Rattle.again.specs.Matches.{final, Match, Pairs, no-pairs, pair}
 use Rattle.roundtrip.proofs.Canon.{Found, pairs-length}
 use Rattle.again.proofs.Lists.{all-with}
@@ -41,9 +41,12 @@ same-all : (f g : Draft → List ℕ) (ds : List Draft) → map f ds ≡ map g d
 same-all f g [] e = none
 same-all f g (d ∷ ds) e = let h : f d ≡ g d = cc in let k : map f ds ≡ map g ds = cc in more h (same-all f g ds k)
 
-same-ten : {t : List ℕ} {look : ℕ → List ℕ} {ds′ ds : List Draft} → Pairs (Match t look) ds′ ds → map (take 10) (map (final t) ds′) ≡ map (take 10) (map (λ d. look (cell column.PLACE d)) ds)
-same-ten no-pairs = refl
-same-ten (pair m p) = ap₂ (λ x y. x ∷ y) (m .same) (same-ten p)
+-- rows that match are the same but their places
+same-but-places :
+    {t : List ℕ} {look : ℕ → List ℕ} {ds′ ds : List Draft}
+    → Pairs (Match t look) ds′ ds → besidesPlaces (map (final t) ds′) ≡ besidesPlaces (map (λ d. look (cell column.PLACE d)) ds)
+same-but-places no-pairs = refl
+same-but-places (pair m p) = ap₂ (λ x y. x ∷ y) (m .same) (same-but-places p)
 
 -- ---- a source that resolves
 
@@ -131,8 +134,8 @@ module _ (s : List ℕ) (n m : ℕ) (r : Resolved s n m) where
 
   rows′ : besidesPlaces (rowsOf t) ≡ besidesPlaces (rowsOf s)
   rows′ =
-      ap (map (take 10)) (rows-of′ ∙ finished′) ∙ same-ten (the-trip .rows)
-      ∙ ap (map (take 10)) (rows-by-place s tree (r .sound .derives) ∙ sym rows-of)
+      ap besidesPlaces (rows-of′ ∙ finished′) ∙ same-but-places (the-trip .rows)
+      ∙ ap besidesPlaces (rows-by-place s tree (r .sound .derives) ∙ sym rows-of)
 
   found′ : All (Found t (looked t tree′)) (drafts t tree′)
   found′ = same-all (λ d. looked t tree′ (cell column.PLACE d)) (final t) (drafts t tree′) (rows-by-place t tree′ (the-trip .derives) ∙ finished′)

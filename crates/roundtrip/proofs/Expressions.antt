@@ -3,62 +3,29 @@
 use mathlib.Core.Path.{_≡_, refl, ap, ap₂, sym, _∙_, subst}
 use mathlib.Core.List.{List, [], _∷_, _++_}
 use mathlib.Core.Bool.{Bool, true, false, _||_}
-use Prim.Native.Nat.{ℕ, _+_, _-_, _<_}
+use Prim.Native.Nat.{ℕ, _-_}
 use native.Mathlib.Omega.{arith}
 use lib.Dec.{eqb}
 use lib.ListN.{getD, take, drop}
-use Rattle.lex.specs.Tokens as lex
+use Rattle.lexemes.specs.Words as lex
 use Rattle.rows.specs.Codes as code
 use Rattle.rows.specs.Codes.{member, questions, isQuestion}
 use Rattle.rows.specs.Columns as column
-use Rattle.ll1.specs.Trees.{Trees, nil, node}
 use Rattle.ll1.proofs.Basics.{clash}
-use Rattle.grammar.specs.Rules.{<expression>}
 use Rattle.grammar.specs.Source.{numberAt}
-use Rattle.grammar.specs.Expression.{Operator, or, and, bit-or, bit-and, equal, not-equal, less, less-equal, greater, greater-equal, shift-left, shift-right, add, subtract, multiply, divide, modulo, operatorCode}
-use Rattle.grammar.specs.Expression.{Constant, true′, false′, zero′, one′, ones′, undefined′, constantCode}
-use Rattle.grammar.specs.Expression.{Expression, number, constant, question-named, question-numbered, rule-named, negation, binary, nothing, spelled, expression}
-use Rattle.grammar.specs.Rows.{Draft, mark, columns, operand, expressionRows}
-use Rattle.grammar.specs.Text.{held}
+use Rattle.answers.specs.Expression.{Operator, or, and, bit-or, bit-and, equal, not-equal, less, less-equal, greater, greater-equal, shift-left, shift-right, add, subtract, multiply, divide, modulo, operatorCode}
+use Rattle.answers.specs.Expression.{Constant, true′, false′, zero′, one′, ones′, undefined′, constantCode}
+use Rattle.answers.specs.Expression.{Expression, number, constant, question-named, question-numbered, rule-named, negation, binary}
+use Rattle.answers.specs.Rows.{Draft, columns, operand, expressionRows}
+use Rattle.grammar.specs.Parts.{mark}
+use Rattle.answers.specs.Text.{held}
 use Rattle.sound.proofs.Lists.{All, none, more}
-use Rattle.roundtrip.proofs.Shapes.{ruleWord, Shape, s-nil, s-node, Over, over-nil, over-node}
-use Rattle.roundtrip.proofs.Formula.{Formula, f-number, f-constant, f-question, f-rule, f-not, f-binary, formula}
-use Rattle.roundtrip.proofs.FormulaTree.{tree, Rel, rel-number, rel-constant, rel-question, rel-rule, rel-not, rel-binary}
-use Rattle.roundtrip.proofs.FormulaGood.{good}
+use Rattle.formulas.specs.Shapes.{ruleWord}
+use Rattle.formulas.specs.Formula.{Formula, f-number, f-question, f-rule, f-not, f-binary, formula}
+use Rattle.formulas.specs.Tree.{Rel, rel-number, rel-constant, rel-question, rel-rule, rel-not, rel-binary}
 use Rattle.roundtrip.proofs.PhraseRows.{value-of}
 use Rattle.again.specs.Matches.{Settled, final, Match, Pairs, no-pairs, pair}
-use Rattle.roundtrip.proofs.Canon.{part, Found, pairs-append}
-
--- ---- the tree of an expression is one node
-
-pub tree-node : (e : Formula) (f : Shape) → tree e 9 f ≡ s-node <expression> 0 (part 0 (tree e 9 s-nil)) f
-tree-node (f-number v) f = refl
-tree-node (f-constant true′) f = refl
-tree-node (f-constant false′) f = refl
-tree-node (f-constant zero′) f = refl
-tree-node (f-constant one′) f = refl
-tree-node (f-constant ones′) f = refl
-tree-node (f-constant undefined′) f = refl
-tree-node (f-question q) f = refl
-tree-node (f-rule q) f = refl
-tree-node (f-not e) f = refl
-tree-node (f-binary or l r) f = refl
-tree-node (f-binary and l r) f = refl
-tree-node (f-binary bit-or l r) f = refl
-tree-node (f-binary bit-and l r) f = refl
-tree-node (f-binary equal l r) f = refl
-tree-node (f-binary not-equal l r) f = refl
-tree-node (f-binary less l r) f = refl
-tree-node (f-binary less-equal l r) f = refl
-tree-node (f-binary greater l r) f = refl
-tree-node (f-binary greater-equal l r) f = refl
-tree-node (f-binary shift-left l r) f = refl
-tree-node (f-binary shift-right l r) f = refl
-tree-node (f-binary add l r) f = refl
-tree-node (f-binary subtract l r) f = refl
-tree-node (f-binary multiply l r) f = refl
-tree-node (f-binary divide l r) f = refl
-tree-node (f-binary modulo l r) f = refl
+use Rattle.roundtrip.proofs.Canon.{Found, pairs-append}
 
 pub all-parts : {P : Draft → Type 0} (ds es : List Draft) → All P (ds ++ es) → All P ds × All P es
 all-parts [] es h = (none, h)
@@ -205,21 +172,3 @@ module _ (t : List ℕ) (look : ℕ → List ℕ) (at : ℕ) where
       let u = all-parts (expressionRows (numberAt t) at l) _ f in
       let v = all-parts (expressionRows (numberAt t) at r) _ (u .1) in
       ap₂ (f-binary o) (formula-again h (u .0)) (formula-again k (v .0))
-
--- ---- a tree over an expression's shape
-
-pub data Expressed (t : List ℕ) (e : Formula) (x : Shape) : Trees → Type 0 where
-  an-expression : {c f : Trees} → Over t f x → Rel t (expression c) e → Expressed t e x (node <expression> 0 c f)
-
-pub expressed : (t : List ℕ) (e : Formula) (x : Shape) {T : Trees} → Over t T (tree e 9 x) → Expressed t e x T
-unfolding expression
-expressed t e x {T} o = by (subst (λ y. Over t T y) (tree-node e x) o)
-  where
-    ended : {B : Trees} (a : Expression) → Over t B s-nil → spelled a nothing B ≡ a
-    ended a over-nil = refl
-
-    by : {T : Trees} → Over t T (s-node <expression> 0 (part 0 (tree e 9 s-nil)) x) → Expressed t e x T
-    by (over-node {c = c} {f = f} o₁ o₂) =
-        let m = good t e .whole 9 (omega arith) .means s-nil (node <expression> 0 c nil) (subst (λ y. Over t (node <expression> 0 c nil) y) (sym (tree-node e s-nil)) (over-node o₁ over-nil)) in
-        let is : expression c ≡ m .expr = m .is (number 0) nothing ∙ ended (m .expr) (m .over) in
-        an-expression o₂ (subst (λ y. Rel t y e) (sym is) (m .rel))

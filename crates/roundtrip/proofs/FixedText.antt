@@ -4,11 +4,11 @@ use Prim.Native.Nat.{ℕ}
 use native.Mathlib.Omega.{arith}
 use mathlib.Core.Path.{_≡_, refl, sym, ap, _∙_}
 use mathlib.Core.List.{List, []}
-use Rattle.lex.specs.Lexemes.{bytes}
-use Rattle.grammar.specs.Answer.{readAnswer}
-use Rattle.grammar.specs.Resolution.{resolution}
-use Rattle.grammar.proofs.Computed.{outcomeIn, resolvedIn}
-use Rattle.grammar.proofs.Decided.{framed-bytes}
+use Rattle.lexemes.specs.Lexemes.{bytes}
+use Rattle.answers.specs.Answer.{readAnswer}
+use Rattle.answers.specs.Resolution.{resolution}
+use Rattle.answers.proofs.Computed.{outcomeIn, resolvedIn}
+use Rattle.answers.proofs.Decided.{framed-bytes}
 use Rattle.roundtrip.specs.Demand2.{ReadsAgain}
 
 -- the numbers of 512 rows, and the bytes of an output

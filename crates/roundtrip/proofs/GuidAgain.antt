@@ -5,7 +5,7 @@ use mathlib.Core.List.{[]}
 use Prim.Native.Nat.{ℕ, _+_, _*_, _/_, _%_, _^_, _<_}
 use native.Mathlib.Omega.{arith}
 use Rattle.ll1.specs.Trees.{Trees}
-use Rattle.grammar.specs.Rows.{guidHigh, guidLow}
+use Rattle.answers.specs.Rows.{guidHigh, guidLow}
 use Rattle.roundtrip.proofs.PhraseRows.{lowOf}
 
 pub high-small : (value : ℕ → ℕ) (g : Trees) → guidHigh value g < 2 ^ 64

@@ -1,12 +1,3 @@
-pub mod Shapes
-pub mod Fitted
-pub mod Formula
-pub mod FormulaTree
-pub mod FormulaGood
-pub mod FormulaWords
-pub mod Inverse
-pub mod Tally
-pub mod FormulaSource
 pub mod Phrases
 pub mod PhraseWords
 pub mod PhraseFits

@@ -7,20 +7,23 @@ use Prim.Native.Nat.{ℕ, suc, _+_, _-_, _/_, _%_, _^_, _<_}
 use native.Mathlib.Omega.{arith}
 use lib.Dec.{eqb, ltb}
 use lib.ListN.{take, drop}
-use Rattle.lex.specs.Tokens as lex
+use Rattle.lexemes.specs.Words as lex
 use Rattle.rows.specs.Codes as code
 use Rattle.rows.specs.Codes.{member, questions, isQuestion}
 use Rattle.rows.specs.Columns as column
 use Rattle.rows.specs.Flags as flag
 use Rattle.ll1.specs.Trees.{Trees}
 use Rattle.ll1.proofs.Basics.{clash}
+use Rattle.grammar.specs.Flags as Flags
 use Rattle.grammar.specs.Source.{numberAt}
 use Rattle.grammar.specs.Parts.{child, chosen, placeAt}
-use Rattle.grammar.specs.Rows.{mark, when, columns, flags, value, string, nameMark, item, option, ruleDraft, form, guidHigh, guidLow, guidBytes, formSet}
-use Rattle.grammar.specs.Rows as Rows
-use Rattle.grammar.specs.Text.{hasFlag}
-use Rattle.roundtrip.proofs.Shapes.{ruleWord, Shape, Over}
-use Rattle.roundtrip.proofs.Formula.{Formula}
+use Rattle.grammar.specs.Parts.{mark, when}
+use Rattle.answers.specs.Rows.{columns, value, string, nameMark, item, option, ruleDraft, form, guidHigh, guidLow, guidBytes, formSet}
+use Rattle.grammar.specs.Flags.{flags}
+use Rattle.answers.specs.Rows as Rows
+use Rattle.answers.specs.Text.{hasFlag}
+use Rattle.formulas.specs.Shapes.{ruleWord, Shape, Over}
+use Rattle.formulas.specs.Formula.{Formula}
 use Rattle.roundtrip.proofs.Phrases.{cell, subtitleUnder, textUnder, labelUnder, gotoUnder, checkboxUnder, numericUnder, oneOfUnder, optionUnder, ruleUnder, formUnder, formSetUnder}
 use Rattle.roundtrip.proofs.PhraseRows.{flagSum, marked, subtitle-is, text-is, label-is, goto-is, checkbox-is, numeric-is, one-of-is, option-is, rule-is, form-is, highOf, lowOf, form-set-is}
 use Rattle.again.specs.Matches.{Settled, Match}
@@ -183,7 +186,7 @@ module _ (t : List ℕ) (look : ℕ → List ℕ) (source : ℕ → ℕ) (parent
       let F = child 4 c in
       let q = goto-is t (hasFlag flag.READ-ONLY r) (hasFlag flag.INTERACTIVE r) (hasFlag flag.RESET-REQUIRED r) r parent o in
       let e : r ≡ columns code.GOTO parent (s .own) (string source 4 h) (string source 8 h) (flags F) (s .a) 0 0 0 (nameMark source h) (placeAt 0 c) = s .is-row in
-      let fl = flags-again (Rows.hasFlag 0 F) (Rows.hasFlag 1 F) (Rows.hasFlag 2 F) in
+      let fl = flags-again (Flags.hasFlag 0 F) (Flags.hasFlag 1 F) (Flags.hasFlag 2 F) in
       record {
         twelve = refl;
         same =
@@ -204,7 +207,7 @@ module _ (t : List ℕ) (look : ℕ → List ℕ) (source : ℕ → ℕ) (parent
       let F = child 3 c in
       let q = one-of-is t (hasFlag flag.READ-ONLY r) (hasFlag flag.INTERACTIVE r) (hasFlag flag.RESET-REQUIRED r) r x parent o in
       let e : r ≡ columns code.ONE-OF parent (s .own) (string source 4 h) (string source 8 h) (flags F) 0 0 0 0 (nameMark source h) (placeAt 0 c) = s .is-row ∙ (λ j. columns code.ONE-OF parent (s .own) (string source 4 h) (string source 8 h) (flags F) (s .a-same refl j) 0 0 0 (nameMark source h) (placeAt 0 c)) in
-      let fl = flags-again (Rows.hasFlag 0 F) (Rows.hasFlag 1 F) (Rows.hasFlag 2 F) in
+      let fl = flags-again (Flags.hasFlag 0 F) (Flags.hasFlag 1 F) (Flags.hasFlag 2 F) in
       record {
         twelve = refl;
         same =
@@ -225,9 +228,9 @@ module _ (t : List ℕ) (look : ℕ → List ℕ) (source : ℕ → ℕ) (parent
       let F = child 3 c in
       let d = eqb (chosen 4 c) 1 in
       let v = eqb (chosen 2 (child 4 c)) 0 in
-      let b₁ = Rows.hasFlag 0 F in
-      let b₂ = Rows.hasFlag 1 F in
-      let b₃ = Rows.hasFlag 2 F in
+      let b₁ = Flags.hasFlag 0 F in
+      let b₂ = Flags.hasFlag 1 F in
+      let b₃ = Flags.hasFlag 2 F in
       let x = with-default b₁ b₂ b₃ d in
       let q = checkbox-is t (hasFlag flag.READ-ONLY r) (hasFlag flag.INTERACTIVE r) (hasFlag flag.RESET-REQUIRED r) (hasFlag flag.HAS-DEFAULT r) (eqb (cell column.D r) 1) r parent o in
       let e : r ≡ columns code.CHECKBOX parent (s .own) (string source 4 h) (string source 8 h) x 0 0 0 (when d (when v 1)) (nameMark source h) (placeAt 0 c) = s .is-row ∙ (λ j. columns code.CHECKBOX parent (s .own) (string source 4 h) (string source 8 h) x (s .a-same refl j) 0 0 (when d (when v 1)) (nameMark source h) (placeAt 0 c)) in
@@ -254,9 +257,9 @@ module _ (t : List ℕ) (look : ℕ → List ℕ) (source : ℕ → ℕ) (parent
       let F = child 3 c in
       let d = eqb (chosen 13 c) 1 in
       let v = value source 2 (child 13 c) in
-      let b₁ = Rows.hasFlag 0 F in
-      let b₂ = Rows.hasFlag 1 F in
-      let b₃ = Rows.hasFlag 2 F in
+      let b₁ = Flags.hasFlag 0 F in
+      let b₂ = Flags.hasFlag 1 F in
+      let b₃ = Flags.hasFlag 2 F in
       let x = with-default b₁ b₂ b₃ d in
       let st = when (eqb (chosen 12 c) 1) (value source 2 (child 12 c)) in
       let m = numeric-is t (hasFlag flag.READ-ONLY r) (hasFlag flag.INTERACTIVE r) (hasFlag flag.RESET-REQUIRED r) (hasFlag flag.HAS-DEFAULT r) r parent o in

@@ -6,7 +6,7 @@ use mathlib.Core.Option.{some}
 use mathlib.Core.Bool.{Bool, true, false, not, _||_}
 use Prim.Native.Nat.{ℕ, suc, _+_, _≤_}
 use native.Mathlib.Omega.{arith}
-use Rattle.lex.specs.Classes as class
+use Rattle.lexemes.specs.Classes as class
 use Rattle.rows.specs.Columns as column
 use Rattle.ll1.specs.Trees.{token, Trees, nil, leaf, node, Symbol, nonterminal, alternativeOf, Depth, depth}
 use Rattle.ll1.proofs.Basics.{clash}
@@ -14,10 +14,11 @@ use Rattle.grammar.specs.Notation.{t, r, plain}
 use Rattle.grammar.specs.Rules.{<source>, <form>*, <guid>, <str>, <form>, <item-or-rule>*, <rule>, <item>, <goto-flags>?, <flags>?, <truth-default>?, <truth>, <step>?, <number-default>?, <option>*, <item>*, <option>, <option-flags>, <head>, <fl>}
 use Rattle.grammar.specs.Grammar.{rules}
 use Rattle.grammar.specs.Derivation.{tooDeep}
-use Rattle.roundtrip.proofs.Shapes.{Shape, s-nil, flat}
-use Rattle.roundtrip.proofs.Fitted.{Fitted, f-nil, f-leaf, f-node, fine}
-use Rattle.roundtrip.proofs.Formula.{Formula, nest}
-use Rattle.roundtrip.proofs.FormulaGood.{good}
+use Rattle.formulas.specs.Shapes.{Shape, s-nil, flat}
+use Rattle.formulas.specs.Fitted.{Fitted, f-nil, f-leaf, f-node}
+use Rattle.formulas.proofs.Fitted.{fine}
+use Rattle.formulas.specs.Formula.{Formula, nest}
+use Rattle.formulas.proofs.Good.{good}
 use Rattle.roundtrip.proofs.Phrases.{cell, say, present, stringUnder, headUnder, flagsUnder, gotoFlagsUnder, otherFlagsUnder, truthUnder, truthDefaultUnder, numberDefaultUnder, optionFlagsUnder, stepUnder, subtitleUnder, textUnder, labelUnder, gotoUnder, checkboxUnder, numericUnder, oneOfUnder, conditionUnder, optionUnder, ruleUnder, formUnder, guidUnder, formSetUnder}
 
 module _ {d : Depth} (u : tooDeep d ≡ false) where

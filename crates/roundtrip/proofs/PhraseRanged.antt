@@ -4,11 +4,11 @@ use mathlib.Core.List.{List}
 use mathlib.Core.Bool.{Bool, true, false}
 use Prim.Native.Nat.{ℕ, _^_, _<_}
 use native.Mathlib.Omega.{arith}
-use Rattle.lex.specs.Classes as class
+use Rattle.lexemes.specs.Classes as class
 use Rattle.rows.specs.Columns as column
 use Rattle.grammar.specs.Ranges.{ranges, rangeOf}
-use Rattle.roundtrip.proofs.Shapes.{Shape}
-use Rattle.roundtrip.proofs.Formula.{Formula}
+use Rattle.formulas.specs.Shapes.{Shape}
+use Rattle.formulas.specs.Formula.{Formula}
 use Rattle.roundtrip.proofs.Phrases.{cell, say, stringUnder, headUnder, gotoFlagsUnder, otherFlagsUnder, truthDefaultUnder, numberDefaultUnder, optionFlagsUnder, stepUnder, subtitleUnder, textUnder, labelUnder, gotoUnder, checkboxUnder, numericUnder, oneOfUnder, conditionUnder, optionUnder, ruleUnder, formUnder, eightUnder, guidUnder, formSetUnder}
 use Rattle.roundtrip.proofs.Canon.{ending}
 use Rattle.roundtrip.proofs.Ranged.{Ranged, Fine, formula-ranged}

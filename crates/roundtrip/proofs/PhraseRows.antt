@@ -1,6 +1,6 @@
 -- The row of a tree over a statement's shape has the cells that the shape was made from.
 -- Assumes nothing.
-use mathlib.Core.Path.{_≡_, refl, ap₂, _∙_}
+use mathlib.Core.Path.{_≡_, refl, ap, ap₂, _∙_}
 use mathlib.Core.List.{List}
 use mathlib.Core.Bool.{Bool, true, false, _&&_, _||_}
 use Prim.Native.Nat.{ℕ, suc, _+_, _*_, _/_, _%_, _^_}
@@ -8,20 +8,23 @@ use native.Mathlib.Omega.{arith}
 use lib.Dec.{eqb, ltb}
 use lib.ListN.{drop}
 use borrow.Author.Tests.{lt-ltb}
-use Rattle.lex.specs.declared.Value.the-variants.{Fits as FitsWord}
-use Rattle.lex.specs.Numbers.{valueAt}
-use Rattle.lex.specs.Tokens as lex
+use Rattle.values.specs.declared.Value.the-variants.{Fits as FitsWord}
+use Rattle.values.specs.Numbers.{valueAt}
+use Rattle.lexemes.specs.Words as lex
 use Rattle.rows.specs.Codes as code
 use Rattle.rows.specs.Columns as column
 use Rattle.rows.specs.Flags as flag
 use Rattle.ll1.specs.Trees.{Trees}
 use Rattle.grammar.specs.Rules.{<flag>}
 use Rattle.grammar.specs.Source.{numberAt}
-use Rattle.grammar.specs.Parts.{placeAt}
-use Rattle.grammar.specs.Rows.{Draft, mark, when, columns, hasFlag, flags, value, string, writtenNumber, writtenMark, nameMark, item, option, form, guidHigh, guidLow, guidBytes, formSet}
-use Rattle.roundtrip.proofs.Shapes.{decimal, hex, ruleWord, Shape, s-nil, s-leaf, s-node, read-sign, read-decimal, read-rule, read-hex, Over, over-nil, over-leaf, over-node}
-use Rattle.roundtrip.proofs.Formula.{Formula}
-use Rattle.roundtrip.proofs.Phrases.{cell, stringUnder, headUnder, gotoFlagsUnder, otherFlagsUnder, subtitleUnder, textUnder, labelUnder, gotoUnder, checkboxUnder, numericUnder, oneOfUnder, optionUnder, ruleUnder, formUnder, eightUnder, guidUnder, formSetUnder}
+use Rattle.grammar.specs.Parts.{child, placeAt}
+use Rattle.answers.specs.Rows.{Draft, columns, numeralAt, value, string, writtenNumber, writtenMark, nameMark, item, option, form, guidHigh, guidLow, guidBytes, formSet}
+use Rattle.grammar.specs.Parts.{mark, when}
+use Rattle.grammar.specs.Flags.{hasFlag, flags}
+use Rattle.formulas.specs.Shapes.{decimal, hex, ruleWord, Shape, s-nil, s-leaf, s-node, taken, read-sign, read-decimal, read-rule, read-hex, Over, over-nil, over-leaf, over-node}
+use Rattle.formulas.proofs.Shapes.{over-part, over-taken}
+use Rattle.formulas.specs.Formula.{Formula}
+use Rattle.roundtrip.proofs.Phrases.{cell, present, truthDefaultUnder, numberDefaultUnder, stringUnder, headUnder, gotoFlagsUnder, otherFlagsUnder, subtitleUnder, textUnder, labelUnder, gotoUnder, checkboxUnder, numericUnder, oneOfUnder, optionUnder, ruleUnder, formUnder, eightUnder, guidUnder, formSetUnder}
 
 -- ---- flags
 
@@ -85,7 +88,7 @@ module _ (t : List ℕ) where
   hex-is (over-leaf {p = p} (read-hex h k) over-nil) = value-of p h
 
   string-is : (n : ℕ) {T : Trees} → Over t T (stringUnder n) → value N 2 T ≡ n
-  string-is n (over-leaf read-sign (over-leaf read-sign (over-node o (over-leaf read-sign over-nil)))) = number-is o
+  string-is n o = number-is (over-part 2 o)
 
   pub record HeadIs (h : Trees) (r : List ℕ) : Type 0 where
     pub own : writtenNumber N h ≡ cell column.OWN r
@@ -95,26 +98,52 @@ module _ (t : List ℕ) where
     pub written : ltb 0 (writtenMark N h) ≡ true
 
   head-is : (r : List ℕ) {T : Trees} → Over t T (headUnder r) → HeadIs T r
-  head-is r (over-node over-nil (over-node (over-leaf read-sign (over-leaf read-sign (over-node {c = cₙ} oₙ (over-leaf read-sign over-nil)))) (over-leaf read-sign (over-leaf read-sign (over-node o₁ (over-leaf read-sign (over-leaf read-sign (over-leaf read-sign (over-node o₂ over-nil))))))))) =
-      record { own = number-is oₙ; first = string-is (cell column.FIRST r) o₁; second = string-is (cell column.SECOND r) o₂; unnamed = refl; written = marked (placeAt 0 cₙ) }
+  head-is r {T} o =
+      let n = number-is {v = cell column.OWN r} (over-part 2 (over-part 1 o)) in
+      record {
+        own = λ i. when (eqb (over-taken 1 o i) 1) (n i);
+        first = string-is (cell column.FIRST r) (over-part 4 o);
+        second = string-is (cell column.SECOND r) (over-part 8 o);
+        unnamed = λ i. when (eqb (over-taken 0 o i) 1) (mark (placeAt 2 (child 0 T)));
+        written = ap (λ k. ltb 0 (when (eqb k 1) (mark (numeralAt N 2 (child 1 T))))) (over-taken 1 o) ∙ marked (numeralAt N 2 (child 1 T));
+      }
+
+  -- a part that may be absent
+  present-is : (e : Bool) → eqb (present e) 1 ≡ e
+  present-is true = refl
+  present-is false = refl
+
+  marked-when : (e : Bool) (p : ℕ) → ltb 0 (when e (mark p)) ≡ e
+  marked-when true p = marked p
+  marked-when false p = refl
+
+  -- TRUE is the first alternative
+  truth-is : (e v : Bool) → when e (when (eqb (taken 2 (truthDefaultUnder e v)) 0) 1) ≡ when e (when v 1)
+  truth-is true true = refl
+  truth-is true false = refl
+  truth-is false v = refl
+
+  default-is : (e : Bool) (v : ℕ) {T : Trees} → Over t T (numberDefaultUnder e v) → when e (value N 2 T) ≡ when e v
+  default-is true v o = number-is (over-part 2 o)
+  default-is false v o = refl
 
   -- ---- items that ask nothing
 
   pub subtitle-is : (r : List ℕ) (parent : ℕ) {T : Trees} → Over t T (subtitleUnder r) → item N parent 0 T .row ≡ columns code.SUBTITLE parent 0 (cell column.FIRST r) 0 0 0 0 0 0 0 (placeAt 0 T)
-  subtitle-is r parent (over-leaf {p = p} read-sign (over-leaf read-sign (over-leaf read-sign (over-node o (over-leaf read-sign over-nil))))) =
-      let h = string-is (cell column.FIRST r) o in
-      λ i. columns code.SUBTITLE parent 0 (h i) 0 0 0 0 0 0 0 p
+  subtitle-is r parent {T} o =
+      let h = string-is (cell column.FIRST r) (over-part 3 o) in
+      λ i. columns code.SUBTITLE parent 0 (h i) 0 0 0 0 0 0 0 (placeAt 0 T)
 
   pub text-is : (r : List ℕ) (parent : ℕ) {T : Trees} → Over t T (textUnder r) → item N parent 1 T .row ≡ columns code.TEXT parent 0 (cell column.FIRST r) (cell column.SECOND r) 0 0 0 0 0 0 (placeAt 0 T)
-  text-is r parent (over-leaf {p = p} read-sign (over-leaf read-sign (over-leaf read-sign (over-node o₂ (over-leaf read-sign (over-leaf read-sign (over-leaf read-sign (over-node o₁ (over-leaf read-sign over-nil))))))))) =
-      let h = string-is (cell column.FIRST r) o₁ in
-      let k = string-is (cell column.SECOND r) o₂ in
-      λ i. columns code.TEXT parent 0 (h i) (k i) 0 0 0 0 0 0 p
+  text-is r parent {T} o =
+      let h = string-is (cell column.FIRST r) (over-part 7 o) in
+      let k = string-is (cell column.SECOND r) (over-part 3 o) in
+      λ i. columns code.TEXT parent 0 (h i) (k i) 0 0 0 0 0 0 (placeAt 0 T)
 
   pub label-is : (r : List ℕ) (parent : ℕ) {T : Trees} → Over t T (labelUnder r) → item N parent 2 T .row ≡ columns code.LABEL parent (cell column.OWN r) 0 0 0 0 0 0 0 0 (placeAt 0 T)
-  label-is r parent (over-leaf {p = p} read-sign (over-node o (over-leaf read-sign over-nil))) =
-      let h = number-is {v = cell column.OWN r} o in
-      λ i. columns code.LABEL parent (h i) 0 0 0 0 0 0 0 0 p
+  label-is r parent {T} o =
+      let h = number-is {v = cell column.OWN r} (over-part 1 o) in
+      λ i. columns code.LABEL parent (h i) 0 0 0 0 0 0 0 0 (placeAt 0 T)
 
   -- ---- questions: the row, and that its number is written
 
@@ -124,76 +153,61 @@ module _ (t : List ℕ) where
     pub written : ltb 0 (d .ownAt) ≡ true
 
   pub goto-is : (a b c : Bool) (r : List ℕ) (parent : ℕ) {T : Trees} → Over t T (gotoUnder a b c r) → Question (item N parent 3 T) code.GOTO parent (flagSum a b c) (cell column.A r) 0 0 0 (placeAt 0 T) r
-  goto-is a b c r parent (over-leaf {p = p} read-sign (over-node oₐ (over-leaf read-sign (over-node oₕ (over-node o (over-leaf read-sign over-nil)))))) =
-      let h = head-is r oₕ in
-      let g = number-is {v = cell column.A r} oₐ in
-      let fl = over-flags o ∙ goto-flags-in a b c in
-      record { row = λ i. columns code.GOTO parent (h .own i) (h .first i) (h .second i) (fl i) (g i) 0 0 0 (h .unnamed i) p; written = h .written }
-
-  -- TRUE is the first alternative
-  abbrev truthOf : Bool → ℕ
-  truthOf v = when v 1
+  goto-is a b c r parent {T} o =
+      let h = head-is r (over-part 3 o) in
+      let g = number-is {v = cell column.A r} (over-part 1 o) in
+      let fl = over-flags (over-part 4 o) ∙ goto-flags-in a b c in
+      record { row = λ i. columns code.GOTO parent (h .own i) (h .first i) (h .second i) (fl i) (g i) 0 0 0 (h .unnamed i) (placeAt 0 T); written = h .written }
 
   pub checkbox-is : (a b c e v : Bool) (r : List ℕ) (parent : ℕ) {T : Trees} → Over t T (checkboxUnder a b c e v r) → Question (item N parent 4 T) code.CHECKBOX parent (flagSum a b c + when e flag.HAS-DEFAULT) 0 0 0 (when e (when v 1)) (placeAt 0 T) r
-  checkbox-is a b c true true r parent (over-leaf {p = p} read-sign (over-node oₕ (over-leaf read-sign (over-node o (over-node (over-leaf read-sign (over-leaf read-sign (over-node q (over-leaf read-sign over-nil)))) (over-leaf read-sign (over-leaf read-sign over-nil))))))) =
-      let h = head-is r oₕ in
-      let fl = over-flags o ∙ other-flags-in a b c in
-      record { row = λ i. columns code.CHECKBOX parent (h .own i) (h .first i) (h .second i) (fl i + flag.HAS-DEFAULT) 0 0 0 1 (h .unnamed i) p; written = h .written }
-  checkbox-is a b c true false r parent (over-leaf {p = p} read-sign (over-node oₕ (over-leaf read-sign (over-node o (over-node (over-leaf read-sign (over-leaf read-sign (over-node q (over-leaf read-sign over-nil)))) (over-leaf read-sign (over-leaf read-sign over-nil))))))) =
-      let h = head-is r oₕ in
-      let fl = over-flags o ∙ other-flags-in a b c in
-      record { row = λ i. columns code.CHECKBOX parent (h .own i) (h .first i) (h .second i) (fl i + flag.HAS-DEFAULT) 0 0 0 0 (h .unnamed i) p; written = h .written }
-  checkbox-is a b c false v r parent (over-leaf {p = p} read-sign (over-node oₕ (over-leaf read-sign (over-node o (over-node over-nil (over-leaf read-sign (over-leaf read-sign over-nil))))))) =
-      let h = head-is r oₕ in
-      let fl = over-flags o ∙ other-flags-in a b c in
-      record { row = λ i. columns code.CHECKBOX parent (h .own i) (h .first i) (h .second i) (fl i + 0) 0 0 0 0 (h .unnamed i) p; written = h .written }
+  checkbox-is a b c e v r parent {T} o =
+      let h = head-is r (over-part 1 o) in
+      let fl = over-flags (over-part 3 o) ∙ other-flags-in a b c in
+      let de = ap (λ k. eqb k 1) (over-taken 4 o) ∙ present-is e in
+      let dv = (λ i. when (de i) (when (eqb (over-taken 2 (over-part 4 o) i) 0) 1)) ∙ truth-is e v in
+      record { row = λ i. columns code.CHECKBOX parent (h .own i) (h .first i) (h .second i) (fl i + when (de i) flag.HAS-DEFAULT) 0 0 0 (dv i) (h .unnamed i) (placeAt 0 T); written = h .written }
 
   pub numeric-is : (a b c e : Bool) (r : List ℕ) (parent : ℕ) {T : Trees} → Over t T (numericUnder a b c e r)
       → Question (item N parent 5 T) code.NUMERIC parent (flagSum a b c + when e flag.HAS-DEFAULT) (cell column.A r) (cell column.B r) (cell column.C r) (when e (cell column.D r)) (placeAt 0 T) r × (ltb 0 (item N parent 5 T .defaultAt) ≡ e)
-  numeric-is a b c true r parent (over-leaf {p = p} read-sign (over-node oₕ (over-leaf read-sign (over-node o (over-leaf read-sign (over-leaf read-sign (over-node oₐ (over-leaf read-sign (over-leaf read-sign (over-leaf read-sign (over-node o₃ (over-leaf read-sign (over-node (over-leaf read-sign (over-leaf read-sign (over-node oₛ (over-leaf read-sign over-nil)))) (over-node (over-leaf read-sign (over-leaf read-sign (over-node {c = c₄} o₄ (over-leaf read-sign over-nil)))) (over-leaf read-sign (over-leaf read-sign over-nil)))))))))))))))) =
-      let h = head-is r oₕ in
-      let fl = over-flags o ∙ other-flags-in a b c in
-      let ha = number-is {v = cell column.A r} oₐ in
-      let hb = number-is {v = cell column.B r} o₃ in
-      let hs = number-is {v = cell column.C r} oₛ in
-      let hd = number-is {v = cell column.D r} o₄ in
-      (record { row = λ i. columns code.NUMERIC parent (h .own i) (h .first i) (h .second i) (fl i + flag.HAS-DEFAULT) (ha i) (hb i) (hs i) (hd i) (h .unnamed i) p; written = h .written }, marked (placeAt 0 c₄))
-  numeric-is a b c false r parent (over-leaf {p = p} read-sign (over-node oₕ (over-leaf read-sign (over-node o (over-leaf read-sign (over-leaf read-sign (over-node oₐ (over-leaf read-sign (over-leaf read-sign (over-leaf read-sign (over-node o₃ (over-leaf read-sign (over-node (over-leaf read-sign (over-leaf read-sign (over-node oₛ (over-leaf read-sign over-nil)))) (over-node over-nil (over-leaf read-sign (over-leaf read-sign over-nil)))))))))))))))) =
-      let h = head-is r oₕ in
-      let fl = over-flags o ∙ other-flags-in a b c in
-      let ha = number-is {v = cell column.A r} oₐ in
-      let hb = number-is {v = cell column.B r} o₃ in
-      let hs = number-is {v = cell column.C r} oₛ in
-      (record { row = λ i. columns code.NUMERIC parent (h .own i) (h .first i) (h .second i) (fl i + 0) (ha i) (hb i) (hs i) 0 (h .unnamed i) p; written = h .written }, refl)
+  numeric-is a b c e r parent {T} o =
+      let h = head-is r (over-part 1 o) in
+      let fl = over-flags (over-part 3 o) ∙ other-flags-in a b c in
+      let ha = number-is {v = cell column.A r} (over-part 6 o) in
+      let hb = number-is {v = cell column.B r} (over-part 10 o) in
+      let hs = number-is {v = cell column.C r} (over-part 2 (over-part 12 o)) in
+      let de = ap (λ k. eqb k 1) (over-taken 13 o) ∙ present-is e in
+      let dv = ap (λ z. when z (value N 2 (child 13 T))) de ∙ default-is e (cell column.D r) (over-part 13 o) in (
+        record { row = λ i. columns code.NUMERIC parent (h .own i) (h .first i) (h .second i) (fl i + when (de i) flag.HAS-DEFAULT) (ha i) (hb i) (when (eqb (over-taken 12 o i) 1) (hs i)) (dv i) (h .unnamed i) (placeAt 0 T); written = h .written },
+        ap (λ z. ltb 0 (when z (mark (numeralAt N 2 (child 13 T))))) de ∙ marked-when e (numeralAt N 2 (child 13 T)),
+      )
 
   pub one-of-is : (a b c : Bool) (r : List ℕ) (x : Shape) (parent : ℕ) {T : Trees} → Over t T (oneOfUnder a b c r x) → Question (item N parent 6 T) code.ONE-OF parent (flagSum a b c) 0 0 0 0 (placeAt 0 T) r
-  one-of-is a b c r x parent (over-leaf {p = p} read-sign (over-node oₕ (over-leaf read-sign (over-node o oₓ)))) =
-      let h = head-is r oₕ in
-      let fl = over-flags o ∙ other-flags-in a b c in
-      record { row = λ i. columns code.ONE-OF parent (h .own i) (h .first i) (h .second i) (fl i) 0 0 0 0 (h .unnamed i) p; written = h .written }
+  one-of-is a b c r x parent {T} o =
+      let h = head-is r (over-part 1 o) in
+      let fl = over-flags (over-part 3 o) ∙ other-flags-in a b c in
+      record { row = λ i. columns code.ONE-OF parent (h .own i) (h .first i) (h .second i) (fl i) 0 0 0 0 (h .unnamed i) (placeAt 0 T); written = h .written }
 
   -- ---- the other statements
 
   pub option-is : (e : Bool) (r : List ℕ) (parent : ℕ) {T : Trees} → Over t T (optionUnder e r)
       → (option N parent T .row ≡ columns code.OPTION parent 0 (cell column.FIRST r) 0 (when e flag.OPTION-DEFAULT) (cell column.A r) 0 0 0 0 (placeAt 0 T)) × (ltb 0 (option N parent T .defaultAt) ≡ e)
-  option-is true r parent (over-leaf {p = p} read-sign (over-leaf read-sign (over-leaf read-sign (over-node o (over-leaf read-sign (over-leaf read-sign (over-leaf read-sign (over-node oₐ (over-leaf read-sign (over-leaf read-sign (over-leaf read-sign (over-node {c = c₂} q (over-leaf read-sign over-nil))))))))))))) =
-      let h = string-is (cell column.FIRST r) o in
-      let ha = number-is {v = cell column.A r} oₐ in
-      (λ i. columns code.OPTION parent 0 (h i) 0 flag.OPTION-DEFAULT (ha i) 0 0 0 0 p, marked (placeAt 0 c₂))
-  option-is false r parent (over-leaf {p = p} read-sign (over-leaf read-sign (over-leaf read-sign (over-node o (over-leaf read-sign (over-leaf read-sign (over-leaf read-sign (over-node oₐ (over-leaf read-sign (over-leaf read-sign (over-leaf read-sign (over-node q (over-leaf read-sign over-nil))))))))))))) =
-      let h = string-is (cell column.FIRST r) o in
-      let ha = number-is {v = cell column.A r} oₐ in
-      (λ i. columns code.OPTION parent 0 (h i) 0 0 (ha i) 0 0 0 0 p, refl)
+  option-is e r parent {T} o =
+      let h = string-is (cell column.FIRST r) (over-part 3 o) in
+      let ha = number-is {v = cell column.A r} (over-part 7 o) in
+      let de = ap (λ k. eqb k 1) (over-taken 11 o) ∙ present-is e in (
+        λ i. columns code.OPTION parent 0 (h i) 0 (when (de i) flag.OPTION-DEFAULT) (ha i) 0 0 0 0 (placeAt 0 T),
+        ap (λ z. ltb 0 (when z (mark (placeAt 0 (child 11 T))))) de ∙ marked-when e (placeAt 0 (child 11 T)),
+      )
 
   -- its name is R and its number
   pub rule-is : (r : List ℕ) (e : Formula) (parent n : ℕ) {T : Trees} → Over t T (ruleUnder r e) → lex.word (drop (placeAt 1 T) t) ≡ ruleWord (cell column.OWN r)
   rule-is r e parent n (over-leaf read-sign (over-leaf (read-rule h w) o)) = w
 
   pub form-is : (r : List ℕ) (x : Shape) (parent : ℕ) {T : Trees} → Over t T (formUnder r x) → form N parent T .row ≡ columns code.FORM parent (cell column.OWN r) (cell column.FIRST r) 0 0 0 0 0 0 0 (placeAt 0 T)
-  form-is r x parent (over-leaf {p = p} read-sign (over-leaf read-sign (over-leaf read-sign (over-node oₙ (over-leaf read-sign (over-leaf read-sign (over-leaf read-sign (over-node o (over-leaf read-sign oₓ))))))))) =
-      let h = number-is {v = cell column.OWN r} oₙ in
-      let k = string-is (cell column.FIRST r) o in
-      λ i. columns code.FORM parent (h i) (k i) 0 0 0 0 0 0 0 p
+  form-is r x parent {T} o =
+      let h = number-is {v = cell column.OWN r} (over-part 3 o) in
+      let k = string-is (cell column.FIRST r) (over-part 7 o) in
+      λ i. columns code.FORM parent (h i) (k i) 0 0 0 0 0 0 0 (placeAt 0 T)
 
   -- ---- GUID
 
@@ -207,29 +221,30 @@ module _ (t : List ℕ) where
   lowOf x = byteOf 7 x * 2 ^ 56 + byteOf 6 x * 2 ^ 48 + byteOf 5 x * 2 ^ 40 + byteOf 4 x * 2 ^ 32 + byteOf 3 x * 2 ^ 24 + byteOf 2 x * 2 ^ 16 + byteOf 1 x * 2 ^ 8 + byteOf 0 x
 
   low-is : (r : List ℕ) {T : Trees} → Over t T (eightUnder r) → guidLow N T ≡ lowOf (cell column.B r)
-  low-is r (over-node o₇ (over-leaf read-sign (over-node o₆ (over-leaf read-sign (over-node o₅ (over-leaf read-sign (over-node o₄ (over-leaf read-sign (over-node o₃ (over-leaf read-sign (over-node o₂ (over-leaf read-sign (over-node o₁ (over-leaf read-sign (over-node o₀ over-nil))))))))))))))) =
+  low-is r o =
       let x = cell column.B r in
-      let h₇ = hex-is {v = x / 256 ^ 7 % 256} o₇ in
-      let h₆ = hex-is {v = x / 256 ^ 6 % 256} o₆ in
-      let h₅ = hex-is {v = x / 256 ^ 5 % 256} o₅ in
-      let h₄ = hex-is {v = x / 256 ^ 4 % 256} o₄ in
-      let h₃ = hex-is {v = x / 256 ^ 3 % 256} o₃ in
-      let h₂ = hex-is {v = x / 256 ^ 2 % 256} o₂ in
-      let h₁ = hex-is {v = x / 256 ^ 1 % 256} o₁ in
-      let h₀ = hex-is {v = x / 256 ^ 0 % 256} o₀ in
+      let h₇ = hex-is {v = x / 256 ^ 7 % 256} (over-part 0 o) in
+      let h₆ = hex-is {v = x / 256 ^ 6 % 256} (over-part 2 o) in
+      let h₅ = hex-is {v = x / 256 ^ 5 % 256} (over-part 4 o) in
+      let h₄ = hex-is {v = x / 256 ^ 4 % 256} (over-part 6 o) in
+      let h₃ = hex-is {v = x / 256 ^ 3 % 256} (over-part 8 o) in
+      let h₂ = hex-is {v = x / 256 ^ 2 % 256} (over-part 10 o) in
+      let h₁ = hex-is {v = x / 256 ^ 1 % 256} (over-part 12 o) in
+      let h₀ = hex-is {v = x / 256 ^ 0 % 256} (over-part 14 o) in
       λ i. h₇ i % 2 ^ 8 * 2 ^ 56 + h₆ i % 2 ^ 8 * 2 ^ 48 + h₅ i % 2 ^ 8 * 2 ^ 40 + h₄ i % 2 ^ 8 * 2 ^ 32 + h₃ i % 2 ^ 8 * 2 ^ 24 + h₂ i % 2 ^ 8 * 2 ^ 16 + h₁ i % 2 ^ 8 * 2 ^ 8 + h₀ i % 2 ^ 8
 
   guid-is : (r : List ℕ) {T : Trees} → Over t T (guidUnder r) → (guidHigh N T ≡ highOf (cell column.A r)) × (guidLow N (guidBytes N T) ≡ lowOf (cell column.B r))
-  guid-is r (over-leaf read-sign (over-node o₁ (over-leaf read-sign (over-node o₂ (over-leaf read-sign (over-node o₃ (over-leaf read-sign (over-node (over-leaf read-sign (over-node o₈ (over-leaf read-sign (over-leaf read-sign over-nil)))) over-nil)))))))) =
+  guid-is r {T} o =
       let x = cell column.A r in
-      let h₁ = hex-is {v = x / 2 ^ 32} o₁ in
-      let h₂ = hex-is {v = x / 2 ^ 16 % 2 ^ 16} o₂ in
-      let h₃ = hex-is {v = x % 2 ^ 16} o₃ in
-      (λ i. h₁ i % 2 ^ 32 * 2 ^ 32 + h₂ i % 2 ^ 16 * 2 ^ 16 + h₃ i % 2 ^ 16, low-is r o₈)
+      let h₁ = hex-is {v = x / 2 ^ 32} (over-part 1 o) in
+      let h₂ = hex-is {v = x / 2 ^ 16 % 2 ^ 16} (over-part 3 o) in
+      let h₃ = hex-is {v = x % 2 ^ 16} (over-part 5 o) in
+      let inner : guidBytes N T ≡ child 1 (child 7 T) = rw (over-taken 7 o, guidBytes) in
+      (λ i. h₁ i % 2 ^ 32 * 2 ^ 32 + h₂ i % 2 ^ 16 * 2 ^ 16 + h₃ i % 2 ^ 16, ap (guidLow N) inner ∙ low-is r (over-part 1 (over-part 7 o)))
 
   pub form-set-is : (r : List ℕ) (x : Shape) {T : Trees} → Over t T (formSetUnder r x) → formSet N T .row ≡ columns code.FORM-SET 0 0 (cell column.FIRST r) (cell column.SECOND r) 0 (highOf (cell column.A r)) (lowOf (cell column.B r)) 0 0 0 (placeAt 0 T)
-  form-set-is r x (over-leaf {p = p} read-sign (over-leaf read-sign (over-leaf read-sign (over-node o (over-leaf read-sign (over-leaf read-sign (over-leaf read-sign (over-node o₁ (over-leaf read-sign (over-leaf read-sign (over-leaf read-sign (over-node o₂ (over-leaf read-sign oₓ))))))))))))) =
-      let h = string-is (cell column.FIRST r) o₁ in
-      let k = string-is (cell column.SECOND r) o₂ in
-      let g = guid-is r o in
-      λ i. columns code.FORM-SET 0 0 (h i) (k i) 0 (g .0 i) (g .1 i) 0 0 0 p
+  form-set-is r x {T} o =
+      let h = string-is (cell column.FIRST r) (over-part 7 o) in
+      let k = string-is (cell column.SECOND r) (over-part 11 o) in
+      let g = guid-is r (over-part 3 o) in
+      λ i. columns code.FORM-SET 0 0 (h i) (k i) 0 (g .0 i) (g .1 i) 0 0 0 (placeAt 0 T)

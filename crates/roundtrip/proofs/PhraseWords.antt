@@ -5,14 +5,15 @@ use mathlib.Core.List.{List, [], _∷_, _++_, map, map-append}
 use mathlib.Core.Bool.{Bool, true, false}
 use Prim.Native.Nat.{ℕ}
 use native.Mathlib.Omega.{arith}
-use Rattle.lex.specs.Lexemes.{signs, reserved, lexemes}
-use Rattle.lex.specs.Classes as class
+use Rattle.lexemes.specs.Lexemes.{signs, reserved, lexemes}
+use Rattle.lexemes.specs.Classes as class
 use Rattle.rows.specs.Columns as column
-use Rattle.grammar.specs.Text.{Word, words, decimalDigits, decimal, ruleName, string, head, flagList, framed, subtitle, text, label, form, formSet}
-use Rattle.roundtrip.proofs.Shapes.{sign, word, Shape, s-nil, lexed, spelling}
-use Rattle.roundtrip.proofs.Formula.{Formula, print}
-use Rattle.roundtrip.proofs.FormulaTree.{tree}
-use Rattle.roundtrip.proofs.FormulaGood.{good}
+use Rattle.answers.specs.Text.{Word, words, decimalDigits, decimal, ruleName, string, head, flagList, framed, subtitle, text, label, form, formSet}
+use Rattle.formulas.specs.Shapes.{sign, word, Shape, s-nil, lexed, spelling}
+use Rattle.formulas.specs.Formula.{Formula}
+use Rattle.formulas.specs.Words.{print}
+use Rattle.formulas.specs.Tree.{tree}
+use Rattle.formulas.proofs.Good.{good}
 use Rattle.roundtrip.proofs.Phrases.{cell, say, subtitleUnder, textUnder, labelUnder, gotoUnder, checkboxUnder, numericUnder, oneOfUnder, conditionUnder, optionUnder, ruleUnder, formUnder, formSetUnder}
 
 -- ---- the phrases with flags and defaults, by what is present

@@ -4,12 +4,12 @@ use mathlib.Core.List.{List}
 use mathlib.Core.Bool.{Bool, true, false, not, _||_}
 use Prim.Native.Nat.{ℕ, _/_, _%_, _^_}
 use lib.ListN.{getD}
-use Rattle.lex.specs.Classes as class
+use Rattle.lexemes.specs.Classes as class
 use Rattle.rows.specs.Columns as column
 use Rattle.grammar.specs.Rules.{<guid>, <guid-end>, <eight>, <H8>, <H4>, <H2>, <str>, <id>, <small>, <large>, <zero>, <goto-flags>?, <flags>?, <truth-default>?, <truth>, <step>?, <number-default>?, <option-flags>, <head>, <name>?, <questionid>?, <fl>, <flag>*, <flag>}
-use Rattle.roundtrip.proofs.Shapes.{sign, hex, rule-name, Shape, s-nil, s-leaf, s-node}
-use Rattle.roundtrip.proofs.Formula.{Formula}
-use Rattle.roundtrip.proofs.FormulaTree.{numeralShape, tree}
+use Rattle.formulas.specs.Shapes.{sign, hex, rule-name, Shape, s-nil, s-leaf, s-node}
+use Rattle.formulas.specs.Formula.{Formula}
+use Rattle.formulas.specs.Tree.{numeralShape, tree}
 
 abbrev pub cell : ℕ → List ℕ → ℕ
 cell c r = getD r c 0

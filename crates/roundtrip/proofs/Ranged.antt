@@ -3,19 +3,22 @@
 use mathlib.Core.Path.{_≡_, refl}
 use mathlib.Core.List.{List, []}
 use mathlib.Core.Bool.{Bool, true, false}
-use Prim.Native.Nat.{ℕ, zero, suc, _-_, _≤_, _<_, _^_}
+use Prim.Native.Nat.{ℕ, zero, suc, _≤_, _<_, _^_}
 use native.Mathlib.Omega.{arith}
 use lib.Dec.{eqb, leb}
 use borrow.Author.Tests.{le-leb}
-use Rattle.lex.specs.Classes as class
+use Rattle.lexemes.specs.Classes as class
 use Rattle.ll1.specs.Trees.{Trees}
 use Rattle.grammar.specs.Rules.{<atom>, <large>}
-use Rattle.grammar.specs.Expression.{Operator, operatorClass, or, and, bit-or, bit-and, equal, not-equal, less, less-equal, greater, greater-equal, shift-left, shift-right, add, subtract, multiply, divide, modulo, Constant, constantClass, true′, false′, zero′, one′, ones′, undefined′}
+use Rattle.answers.specs.Expression.{Operator, operatorClass, or, and, bit-or, bit-and, equal, not-equal, less, less-equal, greater, greater-equal, shift-left, shift-right, add, subtract, multiply, divide, modulo, Constant, constantClass, true′, false′, zero′, one′, ones′, undefined′}
 use Rattle.grammar.specs.Parts.{placeAt}
 use Rattle.grammar.specs.Ranges.{Range, free, between, digits, ranges, rangeOf, keeps, outOfRange}
-use Rattle.roundtrip.proofs.Shapes.{sign, decimal, hex, rule-name, Valid, AllValid, none-valid, more-valid, valid-append, Shape, s-nil, s-leaf, s-node, lexed, read-sign, read-decimal, read-rule, read-hex, Over, over-nil, over-leaf, over-node}
-use Rattle.roundtrip.proofs.Formula.{Formula, f-number, f-constant, f-question, f-rule, f-not, f-binary, tight, alternative, constantAlternative, lv, tl, nine, tight-lt}
-use Rattle.roundtrip.proofs.FormulaTree.{raised, atomic, tailOf, joining, paren, binaryTree, numeralShape, questionUnder, ruleUnder, tree, chain}
+use Rattle.formulas.specs.Shapes.{sign, decimal, hex, rule-name, Valid, AllValid, none-valid, more-valid, Shape, s-nil, s-leaf, s-node, lexed, read-sign, read-decimal, read-rule, read-hex, Over, over-nil, over-leaf, over-node}
+use Rattle.formulas.proofs.Shapes.{valid-append}
+use Rattle.formulas.specs.Formula.{Formula, f-number, f-constant, f-question, f-rule, f-not, f-binary, tight}
+use Rattle.formulas.specs.Levels.{alternative, constantAlternative, lv, tl}
+use Rattle.formulas.proofs.Levels.{nine, tight-lt}
+use Rattle.formulas.specs.Tree.{raised, atomic, tailOf, joining, paren, binaryTree, numeralShape, questionUnder, ruleUnder, tree, chain}
 
 -- ---- ranges of shapes
 

@@ -1,6 +1,6 @@
 -- The shape of a derivation's resolved text is ranged: one walk over the derivation.
 -- Assumes nothing.
-use mathlib.Core.Path.{_≡_, refl, ap, subst}
+use mathlib.Core.Path.{_≡_, refl, ap, sym, subst}
 use mathlib.Core.List.{List, [], _∷_}
 use mathlib.Core.Option.{some}
 use mathlib.Core.Bool.{Bool, true, false}
@@ -9,10 +9,10 @@ use native.Mathlib.Omega.{arith}
 use lib.Dec.{eqb, ltb}
 use lib.ListN.{length, getD, drop}
 use borrow.Author.Tests.{eqb-true, ltb-true}
-use Rattle.lex.specs.Classes as class
-use Rattle.lex.specs.Numbers.{numeral, valueAt, fitted}
-use Rattle.lex.specs.Tokens.{word}
-use Rattle.lex.proofs.Lists.{either}
+use Rattle.lexemes.specs.Classes as class
+use Rattle.values.specs.Numbers.{numeral, valueAt, fitted}
+use Rattle.lexemes.specs.Words.{word}
+use Rattle.lexemes.proofs.Lists.{either}
 use Rattle.rows.specs.Codes as code
 use Rattle.rows.specs.Codes.{member, questions, isQuestion}
 use Rattle.rows.specs.Columns as column
@@ -25,14 +25,16 @@ use Rattle.grammar.specs.Grammar.{rules}
 use Rattle.grammar.specs.Ranges.{ranges, rangeOf}
 use Rattle.grammar.specs.Source.{held, numberAt}
 use Rattle.grammar.specs.Parts.{child, placeAt}
-use Rattle.grammar.specs.Expression.{Expression, number, constant, question-named, question-numbered, rule-named, negation, binary, expression}
-use Rattle.grammar.specs.Rows.{Draft, when, rulesIn, draftsOf, expressionRows, item, ruleDraft}
-use Rattle.grammar.specs.Stages.{cell, is, asks}
-use Rattle.grammar.specs.Text.{hasFlag}
+use Rattle.answers.specs.Expression.{Expression, number, constant, question-named, question-numbered, rule-named, negation, binary, expression}
+use Rattle.answers.specs.Rows.{Draft, rulesIn, draftsOf, expressionRows, item, ruleDraft}
+use Rattle.grammar.specs.Parts.{when}
+use Rattle.answers.specs.Stages.{cell, is, asks}
+use Rattle.answers.specs.Text.{hasFlag}
 use Rattle.sound.proofs.Lists.{All, none, more}
 use Rattle.sound.proofs.Kept.{Kept, kept-nil, kept-leaf, kept-node, Node, part, id-range, small-range, string-range}
-use Rattle.roundtrip.proofs.Shapes.{s-node}
-use Rattle.roundtrip.proofs.Formula.{formula}
+use Rattle.formulas.specs.Shapes.{s-node}
+use Rattle.formulas.specs.Formula.{formula}
+use Rattle.formulas.proofs.Inverse.{alternative-is, no-alternative}
 use Rattle.roundtrip.proofs.Expressions.{all-parts}
 use Rattle.grammar.proofs.Statements.{states}
 use Rattle.roundtrip.proofs.Core.{core, within, Told, told}
@@ -266,64 +268,68 @@ module _ (s : List ℕ) (look : ℕ → List ℕ) where
     told-c : Told source look c
     told-c = told source look h
 
+    -- the trees under the alternative that it is
+    under-it : {x : Alternative} → some x ≡ some a → Each (x .symbols) c
+    under-it q = subst (λ b. Each (b .symbols) c) (sym (alternative-is q)) e
+
     source-good : (i : ℕ) → alternativeOf rules <source> i ≡ some a → Node s <source> i c → Stated <source> i c
     unfolding rules
-    source-good zero q x = let z : a ≡ plain (t class.«formset» ∷ t class.«guid» ∷ t class.«=» ∷ r <guid> ∷ t class.comma ∷ t class.«title» ∷ t class.«=» ∷ r <str> ∷ t class.comma ∷ t class.«help» ∷ t class.«=» ∷ r <str> ∷ t class.comma ∷ r <form> ∷ r <form>* ∷ t class.«endformset» ∷ t class.semicolon ∷ []) = cc in form-set-case told-c x (rw z at e)
-    source-good (suc i) q x = clash cc
+    source-good zero q x = form-set-case told-c x (under-it q)
+    source-good (suc i) q x = no-alternative q
 
     form-good : (i : ℕ) → alternativeOf rules <form> i ≡ some a → Node s <form> i c → Stated <form> i c
     unfolding rules
-    form-good zero q x = let z : a ≡ plain (t class.«form» ∷ t class.«formid» ∷ t class.«=» ∷ r <id> ∷ t class.comma ∷ t class.«title» ∷ t class.«=» ∷ r <str> ∷ t class.semicolon ∷ r <item-or-rule>* ∷ t class.«endform» ∷ t class.semicolon ∷ []) = cc in form-case told-c x (rw z at e)
-    form-good (suc i) q x = clash cc
+    form-good zero q x = form-case told-c x (under-it q)
+    form-good (suc i) q x = no-alternative q
 
     option-good : (i : ℕ) → alternativeOf rules <option> i ≡ some a → Node s <option> i c → Stated <option> i c
     unfolding rules
-    option-good zero q x = let z : a ≡ plain (t class.«option» ∷ t class.«text» ∷ t class.«=» ∷ r <str> ∷ t class.comma ∷ t class.«value» ∷ t class.«=» ∷ r <large> ∷ t class.comma ∷ t class.«flags» ∷ t class.«=» ∷ r <option-flags> ∷ t class.semicolon ∷ []) = cc in option-case told-c x (rw z at e)
-    option-good (suc i) q x = clash cc
+    option-good zero q x = option-case told-c x (under-it q)
+    option-good (suc i) q x = no-alternative q
 
     rule-good : (i : ℕ) → alternativeOf rules <rule> i ≡ some a → Node s <rule> i c → Stated <rule> i c
     unfolding rules
-    rule-good zero q x = let z : a ≡ plain (t class.«rule» ∷ t class.NAME ∷ t class.comma ∷ r <expression> ∷ t class.«endrule» ∷ t class.semicolon ∷ []) = cc in rule-case told-c x (rw z at e)
-    rule-good (suc i) q x = clash cc
+    rule-good zero q x = rule-case told-c x (under-it q)
+    rule-good (suc i) q x = no-alternative q
 
     forms-good : (i : ℕ) → alternativeOf rules <form>* i ≡ some a → Node s <form>* i c → Stated <form>* i c
     unfolding rules
-    forms-good zero q x = let z : a ≡ plain [] = cc in no-forms-case (rw z at e)
-    forms-good (suc zero) q x = let z : a ≡ plain (r <form> ∷ r <form>* ∷ []) = cc in more-forms-case (rw z at e)
-    forms-good (suc (suc i)) q x = clash cc
+    forms-good zero q x = no-forms-case (under-it q)
+    forms-good (suc zero) q x = more-forms-case (under-it q)
+    forms-good (suc (suc i)) q x = no-alternative q
 
     items-or-rules-good : (i : ℕ) → alternativeOf rules <item-or-rule>* i ≡ some a → Node s <item-or-rule>* i c → Stated <item-or-rule>* i c
     unfolding rules
-    items-or-rules-good zero q x = let z : a ≡ plain [] = cc in no-items-or-rules-case (rw z at e)
-    items-or-rules-good (suc zero) q x = let z : a ≡ plain (r <item> ∷ r <item-or-rule>* ∷ []) = cc in item-first-case (rw z at e)
-    items-or-rules-good (suc (suc zero)) q x = let z : a ≡ plain (r <rule> ∷ r <item-or-rule>* ∷ []) = cc in rule-first-case (rw z at e)
-    items-or-rules-good (suc (suc (suc i))) q x = clash cc
+    items-or-rules-good zero q x = no-items-or-rules-case (under-it q)
+    items-or-rules-good (suc zero) q x = item-first-case (under-it q)
+    items-or-rules-good (suc (suc zero)) q x = rule-first-case (under-it q)
+    items-or-rules-good (suc (suc (suc i))) q x = no-alternative q
 
     options-good : (i : ℕ) → alternativeOf rules <option>* i ≡ some a → Node s <option>* i c → Stated <option>* i c
     unfolding rules
-    options-good zero q x = let z : a ≡ plain [] = cc in no-options-case (rw z at e)
-    options-good (suc zero) q x = let z : a ≡ plain (r <option> ∷ r <option>* ∷ []) = cc in more-options-case (rw z at e)
-    options-good (suc (suc i)) q x = clash cc
+    options-good zero q x = no-options-case (under-it q)
+    options-good (suc zero) q x = more-options-case (under-it q)
+    options-good (suc (suc i)) q x = no-alternative q
 
     items-good : (i : ℕ) → alternativeOf rules <item>* i ≡ some a → Node s <item>* i c → Stated <item>* i c
     unfolding rules
-    items-good zero q x = let z : a ≡ plain [] = cc in no-items-case (rw z at e)
-    items-good (suc zero) q x = let z : a ≡ plain (r <item> ∷ r <item>* ∷ []) = cc in more-items-case (rw z at e)
-    items-good (suc (suc i)) q x = clash cc
+    items-good zero q x = no-items-case (under-it q)
+    items-good (suc zero) q x = more-items-case (under-it q)
+    items-good (suc (suc i)) q x = no-alternative q
 
     item-good : (i : ℕ) → alternativeOf rules <item> i ≡ some a → Node s <item> i c → Stated <item> i c
     unfolding rules
-    item-good zero q x = let z : a ≡ plain (t class.«subtitle» ∷ t class.«text» ∷ t class.«=» ∷ r <str> ∷ t class.semicolon ∷ []) = cc in subtitle-case told-c x (rw z at e)
-    item-good (suc zero) q x = let z : a ≡ plain (t class.«text» ∷ t class.«help» ∷ t class.«=» ∷ r <str> ∷ t class.comma ∷ t class.«text» ∷ t class.«=» ∷ r <str> ∷ t class.semicolon ∷ []) = cc in text-case told-c x (rw z at e)
-    item-good (suc (suc zero)) q x = let z : a ≡ plain (t class.«label» ∷ r <small> ∷ t class.semicolon ∷ []) = cc in label-case told-c x (rw z at e)
-    item-good (suc (suc (suc zero))) q x = let z : a ≡ plain (t class.«goto» ∷ r <id> ∷ t class.comma ∷ r <head> ∷ r <goto-flags>? ∷ t class.semicolon ∷ []) = cc in goto-case told-c x (rw z at e)
-    item-good (suc (suc (suc (suc zero)))) q x = let z : a ≡ plain (t class.«checkbox» ∷ r <head> ∷ t class.comma ∷ r <flags>? ∷ r <truth-default>? ∷ t class.«endcheckbox» ∷ t class.semicolon ∷ []) = cc in checkbox-case told-c x (rw z at e)
-    item-good (suc (suc (suc (suc (suc zero))))) q x = let z : a ≡ plain (t class.«numeric» ∷ r <head> ∷ t class.comma ∷ r <flags>? ∷ t class.«minimum» ∷ t class.«=» ∷ r <large> ∷ t class.comma ∷ t class.«maximum» ∷ t class.«=» ∷ r <large> ∷ t class.comma ∷ r <step>? ∷ r <number-default>? ∷ t class.«endnumeric» ∷ t class.semicolon ∷ []) = cc in numeric-case told-c x (rw z at e)
-    item-good (suc (suc (suc (suc (suc (suc zero)))))) q x = let z : a ≡ plain (t class.«oneof» ∷ r <head> ∷ t class.comma ∷ r <flags>? ∷ r <option> ∷ r <option>* ∷ t class.«endoneof» ∷ t class.semicolon ∷ []) = cc in one-of-case told-c x (rw z at e)
-    item-good (suc (suc (suc (suc (suc (suc (suc zero))))))) q x = let z : a ≡ condition (t class.«suppressif» ∷ r <expression> ∷ t class.semicolon ∷ r <item>* ∷ t class.«endif» ∷ t class.semicolon ∷ []) = cc in suppress-case told-c x (rw z at e)
-    item-good (suc (suc (suc (suc (suc (suc (suc (suc zero)))))))) q x = let z : a ≡ condition (t class.«grayoutif» ∷ r <expression> ∷ t class.semicolon ∷ r <item>* ∷ t class.«endif» ∷ t class.semicolon ∷ []) = cc in gray-out-case told-c x (rw z at e)
-    item-good (suc (suc (suc (suc (suc (suc (suc (suc (suc zero))))))))) q x = let z : a ≡ condition (t class.«disableif» ∷ r <expression> ∷ t class.semicolon ∷ r <item>* ∷ t class.«endif» ∷ t class.semicolon ∷ []) = cc in disable-case told-c x (rw z at e)
-    item-good (suc (suc (suc (suc (suc (suc (suc (suc (suc (suc i)))))))))) q x = clash cc
+    item-good zero q x = subtitle-case told-c x (under-it q)
+    item-good (suc zero) q x = text-case told-c x (under-it q)
+    item-good (suc (suc zero)) q x = label-case told-c x (under-it q)
+    item-good (suc (suc (suc zero))) q x = goto-case told-c x (under-it q)
+    item-good (suc (suc (suc (suc zero)))) q x = checkbox-case told-c x (under-it q)
+    item-good (suc (suc (suc (suc (suc zero))))) q x = numeric-case told-c x (under-it q)
+    item-good (suc (suc (suc (suc (suc (suc zero)))))) q x = one-of-case told-c x (under-it q)
+    item-good (suc (suc (suc (suc (suc (suc (suc zero))))))) q x = suppress-case told-c x (under-it q)
+    item-good (suc (suc (suc (suc (suc (suc (suc (suc zero)))))))) q x = gray-out-case told-c x (under-it q)
+    item-good (suc (suc (suc (suc (suc (suc (suc (suc (suc zero))))))))) q x = disable-case told-c x (under-it q)
+    item-good (suc (suc (suc (suc (suc (suc (suc (suc (suc (suc i)))))))))) q x = no-alternative q
 
   stated : (A i : ℕ) (a : Alternative) (c : Trees) → alternativeOf rules A i ≡ some a → Node s A i c → Fits rules (a .symbols) c → Each (a .symbols) c → NodeGood A i c
   stated A i a c q x h e g =

@@ -5,13 +5,13 @@ use mathlib.Core.List.{List, [], _∷_, map}
 use Prim.Native.Nat.{ℕ, zero, suc, _^_, _≤_, _<_}
 use native.Mathlib.Nat.{mod-eq-of-lt}
 use native.Mathlib.Omega.{arith}
-use Rattle.lex.specs.Classes.{NAME, HEX, DECIMAL}
+use Rattle.lexemes.specs.Classes.{NAME, HEX, DECIMAL}
 use Rattle.ll1.specs.Trees.{Token, token}
 use Rattle.grammar.specs.Source.{sourceTokens}
-use Rattle.grammar.specs.Text.{textOf}
+use Rattle.answers.specs.Text.{textOf}
 use Rattle.printing.specs.Spelling.{a-lexeme, a-decimal, a-hex, a-name, Spelled, spelled-none, spelled-next, Stands, Standing, standing-none, standing-next}
 use Rattle.printing.proofs.Theorems.{words-stand, word-at, value-fits-at, hex-digits-at}
-use Rattle.roundtrip.proofs.Shapes.{Lexed, sign, decimal, rule-name, hex, word, tokenOf, Valid, AllValid, none-valid, more-valid, Read, read-sign, read-decimal, read-rule, read-hex, Reads, reads-none, reads-more}
+use Rattle.formulas.specs.Shapes.{Lexed, sign, decimal, rule-name, hex, word, tokenOf, Valid, AllValid, none-valid, more-valid, Read, read-sign, read-decimal, read-rule, read-hex, Reads, reads-none, reads-more}
 
 -- at most eight hex digits
 hex-small : (w n : ℕ) → w ≤ 8 → n < 16 ^ w → n < 2 ^ 64

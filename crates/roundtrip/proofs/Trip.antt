@@ -3,7 +3,7 @@
 use mathlib.Core.Path.{_≡_, ap}
 use mathlib.Core.List.{List, [], _∷_, _++_}
 use mathlib.Core.Option.{some}
-use Prim.Native.Nat.{ℕ, _≤_, _<_}
+use Prim.Native.Nat.{ℕ, _≤_}
 use lib.ListN.{length}
 use Rattle.ll1.specs.Trees.{Trees, nil, node, leaves, nonterminal, Alternative, alternativeOf, depth, deeper}
 use Rattle.grammar.specs.Rules.{<source>}
@@ -11,15 +11,17 @@ use Rattle.grammar.specs.Grammar.{rules}
 use Rattle.grammar.specs.Derivation.{Derives, NowhereTooDeep}
 use Rattle.grammar.specs.Source.{sourceTokens, numberAt}
 use Rattle.grammar.specs.Ranges.{ranges, rangeOf, outOfRange}
-use Rattle.grammar.specs.Rows.{Draft, draftsOf}
-use Rattle.grammar.specs.Answer.{LIMIT, drafts}
-use Rattle.grammar.specs.Text.{wordsOf, textOf}
+use Rattle.answers.specs.Rows.{Draft, draftsOf}
+use Rattle.answers.specs.Answer.{LIMIT, drafts}
+use Rattle.answers.specs.Text.{wordsOf, textOf}
 use Rattle.sound.proofs.Lists.{All, none, more}
 use Rattle.sound.proofs.Places.{source-bounded}
 use Rattle.sound.proofs.Kept.{Kept, kept-nil, kept-node, kept, Node}
-use Rattle.roundtrip.proofs.Shapes.{Shape, s-nil, s-node, lexed, spelling, Over, over-nil, over-node, Covered, covered}
+use Rattle.formulas.specs.Shapes.{Shape, s-nil, s-node, lexed, spelling, Over, over-nil, over-node}
+use Rattle.formulas.proofs.Shapes.{Covered, covered}
 use Rattle.roundtrip.proofs.Read.{printed}
-use Rattle.roundtrip.proofs.Fitted.{Fitted, f-nil, f-node, fitted, to-fits, to-allowed, over-fitted}
+use Rattle.formulas.specs.Fitted.{Fitted, f-nil, f-node}
+use Rattle.formulas.proofs.Fitted.{fitted, to-fits, to-allowed, over-fitted}
 use Rattle.roundtrip.proofs.Expressions.{all-parts}
 use Rattle.roundtrip.proofs.Core.{within}
 use Rattle.again.specs.Matches.{Settled, Match, Pairs, no-pairs}

@@ -8,7 +8,7 @@ use native.Mathlib.Omega.{arith}
 use lib.Dec.{eqb, ltb}
 use lib.ListN.{length}
 use borrow.Author.Tests.{eqb-true}
-use Rattle.lex.proofs.Lists.{either}
+use Rattle.lexemes.proofs.Lists.{either}
 use Rattle.ll1.specs.Trees.{Trees, Symbol, nonterminal}
 use Rattle.ll1.specs.ParseTable.{member}
 use Rattle.ll1.proofs.Basics.{clash, both}
@@ -16,12 +16,12 @@ use Rattle.grammar.specs.Rules.{<source>, <form>, <rule>, <item>, <option>*, <o
 use Rattle.grammar.specs.Grammar.{rules}
 use Rattle.grammar.specs.Derivation.{Derives}
 use Rattle.grammar.specs.Source.{sourceTokens, numberAt}
-use Rattle.grammar.specs.Answer.{LIMIT, drafts}
+use Rattle.answers.specs.Answer.{LIMIT, drafts}
 use Rattle.grammar.specs.Parts.{child}
-use Rattle.grammar.specs.Rows.{Draft, condition, otherwise, ownRows, parentIn, draftsOf}
+use Rattle.answers.specs.Rows.{Draft, condition, otherwise, ownRows, parentIn, draftsOf}
 use Rattle.grammar.specs.Ranges.{outOfRange}
-use Rattle.stages.specs.Sound.{add-row, SoundRows}
-use Rattle.grammar.proofs.Demand3.{rows-few}
+use Rattle.drafts.specs.Sound.{add-row, SoundRows}
+use Rattle.answers.proofs.Demand3.{rows-few}
 use Rattle.grammar.proofs.Statements.{offering, others, statements, free, Under, tested, no-statements}
 use Rattle.sound.proofs.Lists.{All, none, more, all-append, apart}
 use Rattle.sound.proofs.Places.{source-bounded}

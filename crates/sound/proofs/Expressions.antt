@@ -6,18 +6,18 @@ use mathlib.Core.Bool.{true, false}
 use Prim.Native.Nat.{ℕ, _≤_}
 use native.Mathlib.Omega.{arith}
 use lib.Dec.{eqb}
-use Rattle.lex.proofs.Lists.{either}
+use Rattle.lexemes.proofs.Lists.{either}
 use Rattle.rows.specs.Codes as code
 use Rattle.rows.specs.Codes.{member, questions, isQuestion}
 use Rattle.ll1.specs.Trees.{token, Trees, nil, leaf, node}
 use Rattle.ll1.proofs.Basics.{clash}
 use Rattle.grammar.specs.Rules.{<atom>}
-use Rattle.grammar.specs.Answer.{LIMIT}
+use Rattle.answers.specs.Answer.{LIMIT}
 use Rattle.grammar.specs.Parts.{child, chosen, placeAt}
-use Rattle.grammar.specs.Expression.{Operator, or, and, bit-or, bit-and, equal, not-equal, less, less-equal, greater, greater-equal, shift-left, shift-right, add, subtract, multiply, divide, modulo, operatorClass, operatorCode, operators}
-use Rattle.grammar.specs.Expression.{Constant, true′, false′, zero′, one′, ones′, undefined′, constantCode}
-use Rattle.grammar.specs.Expression.{Expression, number, constant, question-named, question-numbered, rule-named, negation, binary, Pending, nothing, operator, operatorAmong, joined, asked, atom, spelled, expression}
-use Rattle.grammar.specs.Rows.{operand, expressionRows}
+use Rattle.answers.specs.Expression.{Operator, or, and, bit-or, bit-and, equal, not-equal, less, less-equal, greater, greater-equal, shift-left, shift-right, add, subtract, multiply, divide, modulo, operatorClass, operatorCode, operators}
+use Rattle.answers.specs.Expression.{Constant, true′, false′, zero′, one′, ones′, undefined′, constantCode}
+use Rattle.answers.specs.Expression.{Expression, number, constant, question-named, question-numbered, rule-named, negation, binary, Pending, nothing, operator, operatorAmong, joined, asked, atom, spelled, expression}
+use Rattle.answers.specs.Rows.{operand, expressionRows}
 use Rattle.sound.proofs.Lists.{All, none, more, all-append, all-getD}
 use Rattle.sound.proofs.Places.{Bounded, place-le, child-bounded}
 use Rattle.sound.proofs.SoundRow.{isBare, Other, bare, reference-other}

@@ -9,9 +9,9 @@ use native.Mathlib.Omega.{arith}
 use lib.Dec.{eqb, leb}
 use lib.ListN.{getD}
 use borrow.Author.Tests.{eqb-true, leb-true}
-use Rattle.lex.specs.declared.Value.{Value}
-use Rattle.lex.specs.declared.Value.the-variants.{Fits as FitsWord, TooLarge}
-use Rattle.lex.specs.Numbers.{valueAt}
+use Rattle.values.specs.declared.Value.{Value}
+use Rattle.values.specs.declared.Value.the-variants.{Fits as FitsWord, TooLarge}
+use Rattle.values.specs.Numbers.{valueAt}
 use Rattle.numbers.specs.Numbers.{limit}
 use Rattle.ll1.specs.Trees.{token, Trees, nil, leaf, node, Symbol, terminal, nonterminal, Alternative, alternativeOf, Fits, fits-nil, fits-leaf, fits-node}
 use Rattle.ll1.specs.Test.{allAt}
@@ -20,8 +20,9 @@ use Rattle.grammar.specs.Rules.{<str>, <id>, <small>}
 use Rattle.grammar.specs.Grammar.{rules}
 use Rattle.grammar.specs.Source.{held, numberAt}
 use Rattle.grammar.specs.Parts.{child, chosen, placeAt}
-use Rattle.grammar.specs.Answer.{LIMIT}
-use Rattle.grammar.specs.Rows.{mark, value, string}
+use Rattle.answers.specs.Answer.{LIMIT}
+use Rattle.grammar.specs.Parts.{mark}
+use Rattle.answers.specs.Rows.{value, string}
 use Rattle.grammar.specs.Ranges.{between, ranges, rangeOf, within, keeps, outOfRange}
 use Rattle.sound.proofs.Places.{Bounded, place-le, child-bounded}
 

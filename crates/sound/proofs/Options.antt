@@ -11,9 +11,9 @@ use borrow.Author.Tests.{eqb-true}
 use Rattle.rows.specs.Codes as code
 use Rattle.rows.specs.Columns as column
 use Rattle.ll1.proofs.Basics.{clash}
-use Rattle.grammar.specs.Rows.{Draft}
-use Rattle.grammar.specs.Stages.{is, cell}
-use Rattle.stages.specs.Sound.{Sound, AllSound, no-rows, add-row, ownerAfter, OptionsFollow}
+use Rattle.answers.specs.Rows.{Draft}
+use Rattle.answers.specs.Stages.{is, cell}
+use Rattle.drafts.specs.Sound.{Sound, AllSound, no-rows, add-row, ownerAfter, OptionsFollow}
 use Rattle.sound.proofs.Lists.{All, none, more}
 use Rattle.sound.proofs.SoundRow.{Other}
 

@@ -9,7 +9,7 @@ use Rattle.ll1.specs.Trees.{Token, token, Trees, nil, leaf, node, leaves}
 use Rattle.grammar.specs.Source.{sourceTokens}
 use Rattle.grammar.proofs.SourceTokens.{Within, within-none, within-more, tokens-within}
 use Rattle.grammar.specs.Parts.{child, placeAt}
-use Rattle.grammar.specs.Answer.{LIMIT}
+use Rattle.answers.specs.Answer.{LIMIT}
 
 -- ---- the tokens of a source
 

@@ -8,7 +8,7 @@ use native.Mathlib.Omega.{arith}
 use lib.Dec.{eqb, ltb}
 use lib.ListN.{length}
 use borrow.Author.Tests.{eqb-true, not-true}
-use Rattle.lex.proofs.Lists.{either}
+use Rattle.lexemes.proofs.Lists.{either}
 use Rattle.numbers.specs.Numbers.{limit, isNumber}
 use Rattle.rows.specs.Codes as code
 use Rattle.rows.specs.Codes.{member, questions, isQuestion}
@@ -16,10 +16,10 @@ use Rattle.rows.specs.Columns as column
 use Rattle.rows.specs.Draft.{HALF}
 use Rattle.ll1.specs.Trees.{Trees}
 use Rattle.ll1.proofs.Basics.{clash, both}
-use Rattle.grammar.specs.Answer.{LIMIT}
-use Rattle.grammar.specs.Rows.{Draft, columns, plain, operand, question, string, writtenNumber, writtenMark, nameMark}
-use Rattle.grammar.specs.Stages.{cell, is, asks}
-use Rattle.stages.specs.Sound.{Sound, MARKS}
+use Rattle.answers.specs.Answer.{LIMIT}
+use Rattle.answers.specs.Rows.{Draft, columns, plain, operand, question, string, writtenNumber, writtenMark, nameMark}
+use Rattle.answers.specs.Stages.{cell, is, asks}
+use Rattle.drafts.specs.Sound.{Sound, MARKS}
 use Rattle.sound.proofs.Lists.{apart}
 
 -- ---- a row by what it has to say

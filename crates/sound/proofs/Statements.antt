@@ -17,10 +17,12 @@ use Rattle.ll1.proofs.Basics.{clash}
 use Rattle.grammar.specs.Rules.{<source>, <form>, <rule>, <item>, <number-default>?, <option>, <head>, <name>?, <questionid>?}
 use Rattle.grammar.specs.Grammar.{rules}
 use Rattle.grammar.specs.Source.{numberAt}
-use Rattle.grammar.specs.Answer.{LIMIT}
+use Rattle.answers.specs.Answer.{LIMIT}
 use Rattle.grammar.specs.Parts.{child, chosen, placeAt}
-use Rattle.grammar.specs.Rows.{when, mark, hasFlag, flags, value, item, option, ruleDraft, form, formSet}
-use Rattle.stages.specs.Sound.{Sound}
+use Rattle.grammar.specs.Parts.{when, mark}
+use Rattle.grammar.specs.Flags.{hasFlag, flags}
+use Rattle.answers.specs.Rows.{value, item, option, ruleDraft, form, formSet}
+use Rattle.drafts.specs.Sound.{Sound}
 use Rattle.sound.proofs.Kept.{Node, part, place-at, mark-at, id-range, string-range}
 use Rattle.sound.proofs.SoundRow.{sound-row, Other, bare, Asked, question-other}
 

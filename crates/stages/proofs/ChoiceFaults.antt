@@ -8,14 +8,14 @@ use borrow.Author.Tests.{lt-ltb, eq-eqb, ne-eqb, ltb-true}
 use lib.Dec.{eqb, ltb}
 use Rattle.rows.specs.Codes as code
 use Rattle.rows.specs.Columns as column
-use Rattle.grammar.specs.Rows.{Draft}
-use Rattle.grammar.specs.Stages.{cell, is, any, outside, faultsAfter, numericFaults, optionFaults, badChoices}
-use Rattle.stages.specs.Faults.{firstFault}
+use Rattle.answers.specs.Rows.{Draft}
+use Rattle.answers.specs.Stages.{cell, is, any, outside, faultsAfter, numericFaults, optionFaults, badChoices}
+use Rattle.drafts.specs.Faults.{firstFault}
 use Rattle.stages.specs.Choices.{limitsFault, leading, isDefault, optionFault, choiceFault}
-use Rattle.stages.specs.Sound.{Sound, AllSound, no-rows, add-row, OptionsFollow, SoundRows, First, none}
-use Rattle.stages.proofs.RowTests.{other-code, any-none, any-cons}
+use Rattle.drafts.specs.Sound.{Sound, AllSound, no-rows, add-row, OptionsFollow, SoundRows, First, none}
+use Rattle.drafts.proofs.RowTests.{other-code, any-none, any-cons}
 use Rattle.stages.proofs.ChoiceLaws.{sameValue}
-use Rattle.stages.proofs.Firsts.{orElse, first-append, first-if, first-is}
+use Rattle.drafts.proofs.Firsts.{orElse, first-append, first-if, first-is}
 
 -- ---- a numeric
 

@@ -9,13 +9,13 @@ use lib.Dec.{eqb, ltb}
 use lib.ListN.{length}
 use Rattle.rows.specs.Codes as code
 use Rattle.rows.specs.Columns as column
-use Rattle.grammar.specs.Rows.{Draft}
-use Rattle.grammar.specs.Stages.{cell, is, any}
-use Rattle.grammar.specs.Drafts.{draftsFrom}
-use Rattle.stages.specs.Faults.{draftAt}
+use Rattle.answers.specs.Rows.{Draft}
+use Rattle.answers.specs.Stages.{cell, is, any}
+use Rattle.answers.specs.Drafts.{draftsFrom}
+use Rattle.drafts.specs.Faults.{draftAt}
 use Rattle.stages.specs.Choices.{limitsFault, leading, isDefault, optionFault, choiceFault}
-use Rattle.stages.proofs.DraftLaws.{drafts-next, drafts-end, drafts-last}
-use Rattle.stages.proofs.RowTests.{any-cons, any-snoc}
+use Rattle.drafts.proofs.DraftLaws.{drafts-next, drafts-end, drafts-last}
+use Rattle.drafts.proofs.RowTests.{any-cons, any-snoc}
 
 -- ---- a numeric's limits
 

@@ -9,14 +9,14 @@ use lib.Dec.{eqb}
 use Rattle.numbers.specs.Numbers.{used}
 use Rattle.rows.specs.Codes as code
 use Rattle.rows.specs.Columns as column
-use Rattle.grammar.specs.Rows.{Draft}
-use Rattle.grammar.specs.Stages.{cell, is, writes, any, finds, refers, faultIf, unfound}
-use Rattle.stages.specs.Faults.{alone, firstFault}
-use Rattle.stages.specs.Sound.{Sound, SoundRows, First, none, some}
-use Rattle.stages.specs.Names.{findIn, declaresMark, firstRow, Indexes}
+use Rattle.answers.specs.Rows.{Draft}
+use Rattle.answers.specs.Stages.{cell, is, writes, any, finds, refers, faultIf, unfound}
+use Rattle.drafts.specs.Faults.{alone, firstFault}
+use Rattle.drafts.specs.Sound.{Sound, SoundRows, First, none, some}
+use Rattle.names.specs.Names.{findIn, declaresMark, firstRow, Indexes}
 use Rattle.stages.specs.References.{findsQuestion, referenceFault}
-use Rattle.stages.proofs.Firsts.{first-each}
-use Rattle.stages.proofs.RowTests.{other-code, any-same}
+use Rattle.drafts.proofs.Firsts.{first-each}
+use Rattle.drafts.proofs.RowTests.{other-code, any-same}
 use Rattle.stages.proofs.RepeatFaults.{bears, Tells}
 
 -- some row passes the test exactly where there is a first one

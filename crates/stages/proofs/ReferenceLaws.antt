@@ -8,9 +8,9 @@ use lib.Dec.{eqb}
 use Rattle.numbers.specs.Numbers.{used}
 use Rattle.rows.specs.Codes as code
 use Rattle.rows.specs.Columns as column
-use Rattle.grammar.specs.Rows.{Draft}
-use Rattle.grammar.specs.Stages.{cell}
-use Rattle.stages.specs.Names.{findIn}
+use Rattle.answers.specs.Rows.{Draft}
+use Rattle.answers.specs.Stages.{cell}
+use Rattle.names.specs.Names.{findIn}
 use Rattle.stages.specs.References.{findsQuestion, referenceFault}
 
 module _ (s es forms written : List ℕ) (d : Draft) where

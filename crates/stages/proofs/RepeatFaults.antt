@@ -13,12 +13,12 @@ use Rattle.numbers.proofs.Lists.{mem-cons, borne-or}
 use Rattle.numbers.proofs.Maps.{used-empty, used-marked, length-marked, holds-empty}
 use Rattle.rows.specs.Codes as code
 use Rattle.rows.specs.Columns as column
-use Rattle.grammar.specs.Rows.{Draft}
-use Rattle.grammar.specs.Stages.{cell, is, asks, writes, any, faultIf, faultsAfter, repeatedForms, repeatedQuestions, ownNumbers}
+use Rattle.answers.specs.Rows.{Draft}
+use Rattle.answers.specs.Stages.{cell, is, asks, writes, any, faultIf, faultsAfter, repeatedForms, repeatedQuestions, ownNumbers}
 use Rattle.stages.specs.Repeats.{formNumber, writtenNumber, repeatedMark, mapAfter}
-use Rattle.stages.specs.Sound.{Sound, AllSound, no-rows, add-row, SoundRows, First, none}
-use Rattle.stages.proofs.RowTests.{or-swap, any-none, any-cons}
-use Rattle.stages.proofs.Firsts.{first-cond}
+use Rattle.drafts.specs.Sound.{Sound, AllSound, no-rows, add-row, SoundRows, First, none}
+use Rattle.drafts.proofs.RowTests.{or-swap, any-none, any-cons}
+use Rattle.drafts.proofs.Firsts.{first-cond}
 
 -- ---- the rows that have a number, and that number
 

@@ -9,12 +9,12 @@ use Rattle.numbers.specs.Numbers.{used, marked}
 use Rattle.rows.specs.Codes as code
 use Rattle.rows.specs.Codes.{isQuestion}
 use Rattle.rows.specs.Columns as column
-use Rattle.grammar.specs.Rows.{Draft}
-use Rattle.grammar.specs.Stages.{cell}
-use Rattle.grammar.specs.Drafts.{draftsFrom}
-use Rattle.stages.specs.Faults.{draftAt}
+use Rattle.answers.specs.Rows.{Draft}
+use Rattle.answers.specs.Stages.{cell}
+use Rattle.answers.specs.Drafts.{draftsFrom}
+use Rattle.drafts.specs.Faults.{draftAt}
 use Rattle.stages.specs.Repeats.{numberOf, repeatedMark, mapAfter}
-use Rattle.stages.proofs.DraftLaws.{drafts-start, drafts-next, drafts-end}
+use Rattle.drafts.proofs.DraftLaws.{drafts-start, drafts-next, drafts-end}
 
 -- ---- the number of a row, by its code k and own number n
 

@@ -10,11 +10,12 @@ use lib.Dec.{eqb, ltb}
 use Rattle.rows.specs.Codes as code
 use Rattle.rows.specs.Columns as column
 use Rattle.rows.specs.Draft.{HALF}
-use Rattle.grammar.specs.Rows.{Draft}
-use Rattle.grammar.specs.Stages.{cell, is, rulesOverLimit}
-use Rattle.stages.specs.Faults.{alone, firstFault, ruleFault}
-use Rattle.stages.specs.Sound.{SoundRows, First}
-use Rattle.stages.proofs.Firsts.{first-if, first-each}
+use Rattle.answers.specs.Rows.{Draft}
+use Rattle.answers.specs.Stages.{cell, is, rulesOverLimit}
+use Rattle.drafts.specs.Faults.{alone, firstFault}
+use Rattle.stages.specs.Rules.{ruleFault}
+use Rattle.drafts.specs.Sound.{SoundRows, First}
+use Rattle.drafts.proofs.Firsts.{first-if, first-each}
 
 module _ (d : Draft) {k n : ℕ} (e : k ≡ cell column.CODE d) (f : n ≡ cell column.OWN d) where
   pub rule-over : {p : ℕ} → p ≡ cell column.PLACE d → (eqb k code.RULE && ltb 255 n) ≡ true → p % HALF + 1 ≡ ruleFault d

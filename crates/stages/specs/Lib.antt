@@ -1,8 +1,5 @@
--- The definitions that the contracts and the laws of `stages` cite.
-pub mod Faults
-pub mod Choices
+-- The definitions that the contracts and the laws of `stages` cite, a stage each.
 pub mod Repeats
-pub mod Sound
-pub mod Fits
-pub mod Names
+pub mod Rules
 pub mod References
+pub mod Choices

@@ -6,9 +6,9 @@ use lib.Dec.{eqb}
 use Rattle.numbers.specs.Numbers.{used}
 use Rattle.rows.specs.Codes as code
 use Rattle.rows.specs.Columns as column
-use Rattle.grammar.specs.Rows.{Draft}
-use Rattle.grammar.specs.Stages.{cell, is}
-use Rattle.stages.specs.Names.{findIn}
+use Rattle.answers.specs.Rows.{Draft}
+use Rattle.answers.specs.Stages.{cell, is}
+use Rattle.names.specs.Names.{findIn}
 
 -- by the source s, the index es of its names, and the map of the written question numbers: a questionref finds a question, by a
 -- written number or by a name

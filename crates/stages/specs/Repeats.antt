@@ -5,8 +5,8 @@ use mathlib.Core.List.{List, [], _∷_}
 use Rattle.numbers.specs.Numbers.{used, marked}
 use Rattle.rows.specs.Codes as code
 use Rattle.rows.specs.Columns as column
-use Rattle.grammar.specs.Rows.{Draft}
-use Rattle.grammar.specs.Stages.{cell, is, asks}
+use Rattle.answers.specs.Rows.{Draft}
+use Rattle.answers.specs.Stages.{cell, is, asks}
 
 -- the number of a form, or the number that a question writes; 0 where a row has none
 abbrev pub numberOf : Bool → Draft → ℕ

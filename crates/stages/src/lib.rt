@@ -1,7 +1,5 @@
 // Stages 7 to 12 over the draft rows: each answers the mark of the first fault, or 0 (document 01, Refusal numbers).
 mod choices;
-pub mod drafts;
-pub mod names;
 mod references;
 mod repeats;
 mod rules;

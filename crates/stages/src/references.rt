@@ -1,11 +1,11 @@
 // 11: gotos and references.
 ghost use mathlib.Core.Path.{_≡_};
-ghost use Rattle.grammar.specs.Drafts.{draftsFrom};
-ghost use Rattle.stages.specs.Faults.{draftAt, alone, firstFault};
+ghost use Rattle.answers.specs.Drafts.{draftsFrom};
+ghost use Rattle.drafts.specs.Faults.{draftAt, alone, firstFault};
 ghost use Rattle.stages.specs.References.{findsQuestion, referenceFault};
-use crate::drafts::limit_mark;
-use crate::drafts::own_mark;
-use crate::names::find;
+use drafts::limit_mark;
+use drafts::own_mark;
+use names::find;
 use rows::cell;
 use rows::codes;
 use rows::columns::A;

@@ -1,9 +1,9 @@
 // 7 and 8: repeated numbers.
 ghost use mathlib.Core.Path.{_≡_};
-ghost use Rattle.grammar.specs.Drafts.{draftsFrom};
-ghost use Rattle.stages.specs.Faults.{draftAt};
+ghost use Rattle.answers.specs.Drafts.{draftsFrom};
+ghost use Rattle.drafts.specs.Faults.{draftAt};
 ghost use Rattle.stages.specs.Repeats.{numberOf, formNumber, writtenNumber, repeatedMark, mapAfter};
-use crate::drafts::own_mark;
+use drafts::own_mark;
 use rows::cell;
 use rows::codes;
 use rows::codes::is_question;

@@ -1,7 +1,8 @@
 // 10: too many rules.
 ghost use mathlib.Core.Path.{_≡_};
-ghost use Rattle.grammar.specs.Drafts.{draftsFrom};
-ghost use Rattle.stages.specs.Faults.{alone, firstFault, ruleFault};
+ghost use Rattle.answers.specs.Drafts.{draftsFrom};
+ghost use Rattle.drafts.specs.Faults.{alone, firstFault};
+ghost use Rattle.stages.specs.Rules.{ruleFault};
 use rows::cell;
 use rows::codes;
 use rows::columns::CODE;

@@ -9,10 +9,10 @@ use lib.Seq.{sets, sets-eq, take-append-seam, length-sets}
 use borrow.Author.Tests.{lt-ltb, le-ltb}
 use Rattle.rows.specs.Table.{cleared}
 use Rattle.rows.proofs.ClearLaws.{cleared-whole}
-use Rattle.grammar.specs.Answer as grammar
-use Rattle.grammar.specs.Answer.{accepts}
-use Rattle.grammar.specs.Resolution.{room, resolvedInto}
-use Rattle.print.specs.Output.{MOST}
+use Rattle.answers.specs.Answer as grammar
+use Rattle.answers.specs.Answer.{accepts}
+use Rattle.answers.specs.Resolution.{room, resolvedInto}
+use Rattle.spellings.specs.Output.{MOST}
 use Rattle.text.specs.declared.Answer.{Answer}
 use Rattle.text.specs.declared.Answer.the-variants.{Resolved, Long}
 use Rattle.text.specs.Printing.{TextPrinted}

@@ -8,20 +8,20 @@ use mathlib.Core.List.{List, append-assoc}
 use lib.Dec.{ltb}
 use lib.ListN.{length}
 use borrow.Author.Tests.{lt-ltb, le-ltb}
-use Rattle.lex.specs.Classes as class
-use Rattle.lex.specs.Classes.{NAME}
-use Rattle.lex.specs.Lexemes.{lexemes, signs, reserved}
+use Rattle.lexemes.specs.Classes as class
+use Rattle.lexemes.specs.Classes.{NAME}
+use Rattle.lexemes.specs.Lexemes.{lexemes, signs, reserved}
 use Rattle.rows.specs.Codes as code
 use Rattle.rows.specs.Columns as column
 use Rattle.rows.specs.Table.{rowAt, cellAt}
-use Rattle.grammar.specs.Expression.{Expression, negation, binary, Operator, operatorCode, operatorClass, level, constantClass}
-use Rattle.grammar.specs.Text.{Word, words, lexeme, printed, textOf}
-use Rattle.print.specs.Output.{MOST, Prints, PrintsBefore}
+use Rattle.answers.specs.Expression.{Expression, negation, binary, Operator, operatorCode, operatorClass, level, constantClass}
+use Rattle.answers.specs.Text.{Word, words, lexeme, printed, textOf}
+use Rattle.spellings.specs.Output.{MOST, Prints, PrintsBefore}
 use Rattle.print.specs.Statements.{operandWords}
-use Rattle.print.proofs.Outputs.{print-before, counted-before, before-end, count-before}
+use Rattle.spellings.proofs.Outputs.{print-before, counted-before, before-end, count-before}
+use Rattle.laid.specs.Spans.{Spans, spans-number, spans-constant, spans-question-named, spans-question-numbered, spans-rule-named, spans-negation, spans-binary}
 use Rattle.text.specs.declared.expressions.Ahead.{Ahead}
 use Rattle.text.specs.Operators.{LEVELS, codeLevel, codeClass, atomWords}
-use Rattle.text.specs.Spans.{Spans, spans-number, spans-constant, spans-question-named, spans-question-numbered, spans-rule-named, spans-negation, spans-binary}
 use Rattle.text.specs.Before.{WordBefore, AtomBefore, ExpressionBefore, ExpressionCounted, ExpressionPrinted}
 use Rattle.text.proofs.OperatorLaws.{operator-level, operator-class, constant-class, constant-level, level-low, constant-word, operator-not, constant-not, not-level, number-level, question-level, rule-level, number-class, question-class, rule-class}
 

@@ -8,22 +8,23 @@ use mathlib.Core.Bool.{Bool, true, false, not, false≢true}
 use mathlib.Core.List.{List, [], append-nil}
 use lib.ListN.{length, getD}
 use borrow.Author.Tests.{not-true, not-false}
-use Rattle.lex.proofs.Lists.{either-less}
+use Rattle.lexemes.proofs.Lists.{either-less}
 use Rattle.rows.specs.Codes as code
 use Rattle.rows.specs.Codes.{isExpression}
 use Rattle.rows.specs.Columns as column
 use Rattle.rows.specs.Table.{rowAt, cellAt}
-use Rattle.grammar.specs.Expression.{Expression}
-use Rattle.grammar.specs.Text.{opening}
-use Rattle.print.specs.Output.{Prints}
+use Rattle.answers.specs.Expression.{Expression}
+use Rattle.answers.specs.Text.{opening}
+use Rattle.spellings.specs.Output.{Prints}
 use Rattle.print.specs.Statements.{closing, expressionEnd}
-use Rattle.print.proofs.Outputs.{prints-none, prints-then}
-use Rattle.print.proofs.PhraseLaws.{as-words}
+use Rattle.spellings.proofs.Outputs.{prints-none, prints-then}
+use Rattle.spellings.proofs.Outputs.{as-words}
+use Rattle.laid.specs.Spans.{Spans, spans-number, spans-constant, spans-question-named, spans-question-numbered, spans-rule-named, spans-negation, spans-binary}
+use Rattle.laid.specs.Items.{Inner, Items}
+use Rattle.laid.specs.Laid.{Stretch, Stops, Inside, inside-plain, inside-expressed, Laid, laid-done, laid-item}
 use Rattle.text.specs.declared.items.Printed.{Printed}
-use Rattle.text.specs.Spans.{Spans, spans-number, spans-constant, spans-question-named, spans-question-numbered, spans-rule-named, spans-negation, spans-binary}
 use Rattle.text.specs.Before.{ExpressionPrinted}
-use Rattle.text.specs.Items.{Inner, Items, codeAt, innerWords, itemWords}
-use Rattle.text.specs.Laid.{Stretch, Stops, Inside, inside-plain, inside-expressed, Laid, laid-done, laid-item}
+use Rattle.text.specs.ItemWords.{codeAt, innerWords, itemWords}
 use Rattle.text.specs.Printing.{Opened, ItemsPrinted, TextPrinted}
 
 -- ---- the end of an expression's rows

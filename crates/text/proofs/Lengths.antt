@@ -7,24 +7,25 @@ use mathlib.Core.Bool.{Bool, true, false, cond}
 use mathlib.Core.List.{List, [], _∷_, _++_}
 use lib.Dec.{eqb, ltb}
 use lib.ListN.{length, getD, length-append}
-use Rattle.lex.specs.Tokens.{same}
-use Rattle.lex.specs.Classes.{NAME}
-use Rattle.lex.proofs.Lists.{either}
+use Rattle.lexemes.specs.Words.{same}
+use Rattle.lexemes.specs.Classes.{NAME}
+use Rattle.lexemes.proofs.Lists.{either}
 use Rattle.rows.specs.Columns as column
 use Rattle.rows.specs.Table.{cellAt}
-use Rattle.grammar.specs.Expression.{Expression, constantClass, operatorClass, level}
-use Rattle.grammar.specs.Text as text
-use Rattle.grammar.specs.Text.{Word, words, decimal, decimalDigits, hex, hexDigits, ruleName, lexeme, flagList, truth, grouped, printed, opening, textOf, Phrase, _prints_, phraseAmong, statements}
+use Rattle.answers.specs.Expression.{Expression, constantClass, operatorClass, level}
+use Rattle.answers.specs.Text as text
+use Rattle.answers.specs.Text.{Word, words, decimal, decimalDigits, hex, hexDigits, ruleName, lexeme, flagList, truth, grouped, printed, opening, textOf, Phrase, _prints_, phraseAmong, statements}
 use Rattle.print.specs.Phrase.{bit, flagWords, optionFlags, elementWords, valueFrom, added, skipAfter, passedAfter, phraseFrom, shownIn, elementIn, phraseWords}
 use Rattle.print.specs.Statements.{closing, expressionEnd}
-use Rattle.print.proofs.Outputs.{text-append}
-use Rattle.print.proofs.DigitLaws.{digits-few}
-use Rattle.print.proofs.SpellingLaws.{lexeme-short}
+use Rattle.spellings.proofs.Outputs.{text-append}
+use Rattle.spellings.proofs.DigitLaws.{digits-few}
+use Rattle.spellings.proofs.SpellingLaws.{lexeme-short}
 use Rattle.print.proofs.Patterns as p
 use Rattle.print.proofs.StatementLaws.{form-words, rule-words, subtitle-words, text-words, label-words, form-set-words, option-words, goto-words, checkbox-words, numeric-words, one-of-words}
-use Rattle.text.specs.Spans.{Spans, spans-number, spans-constant, spans-question-named, spans-question-numbered, spans-rule-named, spans-negation, spans-binary}
-use Rattle.text.specs.Items.{Inner, Items, codeAt, innerWords, itemWords}
-use Rattle.text.specs.Laid.{Inside, inside-plain, inside-expressed, Laid, laid-done, laid-item}
+use Rattle.laid.specs.Spans.{Spans, spans-number, spans-constant, spans-question-named, spans-question-numbered, spans-rule-named, spans-negation, spans-binary}
+use Rattle.laid.specs.Items.{Inner, Items}
+use Rattle.laid.specs.Laid.{Inside, inside-plain, inside-expressed, Laid, laid-done, laid-item}
+use Rattle.text.specs.ItemWords.{codeAt, innerWords, itemWords}
 
 abbrev pub size : List Word → ℕ
 size ws = length (textOf ws)

@@ -2,9 +2,8 @@ pub mod OperatorLaws
 pub mod ExpressionLaws
 pub mod ItemLaws
 pub mod AnswerLaws
-pub mod Forests
-pub mod HeldRows
 pub mod Lengths
+pub mod TreeWords
 pub mod AcceptedText
 pub mod ResolveLaws
 pub mod Demands

@@ -4,8 +4,8 @@ use Prim.Native.Nat.{_<_}
 use native.Mathlib.Omega.{arith}
 use mathlib.Core.Path.{_≡_, refl}
 use Rattle.rows.specs.Codes as code
-use Rattle.lex.specs.Classes.{NAME}
-use Rattle.grammar.specs.Expression.{Operator, or, and, bit-or, bit-and, equal, not-equal, less, less-equal, greater, greater-equal, shift-left, shift-right, add, subtract, multiply, divide, modulo, operatorCode, operatorClass, level, Constant, true′, false′, zero′, one′, ones′, undefined′, constantCode, constantClass}
+use Rattle.lexemes.specs.Classes.{NAME}
+use Rattle.answers.specs.Expression.{Operator, or, and, bit-or, bit-and, equal, not-equal, less, less-equal, greater, greater-equal, shift-left, shift-right, add, subtract, multiply, divide, modulo, operatorCode, operatorClass, level, Constant, true′, false′, zero′, one′, ones′, undefined′, constantCode, constantClass}
 use Rattle.text.specs.Operators.{LEVELS, codeLevels, codeLevel, codeClasses, codeClass}
 
 pub operator-level : (o : Operator) → codeLevel (operatorCode o) ≡ level o

@@ -8,15 +8,16 @@ use lib.Dec.{eqb}
 use lib.ListN.{length, replicate}
 use Rattle.rows.specs.Codes as code
 use Rattle.rows.specs.Table.{rowAt}
-use Rattle.grammar.specs.Answer.{accepts}
-use Rattle.grammar.specs.Resolution.{Resolution, resolvedInto}
-use Rattle.grammar.specs.Text.{opening, textOf}
-use Rattle.print.specs.Output.{MOST}
+use Rattle.answers.specs.Answer.{accepts}
+use Rattle.answers.specs.Resolution.{Resolution, resolvedInto}
+use Rattle.answers.specs.Text.{opening, textOf}
+use Rattle.spellings.specs.Output.{MOST}
 use Rattle.print.specs.Statements.{closing}
+use Rattle.laid.specs.Items.{Items}
+use Rattle.laid.specs.Laid.{Stops, Laid}
 use Rattle.text.specs.declared.Answer.{Answer}
 use Rattle.text.specs.declared.Answer.the-variants.{Resolved, Refused, Short, Long}
-use Rattle.text.specs.Items.{Items, itemWords}
-use Rattle.text.specs.Laid.{Stops, Laid}
+use Rattle.text.specs.ItemWords.{itemWords}
 
 abbrev pub told : Answer → Resolution
 told (Resolved rows free bytes) = record { number = 0; place = 0; rows = rows; free = free; bytes = bytes }
@@ -39,4 +40,5 @@ pub record HasText (t : List ℕ) (count : ℕ) (text : List ℕ) : Type 0 where
 pub record RowsPrinted (t : List ℕ) (count free : ℕ) (o : List ℕ) (r : Answer) (t′ o′ : List ℕ) : Type 0 where
   pub answer : (text : List ℕ) → HasText t count text → length text ≤ MOST → told r ≡ resolvedInto (length o) (length text) (accepts count free)
   pub table : (text : List ℕ) → HasText t count text → length text ≤ MOST → t′ ≡ cond (eqb (told r .number) 0) t (replicate (length t) 0)
-  pub output : (text : List ℕ) → HasText t count text → length text ≤ MOST → o′ ≡ cond (eqb (told r .number) 0) (text ++ replicate (length o - length text) 0) (replicate (length o) 0)
+  pub output : (text : List ℕ) → HasText t count text → length text ≤ MOST
+      → o′ ≡ cond (eqb (told r .number) 0) (text ++ replicate (length o - length text) 0) (replicate (length o) 0)

@@ -5,12 +5,12 @@ use mathlib.Core.Path.{_≡_}
 use mathlib.Core.List.{List}
 use lib.ListN.{length}
 use Rattle.rows.specs.Table.{rowAt}
-use Rattle.grammar.specs.Expression.{Expression}
-use Rattle.grammar.specs.Text.{Word, printed, textOf}
-use Rattle.print.specs.Output.{MOST, Prints, PrintsBefore}
+use Rattle.answers.specs.Expression.{Expression}
+use Rattle.answers.specs.Text.{Word, printed, textOf}
+use Rattle.spellings.specs.Output.{MOST, Prints, PrintsBefore}
+use Rattle.laid.specs.Spans.{Spans}
 use Rattle.text.specs.declared.expressions.Ahead.{Ahead}
 use Rattle.text.specs.Operators.{atomWords}
-use Rattle.text.specs.Spans.{Spans}
 
 -- words before what is printed, of no row
 pub record WordBefore (o : List ℕ) (a : Ahead) (ws : List Word) (o′ : List ℕ) (r : Ahead) : Type 0 where
@@ -24,12 +24,14 @@ pub record AtomBefore (t o : List ℕ) (a : Ahead) (o′ : List ℕ) (r : Ahead)
 
 -- whatever expression ends with the last row before, with parentheses round an operator of a level looser than the least
 pub record ExpressionBefore (t : List ℕ) (least : ℕ) (o : List ℕ) (a : Ahead) (o′ : List ℕ) (r : Ahead) : Type 0 where
-  pub prints : (found : ℕ → List ℕ) (first : ℕ) (e : Expression) → Spans found t first e (a .row) → PrintsBefore o (a .at) (printed found least e) o′ (r .at) × (r .row ≡ first)
+  pub prints : (found : ℕ → List ℕ) (first : ℕ) (e : Expression) → Spans found t first e (a .row)
+      → PrintsBefore o (a .at) (printed found least e) o′ (r .at) × (r .row ≡ first)
   pub fewer : r .row ≤ a .row
 
 -- the bytes of an expression that ends before the row `end`
 pub record ExpressionCounted (t : List ℕ) (end n : ℕ) : Type 0 where
-  pub counts : (found : ℕ → List ℕ) (first : ℕ) (e : Expression) → Spans found t first e end → length (textOf (printed found 0 e)) ≤ MOST → n ≡ length (textOf (printed found 0 e))
+  pub counts : (found : ℕ → List ℕ) (first : ℕ) (e : Expression) → Spans found t first e end
+      → length (textOf (printed found 0 e)) ≤ MOST → n ≡ length (textOf (printed found 0 e))
 
 pub record ExpressionPrinted (t : List ℕ) (end : ℕ) (o : List ℕ) (at : ℕ) (o′ : List ℕ) (r : ℕ) : Type 0 where
   pub prints : (found : ℕ → List ℕ) (first : ℕ) (e : Expression) → Spans found t first e end → Prints o at (printed found 0 e) o′ r

@@ -5,10 +5,10 @@ use mathlib.Core.Bool.{cond}
 use mathlib.Core.List.{List, _++_, map}
 use lib.Dec.{ltb}
 use lib.ListN.{getD}
-use Rattle.lex.specs.Classes.{NAME}
+use Rattle.lexemes.specs.Classes.{NAME}
 use Rattle.rows.specs.Columns as column
-use Rattle.grammar.specs.Expression.{operators, operatorCode, operatorClass, level, constantCode, constantClass}
-use Rattle.grammar.specs.Text.{Word, lexeme}
+use Rattle.answers.specs.Expression.{operators, operatorCode, operatorClass, level, constantCode, constantClass}
+use Rattle.answers.specs.Text.{Word, lexeme}
 use Rattle.fields.specs.Words.{Pair, pair, lookUp, constants}
 use Rattle.print.specs.Statements.{operandWords}
 

@@ -8,7 +8,7 @@ use rows::codes;
 use rows::columns::CODE;
 use rows::columns::PARENT;
 ghost use Prim.Native.Nat.{_<_};
-ghost use Rattle.text.specs.Laid.{Stretch};
+ghost use Rattle.laid.specs.Laid.{Stretch};
 ghost use Rattle.text.specs.Printing.{Opened, ItemsPrinted, TextPrinted};
 
 // Where the printer stands: the next row, the bytes so far.

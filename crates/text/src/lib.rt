@@ -7,7 +7,7 @@ use crate::items::put_text;
 ghost use mathlib.Core.Path.{_≡_};
 ghost use lib.ListN.{length};
 ghost use Rattle.rows.specs.Table.{cleared};
-ghost use Rattle.grammar.specs.Resolution.{room, resolution, resolvedTable, resolvedOutput};
+ghost use Rattle.answers.specs.Resolution.{room, resolution, resolvedTable, resolvedOutput};
 ghost use Rattle.text.specs.Answers.{told, RowsPrinted};
 
 // The longest text.

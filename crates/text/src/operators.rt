@@ -1,5 +1,5 @@
 // Operators and constants by the codes of their rows.
-use lex::classes::*;
+use lexemes::classes::*;
 use rows::codes;
 ghost use mathlib.Core.Path.{_≡_};
 ghost use Rattle.text.specs.Operators.{codeLevel, codeClass};

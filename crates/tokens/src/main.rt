@@ -2,7 +2,7 @@
 // sign or a reserved word is printed as its own text. A line `----` parts two sources and is printed between their
 // tokens too; the LF before it belongs to neither source.
 use lex::Token;
-use lex::classes;
+use lexemes::classes;
 use libc::STDIN_FILENO;
 use libc::STDOUT_FILENO;
 ghost use Prim.Native.Nat.{_≤_};

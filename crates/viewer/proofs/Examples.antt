@@ -5,9 +5,11 @@ use Prim.Native.String.{String}
 use mathlib.Core.Path.{_≡_, refl}
 use mathlib.Core.List.{List, [], _∷_, map}
 use Rattle.lex.specs.declared.Token.{Token}
-use Rattle.lex.specs.Classes as class
-use Rattle.lex.specs.Lexemes.{bytes, signs, reserved}
-use Rattle.lex.specs.Tokens.{run, all, same, placeOf, isGap, inComment, gap, isHex, wordClass, wordToken, signClass, signToken, tokenFrom, tokenAfterGap, tokenAt}
+use Rattle.lexemes.specs.Classes as class
+use Rattle.lexemes.specs.Lexemes.{bytes, signs, reserved}
+use Rattle.lexemes.specs.Words.{run, all, same, placeOf}
+use Rattle.lex.specs.Tokens.{isGap, inComment, gap, wordClass, wordToken, signClass, signToken, tokenFrom, tokenAfterGap, tokenAt}
+use Rattle.values.specs.Numbers.{isHex}
 use Rattle.lex.proofs.Specimens.{tok}
 use Rattle.viewer.specs.Viewed.{placePast, placeAfter, placeOfNth, nthToken}
 

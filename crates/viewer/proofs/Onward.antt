@@ -8,7 +8,7 @@ use native.Mathlib.Numerals.{add-one}
 use native.Mathlib.Omega.{arith}
 use lib.ListN.{length}
 use borrow.Author.Tests.{lt-ltb, le-ltb}
-use Rattle.lex.specs.Classes.{BAD}
+use Rattle.lexemes.specs.Classes.{BAD}
 use Rattle.lex.specs.Tokens.{tokenAt}
 use Rattle.lex.proofs.Progress.{token-moves}
 use Rattle.viewer.specs.Viewed.{placePast, placeAfter, placeOfNth, nthToken}

@@ -6,7 +6,7 @@ use mathlib.Core.Bool.{cond}
 use mathlib.Core.List.{List}
 use lib.Dec.{ltb}
 use Rattle.lex.specs.declared.Token.{Token}
-use Rattle.lex.specs.Classes.{BAD}
+use Rattle.lexemes.specs.Classes.{BAD}
 use Rattle.lex.specs.Tokens.{tokenAt}
 use Rattle.viewer.specs.declared.Seen.{Seen}
 

@@ -4,7 +4,7 @@ ghost use mathlib.Core.Path.{_≡_};
 ghost use Rattle.viewer.specs.Viewed.{placeAfter, nthToken, seenAt};
 ghost use Rattle.lex.specs.Tokens.{tokenAt};
 use lex::Token;
-use lex::classes::BAD;
+use lexemes::classes::BAD;
 
 pub struct Reader<'a> {
     pub src: &'a [u8],

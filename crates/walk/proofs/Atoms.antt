@@ -7,8 +7,8 @@ use mathlib.Core.List.{List, [], _∷_}
 use mathlib.Core.Option.{some}
 use native.Mathlib.Omega.{arith}
 use borrow.Author.Tests.{ne-eqb}
-use Rattle.lex.specs.Classes as class
-use Rattle.lex.specs.Classes.{close-paren, NAME, HEX, DECIMAL, BAD}
+use Rattle.lexemes.specs.Classes as class
+use Rattle.lexemes.specs.Classes.{close-paren, NAME, HEX, DECIMAL, BAD}
 use Rattle.ll1.specs.Trees.{token, Trees, nil, leaf, node, alternativeOf, Fits, fits-nil, fits-leaf, fits-node}
 use Rattle.ll1.specs.ParseTable.{predict}
 use Rattle.grammar.specs.Grammar.{rules}
@@ -16,10 +16,10 @@ use Rattle.grammar.specs.Notation.{t, r, plain}
 use Rattle.grammar.specs.Lookahead.{lookahead}
 use Rattle.grammar.specs.Rules.{<atom>, <large>, <id>, <name-or-number>}
 use Rattle.grammar.specs.Parts.{placeAt}
-use Rattle.grammar.specs.Expression.{Expression, number, constant, question-named, question-numbered, rule-named, Constant, true′, false′, zero′, one′, ones′, undefined′, constantCode, atom}
-use Rattle.grammar.specs.Rows.{Draft}
-use Rattle.phrases.specs.Entries.{nodeEntries, entries}
-use Rattle.phrases.specs.Symbols.{symbolsOf, phraseSymbols, NUMBER, QUESTION-REF, RULE-REF}
+use Rattle.answers.specs.Expression.{Expression, number, constant, question-named, question-numbered, rule-named, Constant, true′, false′, zero′, one′, ones′, undefined′, constantCode, atom}
+use Rattle.answers.specs.Rows.{Draft}
+use Rattle.elements.specs.Entries.{nodeEntries, entries}
+use Rattle.elements.specs.Symbols.{symbolsOf, phraseSymbols, NUMBER, QUESTION-REF, RULE-REF}
 use Rattle.fields.specs.Words.{wordCodes, codeOf}
 use Rattle.fields.specs.Phrases.{markedValue, phraseDraft}
 use Rattle.walk.specs.Meanings.{Rowed, Worded, keptOf, phraseRow, rowsFor, Spelling}

@@ -11,8 +11,8 @@ use native.Mathlib.Decide.{ℕ-discrete}
 use lib.ListN.{length}
 use borrow.Author.Tests.{le-ltb}
 use Rattle.lex.specs.declared.Token as lex
-use Rattle.lex.specs.Classes as class
-use Rattle.lex.specs.Classes.{open-paren, BAD}
+use Rattle.lexemes.specs.Classes as class
+use Rattle.lexemes.specs.Classes.{open-paren, BAD}
 use Rattle.rows.specs.Table.{withRow}
 use Rattle.rows.specs.Rows.{put}
 use Rattle.ll1.specs.Trees.{token, nil, alternativeOf, fits-nil, Depth, depth}
@@ -24,10 +24,10 @@ use Rattle.grammar.specs.Lookahead.{lookahead}
 use Rattle.grammar.specs.Rules.{level, tail, <or>, <atom>}
 use Rattle.grammar.specs.Derivation.{tooDeep, maxConditions, maxGroups}
 use Rattle.grammar.specs.Ranges.{rangeOf, outOfRange}
-use Rattle.phrases.specs.Symbols.{symbolsOf, phraseSymbols, GROUP-CLOSE, NUMBER, QUESTION-REF, RULE-REF}
-use Rattle.phrases.proofs.Keeping.{marked-none}
-use Rattle.grammar.specs.Expression.{operators, operator, operatorAmong, operatorCode}
-use Rattle.grammar.specs.Drafts.{encoded}
+use Rattle.elements.specs.Symbols.{symbolsOf, phraseSymbols, GROUP-CLOSE, NUMBER, QUESTION-REF, RULE-REF}
+use Rattle.elements.proofs.MarkLaws.{marked-none}
+use Rattle.answers.specs.Expression.{operators, operator, operatorAmong, operatorCode}
+use Rattle.answers.specs.Drafts.{encoded}
 use Rattle.fields.specs.Words.{codeOf, wordDraft}
 use Rattle.walk.specs.declared.State.{State}
 use Rattle.walk.specs.Meanings.{Meaning, Counted, Worded, Spelling, Tailing}

@@ -11,8 +11,8 @@ use native.Mathlib.Numerals.{add-one}
 use lib.Dec.{eqb}
 use lib.ListN.{length}
 use borrow.Author.Tests.{eq-eqb, le-ltb}
-use Rattle.lex.specs.Classes as class
-use Rattle.lex.specs.Classes.{BAD}
+use Rattle.lexemes.specs.Classes as class
+use Rattle.lexemes.specs.Classes.{BAD}
 use Rattle.ll1.specs.Trees.{token, Trees, leaf, node, alternativeOf, fits-nil, fits-leaf, fits-node, Depth, depth}
 use Rattle.ll1.specs.ParseTable.{predict}
 use Rattle.ll1.proofs.Basics.{clash}
@@ -22,9 +22,9 @@ use Rattle.grammar.specs.Lookahead.{lookahead}
 use Rattle.grammar.specs.Rules.{<rule>, <item>, <item>*, <or>}
 use Rattle.grammar.specs.Derivation.{tooDeep, maxConditions, maxGroups}
 use Rattle.grammar.specs.Ranges.{rangeOf}
-use Rattle.grammar.specs.Expression.{number, expression}
-use Rattle.phrases.specs.Entries.{entries}
-use Rattle.phrases.specs.Symbols.{symbolsOf, phraseSymbols, RULE-OPEN, RULE-CLOSE, EXPRESSION-CLOSE, CONDITION-CLOSE}
+use Rattle.answers.specs.Expression.{number, expression}
+use Rattle.elements.specs.Entries.{entries}
+use Rattle.elements.specs.Symbols.{symbolsOf, phraseSymbols, RULE-OPEN, RULE-CLOSE, EXPRESSION-CLOSE, CONDITION-CLOSE}
 use Rattle.fields.specs.Words.{wordCodes, codeOf, wordDraft}
 use Rattle.walk.specs.declared.State.{State}
 use Rattle.walk.specs.Meanings.{_⧺_, keptOf, Counted, Under, Opening, RuleRow, Worded, Spelling, rowsOwn, rowsFor}

@@ -7,16 +7,18 @@ use mathlib.Core.List.{List, [], _∷_}
 use mathlib.Core.Option.{some}
 use lib.Dec.{eqb}
 use lib.ListN.{getD, getElem?}
-use Rattle.lex.specs.Classes as class
-use Rattle.lex.specs.Classes.{comma, open-paren, close-paren, NAME, HEX, DECIMAL}
+use Rattle.lexemes.specs.Classes as class
+use Rattle.lexemes.specs.Classes.{comma, open-paren, close-paren, NAME, HEX, DECIMAL}
 use Rattle.ll1.specs.Trees.{token, Trees, nil, leaf, node, Symbol, Alternative, alternativeOf, Fits, fits-nil, fits-leaf, fits-node}
 use Rattle.ll1.proofs.Basics.{clash}
 use Rattle.grammar.specs.Grammar.{rules}
 use Rattle.grammar.specs.Notation.{t, r, plain}
 use Rattle.grammar.specs.Rules.{<H8>, <H4>, <H2>, <str>, <id>, <small>, <large>, <zero>, <goto-flags>?, <flags>?, <truth-default>?, <truth>, <step>?, <number-default>?, <option-flags>, <head>, <name>?, <questionid>?, <fl>, <flag>*, <flag>}
 use Rattle.grammar.specs.Parts.{child, chosen, placeAt}
-use Rattle.grammar.specs.Rows.{mark, when, flags, nameMark, writtenMark}
-use Rattle.phrases.specs.Entries.{nodeEntries, entries}
+use Rattle.grammar.specs.Parts.{mark, when}
+use Rattle.grammar.specs.Flags.{flags}
+use Rattle.answers.specs.Rows.{nameMark, writtenMark}
+use Rattle.elements.specs.Entries.{nodeEntries, entries}
 
 -- ---- the alternatives of a rule, read back
 

@@ -9,7 +9,7 @@ use mathlib.Core.Logic.{_⊎_, inr, _≢_}
 use native.Mathlib.Omega.{arith}
 use lib.Dec.{eqb}
 use borrow.Author.Tests.{eqb-true, eqb-false}
-use Rattle.lex.specs.Classes.{BAD}
+use Rattle.lexemes.specs.Classes.{BAD}
 use Rattle.ll1.specs.Trees.{token, alternativeOf}
 use Rattle.ll1.specs.ParseTable.{entryOf, predict, member, find, nullable}
 use Rattle.ll1.specs.Test.{all, joined}
@@ -20,8 +20,8 @@ use Rattle.grammar.specs.Grammar.{rules}
 use Rattle.grammar.specs.Notation.{t, r, plain}
 use Rattle.grammar.specs.Lookahead.{lookahead}
 use Rattle.grammar.specs.Ranges.{rangeOf, free}
-use Rattle.grammar.specs.Expression as expr
-use Rattle.grammar.specs.Expression.{Operator, operators, operatorClass, operatorCode, operator, operatorAmong}
+use Rattle.answers.specs.Expression as expr
+use Rattle.answers.specs.Expression.{Operator, operators, operatorClass, operatorCode, operator, operatorAmong}
 use Rattle.fields.specs.Words.{pair, lookUp, wordCodes, codeOf}
 use Rattle.walk.specs.Levels.{LEVELS, operatorLevels, levelOf}
 use Rattle.walk.proofs.StatementSteps.{Told}

@@ -9,8 +9,8 @@ use mathlib.Core.Logic.{_≢_}
 use native.Mathlib.Omega.{arith}
 use lib.Dec.{eqb}
 use lib.ListN.{length}
-use Rattle.lex.specs.Classes as class
-use Rattle.lex.specs.Classes.{END}
+use Rattle.lexemes.specs.Classes as class
+use Rattle.lexemes.specs.Classes.{END}
 use Rattle.ll1.specs.Trees.{Trees, alternativeOf, Depth}
 use Rattle.ll1.specs.ParseTable.{entryOf, predict, nullable}
 use Rattle.ll1.proofs.Lookups.{member-not}

@@ -12,7 +12,7 @@ use Rattle.ll1.specs.Trees.{Trees, nil, node, Symbol, Fits}
 use Rattle.grammar.specs.Rules.{<rule>}
 use Rattle.grammar.specs.Grammar.{rules}
 use Rattle.grammar.specs.Source.{numberAt}
-use Rattle.grammar.specs.Rows.{Draft, rulesIn, parentIn}
+use Rattle.answers.specs.Rows.{Draft, rulesIn, parentIn}
 use Rattle.walk.specs.Meanings.{_⧺_, Silent, rowsIn, rowsOwn, Under, Opening}
 use Rattle.walk.proofs.TreeLaws.{beside-assoc, beside-nil, rules-beside, rowsWithin, rows-nil, rows-node, rows-beside, quiet, quiet-rows, quiet-rules}
 use Rattle.walk.proofs.Walks.{Joins}

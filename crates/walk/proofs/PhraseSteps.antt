@@ -10,7 +10,7 @@ use native.Mathlib.Nat.{add-zero}
 use native.Mathlib.Decide.{ℕ-discrete}
 use lib.ListN.{length, replicate}
 use Rattle.lex.specs.declared.Token as lex
-use Rattle.lex.specs.Classes.{END}
+use Rattle.lexemes.specs.Classes.{END}
 use Rattle.rows.specs.Table.{withRow}
 use Rattle.rows.specs.Rows.{put}
 use Rattle.ll1.specs.Trees.{Token, token, Trees, leaves, Symbol, Fits}
@@ -20,16 +20,17 @@ use Rattle.ll1.proofs.Unique.{no-leaf}
 use Rattle.grammar.specs.Grammar.{rules}
 use Rattle.grammar.specs.Lookahead.{lookahead}
 use Rattle.grammar.specs.Source.{numberAt}
-use Rattle.grammar.specs.Rows.{Draft}
-use Rattle.grammar.specs.Drafts.{encoded}
+use Rattle.answers.specs.Rows.{Draft}
+use Rattle.answers.specs.Drafts.{encoded}
 use Rattle.grammar.proofs.Theorems.{grammar-ll1}
 use Rattle.phrases.specs.declared.Cursor.{Cursor}
 use Rattle.phrases.specs.Stream.{stream}
-use Rattle.phrases.specs.Entries.{entries}
-use Rattle.phrases.specs.Passed.{KEPT, written, Phrase, Passed}
+use Rattle.elements.specs.Entries.{entries}
+use Rattle.elements.specs.Entries.{KEPT}
+use Rattle.phrases.specs.Passed.{written, Phrase, Passed}
 use Rattle.phrases.proofs.Streams.{stream-end, stream-first}
 use Rattle.phrases.proofs.Keeping.{written-zeros}
-use Rattle.phrases.specs.Symbols.{symbolsOf, phraseSymbols, RULE-OPEN}
+use Rattle.elements.specs.Symbols.{symbolsOf, phraseSymbols, RULE-OPEN}
 use Rattle.fields.specs.Phrases.{kept, phraseDraft, ruleDraft}
 use Rattle.walk.specs.declared.State.{State}
 use Rattle.walk.specs.Meanings.{Counted, Silent, firstClass, firstPlace, keptOf, phraseRow, Rowed, RuleRow}

@@ -9,14 +9,14 @@ use native.Mathlib.Decide.{ℕ-discrete}
 use lib.Dec.{eqb}
 use lib.ListN.{length, length-append}
 use borrow.Author.Tests.{eq-eqb, ne-eqb}
-use Rattle.lex.specs.Classes.{BAD}
+use Rattle.lexemes.specs.Classes.{BAD}
 use Rattle.ll1.specs.Trees.{Token, Trees, leaves, Symbol, Fits, Depth}
 use Rattle.ll1.specs.Machine.{allNullable}
 use Rattle.ll1.proofs.Basics.{clash}
 use Rattle.ll1.proofs.Unique.{no-leaf}
 use Rattle.grammar.specs.Grammar.{rules}
 use Rattle.grammar.specs.Lookahead.{lookahead}
-use Rattle.grammar.specs.Rows.{Draft}
+use Rattle.answers.specs.Rows.{Draft}
 use Rattle.grammar.proofs.Theorems.{grammar-ll1}
 use Rattle.phrases.specs.Stream.{stream}
 use Rattle.phrases.proofs.Streams.{stream-on, within-at}

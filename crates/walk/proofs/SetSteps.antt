@@ -11,8 +11,8 @@ use lib.Dec.{eqb}
 use lib.ListN.{length, replicate, length-append}
 use borrow.Author.Tests.{eqb-true}
 use Rattle.lex.specs.declared.Token as lex
-use Rattle.lex.specs.Classes as class
-use Rattle.lex.specs.Classes.{open-brace, close-brace, comma}
+use Rattle.lexemes.specs.Classes as class
+use Rattle.lexemes.specs.Classes.{open-brace, close-brace, comma}
 use Rattle.lex.specs.Tokens.{tokenAt}
 use Rattle.rows.specs.Table.{withRow}
 use Rattle.rows.specs.Rows.{put}
@@ -29,19 +29,21 @@ use Rattle.grammar.specs.Reading.{verdictFrom}
 use Rattle.grammar.specs.Source.{numberAt}
 use Rattle.grammar.specs.Parts.{child, placeAt}
 use Rattle.grammar.specs.Ranges.{rangeOf, free, outOfRange}
-use Rattle.grammar.specs.Rows.{Draft, mark}
-use Rattle.grammar.specs.Drafts.{encoded}
+use Rattle.answers.specs.Rows.{Draft}
+use Rattle.grammar.specs.Parts.{mark}
+use Rattle.answers.specs.Drafts.{encoded}
 use Rattle.phrases.specs.declared.Cursor.{Cursor}
 use Rattle.phrases.specs.Stream.{stream, resume, Within}
-use Rattle.phrases.specs.Entries.{leafEntries, nodeEntries, entries}
-use Rattle.phrases.specs.Marks.{marked}
-use Rattle.phrases.specs.Passed.{KEPT, Passed}
-use Rattle.phrases.specs.Symbols.{symbolsOf, phraseSymbols, titleAndHelp, FORM-SET-OPEN, FORM-SET-BRACED, FORM-SET-PLAIN}
+use Rattle.elements.specs.Entries.{leafEntries, nodeEntries, entries}
+use Rattle.elements.specs.Marks.{marked}
+use Rattle.elements.specs.Entries.{KEPT}
+use Rattle.phrases.specs.Passed.{Passed}
+use Rattle.elements.specs.Symbols.{symbolsOf, phraseSymbols, titleAndHelp, FORM-SET-OPEN, FORM-SET-BRACED, FORM-SET-PLAIN}
 use Rattle.phrases.proofs.Streams.{within-at}
-use Rattle.phrases.proofs.Keeping.{marked-append}
+use Rattle.elements.proofs.MarkLaws.{marked-append}
 use Rattle.phrases.proofs.Resume.{resume-like}
 use Rattle.grammar.proofs.Equations.{verdict-take, verdict-deep, verdict-miss, verdict-ends, verdict-open}
-use Rattle.phrases.proofs.Nodes.{entries-node, out-node}
+use Rattle.elements.proofs.TreeLaws.{entries-node, out-node}
 use Rattle.fields.specs.Phrases.{kept, markedValue, formSetDraft}
 use Rattle.walk.specs.declared.State.{State}
 use Rattle.walk.specs.Meanings.{_⧺_, firstPlace, keptOf, Counted, Opening, rowsOwn}

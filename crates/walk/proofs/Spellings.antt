@@ -7,16 +7,16 @@ use mathlib.Core.List.{List, [], _∷_, _++_, append-assoc, append-nil}
 use native.Mathlib.Omega.{arith}
 use lib.Dec.{eqb}
 use lib.ListN.{length, length-append}
-use Rattle.lex.specs.Classes as class
-use Rattle.lex.specs.Classes.{open-paren}
+use Rattle.lexemes.specs.Classes as class
+use Rattle.lexemes.specs.Classes.{open-paren}
 use Rattle.ll1.specs.Trees.{token, Trees, nil, leaf, node, leaves, Symbol, Fits, fits-nil, fits-leaf, fits-node}
 use Rattle.grammar.specs.Grammar.{rules}
 use Rattle.grammar.specs.Notation.{t, r}
 use Rattle.grammar.specs.Rules.{<atom>}
 use Rattle.grammar.specs.Parts.{placeAt}
-use Rattle.grammar.specs.Expression.{Expression, negation, binary, Operator, operators, operatorCode, Pending, nothing, operator, operatorAmong, joined, spelled}
-use Rattle.grammar.specs.Rows.{Draft}
-use Rattle.phrases.specs.Symbols.{symbolsOf, phraseSymbols, GROUP-CLOSE}
+use Rattle.answers.specs.Expression.{Expression, negation, binary, Operator, operators, operatorCode, Pending, nothing, operator, operatorAmong, joined, spelled}
+use Rattle.answers.specs.Rows.{Draft}
+use Rattle.elements.specs.Symbols.{symbolsOf, phraseSymbols, GROUP-CLOSE}
 use Rattle.fields.specs.Words.{wordCodes, codeOf, wordDraft}
 use Rattle.walk.specs.Meanings.{_⧺_, Counted, Silent, Worded, rowsFor, Spelling, Tailing}
 use Rattle.walk.proofs.TreeLaws.{beside-nil, leaves-beside}

@@ -7,7 +7,7 @@ use mathlib.Core.List.{List, [], _∷_, _++_}
 use mathlib.Core.Option.{none, some}
 use mathlib.Core.Logic.{_⊎_, inl}
 use lib.Dec.{eqb}
-use Rattle.lex.specs.Classes as class
+use Rattle.lexemes.specs.Classes as class
 use Rattle.ll1.specs.Trees.{Trees, Symbol, alternativeOf, Fits, Depth}
 use Rattle.ll1.specs.ParseTable.{predict, nullable}
 use Rattle.ll1.proofs.Lookups.{find-one}
@@ -17,7 +17,7 @@ use Rattle.grammar.specs.Lookahead.{lookahead}
 use Rattle.grammar.specs.Rules.{<rule>, <item>, <option>, <option>*, <form>, <item-or-rule>*}
 use Rattle.grammar.specs.Derivation.{tooDeep}
 use Rattle.grammar.specs.Ranges.{rangeOf, free}
-use Rattle.phrases.specs.Symbols.{symbolsOf, phraseSymbols, SUBTITLE, TEXT, LABEL, GOTO, CHECKBOX, NUMERIC, ONE-OF-OPEN, ONE-OF-CLOSE, OPTION, FORM-OPEN, FORM-CLOSE}
+use Rattle.elements.specs.Symbols.{symbolsOf, phraseSymbols, SUBTITLE, TEXT, LABEL, GOTO, CHECKBOX, NUMERIC, ONE-OF-OPEN, ONE-OF-CLOSE, OPTION, FORM-OPEN, FORM-CLOSE}
 use Rattle.walk.specs.declared.State.{State}
 use Rattle.walk.specs.Meanings.{Counted, Opening}
 use Rattle.walk.specs.Walked.{Walked, Closes, WalkedUnder, ReadsUnder, ReadsRow}

@@ -7,17 +7,19 @@ use mathlib.Core.List.{List, [], _∷_}
 use native.Mathlib.Omega.{arith}
 use lib.Dec.{eqb}
 use borrow.Author.Tests.{ne-eqb}
-use Rattle.lex.specs.Classes as class
-use Rattle.lex.specs.Classes.{semicolon, comma}
+use Rattle.lexemes.specs.Classes as class
+use Rattle.lexemes.specs.Classes.{semicolon, comma}
 use Rattle.rows.specs.Flags as flag
 use Rattle.ll1.specs.Trees.{token, Trees, nil, leaf, node, Fits, fits-nil, fits-leaf, fits-node}
 use Rattle.grammar.specs.Grammar.{rules}
 use Rattle.grammar.specs.Rules.{<rule>, <item>, <option>, <form>, <str>, <large>, <head>, <flags>?, <goto-flags>?, <truth-default>?, <step>?, <number-default>?, <option-flags>}
 use Rattle.grammar.specs.Source.{numberAt}
 use Rattle.grammar.specs.Parts.{child, chosen, placeAt}
-use Rattle.grammar.specs.Rows.{Draft, mark, when, hasFlag, flags}
-use Rattle.phrases.specs.Entries.{entries}
-use Rattle.phrases.specs.Symbols.{symbolsOf, phraseSymbols, SUBTITLE, TEXT, LABEL, GOTO, CHECKBOX, NUMERIC, ONE-OF-OPEN, OPTION, FORM-OPEN}
+use Rattle.answers.specs.Rows.{Draft}
+use Rattle.grammar.specs.Parts.{mark, when}
+use Rattle.grammar.specs.Flags.{hasFlag, flags}
+use Rattle.elements.specs.Entries.{entries}
+use Rattle.elements.specs.Symbols.{symbolsOf, phraseSymbols, SUBTITLE, TEXT, LABEL, GOTO, CHECKBOX, NUMERIC, ONE-OF-OPEN, OPTION, FORM-OPEN}
 use Rattle.fields.specs.Phrases.{markedValue, setIf, phraseDraft}
 use Rattle.walk.specs.Meanings.{_⧺_, rowsOwn, keptOf, phraseRow, Rowed, Opening}
 use Rattle.walk.proofs.Kept.{id-keeps, small-keeps, large-keeps, str-keeps, head-keeps, flags-keeps, goto-flags-keeps, truth-keeps, step-keeps, default-keeps, option-flags-keeps}

@@ -9,8 +9,8 @@ use native.Mathlib.Decide.{ℕ-discrete}
 use lib.ListN.{length}
 use borrow.Author.Tests.{eq-eqb, ne-eqb}
 use Rattle.lex.specs.declared.Token as lex
-use Rattle.lex.specs.Classes as class
-use Rattle.lex.specs.Classes.{END}
+use Rattle.lexemes.specs.Classes as class
+use Rattle.lexemes.specs.Classes.{END}
 use Rattle.lex.specs.Tokens.{tokenAt}
 use Rattle.ll1.specs.Trees.{leaves, depth}
 use Rattle.ll1.specs.Verdict.{accepted, ends-early, refused}
@@ -23,10 +23,10 @@ use Rattle.grammar.specs.Rules.{<source>, <form>, <form>*}
 use Rattle.grammar.specs.Reading.{verdict}
 use Rattle.grammar.specs.Source.{sourceTokens}
 use Rattle.grammar.specs.Ranges.{rangeOf}
-use Rattle.grammar.specs.Answer.{drafts}
+use Rattle.answers.specs.Answer.{drafts}
 use Rattle.phrases.specs.Stream.{stream, refusal, resume}
-use Rattle.phrases.specs.Marks.{marked}
-use Rattle.phrases.specs.Symbols.{symbolsOf, phraseSymbols, FORM-SET-CLOSE}
+use Rattle.elements.specs.Marks.{marked}
+use Rattle.elements.specs.Symbols.{symbolsOf, phraseSymbols, FORM-SET-CLOSE}
 use Rattle.phrases.proofs.Streams.{stream-source, stream-end, stream-first, stream-few, rest, within-at}
 use Rattle.phrases.proofs.Resume.{resume-on, resume-no}
 use Rattle.grammar.proofs.Equations.{verdict-all, verdict-extra}

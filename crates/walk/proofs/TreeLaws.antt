@@ -19,7 +19,7 @@ use Rattle.grammar.specs.Notation.{t}
 use Rattle.grammar.specs.Rules.{<source>, <form>*, <form>, <item-or-rule>*, <rule>, <item>, <option>*, <item>*, <option>}
 use Rattle.grammar.specs.Source.{numberAt}
 use Rattle.grammar.specs.Parts.{placeAt}
-use Rattle.grammar.specs.Rows.{Draft, rulesIn, otherwise, parentIn}
+use Rattle.answers.specs.Rows.{Draft, rulesIn, otherwise, parentIn}
 use Rattle.grammar.specs.Ranges.{keeps, rangeOf, outOfRange}
 use Rattle.walk.specs.Meanings.{_⧺_, rowsIn, rowsOwn}
 

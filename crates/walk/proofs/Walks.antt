@@ -13,7 +13,7 @@ use lib.Dec.{eqb}
 use lib.ListN.{length, length-append, length-map}
 use borrow.Author.Tests.{ne-eqb}
 use Rattle.lex.specs.declared.Token as lex
-use Rattle.lex.specs.Classes.{BAD, END}
+use Rattle.lexemes.specs.Classes.{BAD, END}
 use Rattle.lex.specs.Tokens.{tokenAt}
 use Rattle.rows.specs.Rows.{put}
 use Rattle.rows.proofs.RunLaws.{put-append}
@@ -26,15 +26,15 @@ use Rattle.grammar.specs.Notation.{t, r}
 use Rattle.grammar.specs.Lookahead.{lookahead}
 use Rattle.grammar.specs.Derivation.{tooDeep}
 use Rattle.grammar.specs.Reading.{verdictFrom}
-use Rattle.grammar.specs.Rows.{Draft}
+use Rattle.answers.specs.Rows.{Draft}
 use Rattle.grammar.specs.Ranges.{rangeOf, free, outOfRange}
-use Rattle.grammar.specs.Drafts.{encoded}
+use Rattle.answers.specs.Drafts.{encoded}
 use Rattle.phrases.specs.Stream.{stream, refusal, resume}
 use Rattle.phrases.proofs.Streams.{stream-on, stream-end, stream-first, rest, within-at}
-use Rattle.phrases.proofs.Keeping.{marked-append, marked-none}
+use Rattle.elements.proofs.MarkLaws.{marked-append, marked-none}
 use Rattle.phrases.proofs.Resume.{resume-on, resume-no, resume-off}
 use Rattle.grammar.proofs.Equations.{verdict-take, verdict-deep, verdict-in, verdict-enter, verdict-skip, verdict-skip-end}
-use Rattle.phrases.proofs.Nodes.{out-node}
+use Rattle.elements.proofs.TreeLaws.{out-node}
 use Rattle.walk.specs.declared.State.{State}
 use Rattle.walk.specs.Meanings.{_⧺_, Meaning, Counted, Silent}
 use Rattle.walk.specs.Walked.{Tree, Walked, passed, deep}

@@ -2,7 +2,7 @@
 -- Assumes nothing.
 use Prim.Native.Nat.{ℕ}
 use mathlib.Core.List.{List, map}
-use Rattle.grammar.specs.Expression.{operators, operatorClass, level}
+use Rattle.answers.specs.Expression.{operators, operatorClass, level}
 use Rattle.fields.specs.Words.{Pair, pair, lookUp}
 
 -- how many levels of operators there are

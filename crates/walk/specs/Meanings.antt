@@ -8,9 +8,10 @@ use lib.ListN.{length}
 use Rattle.ll1.specs.Trees.{Token, token, Trees, nil, leaf, node, leaves}
 use Rattle.grammar.specs.Rules.{<rule>}
 use Rattle.grammar.specs.Source.{numberAt}
-use Rattle.grammar.specs.Expression.{Expression, nothing, spelled}
-use Rattle.grammar.specs.Rows.{Draft, when, rulesIn, expressionRows, ownRows, draftsOf}
-use Rattle.phrases.specs.Entries.{entries}
+use Rattle.answers.specs.Expression.{Expression, nothing, spelled}
+use Rattle.answers.specs.Rows.{Draft, rulesIn, expressionRows, ownRows, draftsOf}
+use Rattle.grammar.specs.Parts.{when}
+use Rattle.elements.specs.Entries.{entries}
 use Rattle.fields.specs.Phrases.{kept, phraseDraft, ruleDraft}
 use Rattle.fields.specs.Words.{wordDraft}
 

@@ -4,7 +4,7 @@ use Prim.Native.Nat.{ℕ}
 use mathlib.Core.Bool.{Bool, false, _||_}
 use mathlib.Core.List.{List, [], _∷_}
 use lib.Dec.{eqb}
-use Rattle.lex.specs.Classes as class
+use Rattle.lexemes.specs.Classes as class
 
 -- k is one of these classes, or b
 abbrev pub orOneOf : Bool → ℕ → List ℕ → Bool

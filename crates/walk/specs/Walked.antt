@@ -7,7 +7,7 @@ use mathlib.Core.List.{List, [], _∷_, _++_, map}
 use mathlib.Core.Logic.{_≢_}
 use lib.Dec.{eqb}
 use lib.ListN.{length}
-use Rattle.lex.specs.Classes as class
+use Rattle.lexemes.specs.Classes as class
 use Rattle.lex.specs.declared.Token.{Token}
 use Rattle.lex.specs.Tokens.{tokenAt}
 use Rattle.rows.specs.Table.{withRow}
@@ -18,13 +18,13 @@ use Rattle.grammar.specs.Rules.{<source>, <guid>, <item>, <item-or-rule>*, <ite
 use Rattle.grammar.specs.Grammar.{rules}
 use Rattle.grammar.specs.Notation.{t, r}
 use Rattle.grammar.specs.Derivation.{tooDeep, maxConditions, maxGroups}
-use Rattle.grammar.specs.Rows.{Draft}
+use Rattle.answers.specs.Rows.{Draft}
 use Rattle.grammar.specs.Ranges.{outOfRange}
-use Rattle.grammar.specs.Drafts.{encoded}
+use Rattle.answers.specs.Drafts.{encoded}
 use Rattle.phrases.specs.declared.Cursor.{Cursor}
 use Rattle.phrases.specs.Stream.{stream, resume, Within}
-use Rattle.phrases.specs.Marks.{marked}
-use Rattle.phrases.specs.Symbols.{symbolsOf, titleAndHelp, EXPRESSION-CLOSE}
+use Rattle.elements.specs.Marks.{marked}
+use Rattle.elements.specs.Symbols.{symbolsOf, titleAndHelp, EXPRESSION-CLOSE}
 use Rattle.fields.specs.Words.{wordDraft}
 use Rattle.walk.specs.declared.State.{State}
 use Rattle.walk.specs.Meanings.{Meaning, Counted, Silent, Under, Opening, Rowed, Spelling}

@@ -8,18 +8,18 @@ use mathlib.Core.Logic.{_≢_}
 use lib.Dec.{eqb}
 use mathlib.Core.List.{List, map}
 use lib.ListN.{length}
-use Rattle.lex.specs.Classes.{END}
+use Rattle.lexemes.specs.Classes.{END}
 use Rattle.rows.specs.Rows.{put}
 use Rattle.ll1.specs.Trees.{Trees}
 use Rattle.ll1.specs.Verdict.{Verdict, accepted, ends-early, refused}
 use Rattle.grammar.specs.Derivation.{Derives}
 use Rattle.grammar.specs.Reading.{verdict}
 use Rattle.grammar.specs.Source.{sourceTokens}
-use Rattle.grammar.specs.Rows.{rulesIn}
+use Rattle.answers.specs.Rows.{rulesIn}
 use Rattle.grammar.specs.Ranges.{outOfRange}
-use Rattle.grammar.specs.Drafts.{encoded}
-use Rattle.grammar.specs.Answer.{drafts}
-use Rattle.phrases.specs.Marks.{firstMark}
+use Rattle.answers.specs.Drafts.{encoded}
+use Rattle.answers.specs.Answer.{drafts}
+use Rattle.elements.specs.Marks.{firstMark}
 use Rattle.walk.specs.declared.State.{State}
 use Rattle.walk.specs.declared.Outcome.{Outcome}
 

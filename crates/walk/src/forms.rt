@@ -3,18 +3,18 @@ use crate::State;
 use crate::items::items;
 use crate::steps::close;
 use crate::steps::flat;
+use elements::KEPT;
+use elements::phrase;
 use fields::form_set_row;
-use lex::classes::*;
+use lexemes::classes::*;
 use phrases::Cursor;
-use phrases::KEPT;
-use phrases::phrase;
 ghost use mathlib.Core.List.{[], _∷_};
 ghost use Rattle.ll1.specs.Trees.{depth};
 ghost use Rattle.grammar.specs.Notation.{r};
 ghost use Rattle.grammar.specs.Rules.{<form>, <form>*, <guid-end>};
 ghost use Rattle.phrases.specs.Stream.{Within};
 ghost use Rattle.phrases.specs.Passed.{Passed};
-ghost use Rattle.phrases.specs.Symbols.{titleAndHelp};
+ghost use Rattle.elements.specs.Symbols.{titleAndHelp};
 ghost use Rattle.walk.specs.Walked.{Room, OpensSet, WalkedUnder};
 
 // How many conditions may be open at once (document 01, Depths).

@@ -1,5 +1,5 @@
 // The levels of operators.
-use lex::classes::*;
+use lexemes::classes::*;
 ghost use mathlib.Core.Path.{_≡_};
 ghost use Rattle.walk.specs.Levels.{levelOf};
 

@@ -1,5 +1,5 @@
 // Which words start what.
-use lex::classes::*;
+use lexemes::classes::*;
 ghost use mathlib.Core.Path.{_≡_};
 ghost use Rattle.walk.specs.Starts.{isConstant, isCondition, startsItem};
 

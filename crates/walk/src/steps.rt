@@ -1,24 +1,24 @@
 // The smallest steps of a walk.
 use crate::State;
+use elements::KEPT;
 use fields::phrase_row;
 use fields::word_row;
 use lex::Token;
 use phrases::Cursor;
-use phrases::KEPT;
 ghost use mathlib.Core.Path.{_≡_};
 ghost use mathlib.Core.Bool.{false};
 ghost use mathlib.Core.List.{[], _∷_};
 ghost use Prim.Native.Nat.{_+_, _<_, _^_};
-ghost use Rattle.lex.specs.Classes.{BAD};
+ghost use Rattle.lexemes.specs.Classes.{BAD};
 ghost use Rattle.ll1.specs.Machine.{allNullable};
 ghost use Rattle.grammar.specs.Grammar.{rules};
 ghost use Rattle.grammar.specs.Notation.{t};
 ghost use Rattle.grammar.specs.Source.{numberAt};
-ghost use Rattle.grammar.specs.Drafts.{encoded};
+ghost use Rattle.answers.specs.Drafts.{encoded};
 ghost use Rattle.rows.specs.Table.{withRow};
 ghost use Rattle.fields.specs.Phrases.{kept, phraseDraft};
 ghost use Rattle.phrases.specs.Stream.{Within};
-ghost use Rattle.phrases.specs.Symbols.{symbolsOf};
+ghost use Rattle.elements.specs.Symbols.{symbolsOf};
 ghost use Rattle.walk.specs.Meanings.{Counted, Worded};
 ghost use Rattle.walk.specs.Walked.{Room, Reads, Closes, WithRow, passed, closed, deep, ReadsRow};
 

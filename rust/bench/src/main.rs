@@ -5,6 +5,7 @@
 mod inputs;
 
 use inputs::{EXAMPLE, KINDS};
+use reference::ROW;
 use std::hint::black_box;
 use std::thread;
 use std::time::{Duration, Instant};
@@ -67,7 +68,7 @@ struct Times {
 
 /// Both have to answer alike, so that they are timed on the same work.
 fn times(source: &[u8], rows: usize) -> Times {
-    let mut table = vec![0; 12 * rows];
+    let mut table = vec![0; ROW * rows];
     let answer = library::read(source, &mut table).number;
     assert_eq!(answer, reference::read(source, rows).map_or_else(|refusal| refusal.number, |_| 0));
     assert_eq!(library::quick_check(source), reference::quick_check(source));
@@ -151,7 +152,7 @@ fn resolving() {
 
 fn resolve_line(name: &str, source: &[u8]) {
     let rows = need(source);
-    let (mut table, mut out) = (vec![0; 12 * rows], vec![0; reference::LONGEST]);
+    let (mut table, mut out) = (vec![0; ROW * rows], vec![0; reference::LONGEST]);
     let answer = library::resolve(source, &mut table, &mut out).0.number;
     assert_eq!(answer, reference::resolve(source, rows, out.len()).map_or_else(|refusal| refusal.number, |_| 0));
     let times =

@@ -1,7 +1,9 @@
-//! One source and the buffers lent for it: the library's answer against the reference's.
+//! One source and the buffers lent for it: the library's answer against the reference's. Each check gives what both
+//! answered, or how they differ.
 
+use crate::tally::Met;
 use library::Answer;
-use reference::{Reading, Refusal};
+use reference::{Reading, Refusal, ROW};
 use std::hint::black_box;
 
 /// What buffers hold before a call.
@@ -15,7 +17,7 @@ fn expected(reading: Result<&Reading, &Refusal>, table_len: usize) -> (Answer, V
     let mut table = vec![0; table_len];
     match reading {
         Ok(Reading { rows, free }) => {
-            table[..12 * rows.len()].copy_from_slice(rows.as_flattened());
+            table[..ROW * rows.len()].copy_from_slice(rows.as_flattened());
             (Answer { number: 0, place: 0, rows: rows.len() as u64, free: *free }, table)
         }
         Err(Refusal { number, place, need }) => {
@@ -31,7 +33,7 @@ fn table_difference(given: &[u64], wanted: &[u64]) -> Option<String> {
         return Some("the library writes past the table".to_string());
     }
     let at = table.iter().zip(wanted).position(|(given, wanted)| given != wanted)?;
-    Some(format!("row {} column {}: library {}, reference {}", at / 12, at % 12, table[at], wanted[at]))
+    Some(format!("row {} column {}: library {}, reference {}", at / ROW, at % ROW, table[at], wanted[at]))
 }
 
 fn answer_difference<T: PartialEq + std::fmt::Debug>(given: T, wanted: T) -> Option<String> {
@@ -40,50 +42,6 @@ fn answer_difference<T: PartialEq + std::fmt::Debug>(given: T, wanted: T) -> Opt
 
 fn source_difference(lent: &[u8], source: &[u8]) -> Option<String> {
     (black_box(lent) != source).then(|| "the library changes the source".to_string())
-}
-
-/// How the library and the reference differ on a source with a table of this length, if they do.
-pub fn difference(source: &[u8], table_len: usize) -> Option<String> {
-    let reading = reference::read(source, table_len / 12);
-    let (answer, table) = expected(reading.as_ref(), table_len);
-    let lent = source.to_vec();
-    let mut buffer = vec![OLD; table_len + GUARD];
-    let given = library::read(black_box(&lent), &mut buffer[..table_len]);
-    answer_difference(given, answer)
-        .or_else(|| table_difference(&buffer, &table))
-        .or_else(|| source_difference(&lent, source))
-}
-
-/// The same for the quick check.
-pub fn quick_difference(source: &[u8]) -> Option<String> {
-    let (given, wanted) = (library::quick_check(source), reference::quick_check(source));
-    (given != wanted).then(|| format!("quick check: library {given:#x}, reference {wanted:#x}"))
-}
-
-/// With an answer of any length the numbers that fit are written, and no other.
-pub fn short_answer_difference(source: &[u8], table_len: usize, answer_len: usize) -> Option<String> {
-    let mut table = vec![OLD; table_len];
-    let whole = library::read(source, &mut table);
-    let whole = [whole.number, whole.place, whole.rows, whole.free];
-    let mut part = [OLD; 8];
-    library::read_into(source, &mut table, &mut part[..answer_len]);
-    let good = (0..8).all(|at| part[at] == if at < answer_len.min(4) { whole[at] } else { OLD });
-    (!good).then(|| format!("answer of length {answer_len}: {part:x?} where {whole:x?} was due"))
-}
-
-/// The same for resolving, with an output of this length.
-pub fn resolve_difference(source: &[u8], table_len: usize, out_len: usize) -> Option<String> {
-    let resolved = reference::resolve(source, table_len / 12, out_len);
-    let (answer, table) = expected(resolved.as_ref().map(|(reading, _)| reading), table_len);
-    let text = resolved.map_or_else(|_| String::new(), |(_, text)| text);
-    let lent = source.to_vec();
-    let mut buffer = vec![OLD; table_len + GUARD];
-    let mut out = vec![OLD as u8; out_len + GUARD];
-    let given = library::resolve(black_box(&lent), &mut buffer[..table_len], &mut out[..out_len]);
-    answer_difference(given, (answer, text.len() as u64))
-        .or_else(|| table_difference(&buffer, &table))
-        .or_else(|| text_difference(&out, text.as_bytes()))
-        .or_else(|| source_difference(&lent, source))
 }
 
 /// How an output with the guard past its end differs from a text and the zeros past it.
@@ -95,4 +53,58 @@ fn text_difference(given: &[u8], text: &[u8]) -> Option<String> {
     let wanted = |at: usize| text.get(at).copied().unwrap_or(0);
     let at = (0..out.len()).find(|&at| out[at] != wanted(at))?;
     Some(format!("byte {at} of the text: library {}, reference {}", out[at], wanted(at)))
+}
+
+/// What was met, if nothing differs.
+fn agreed(met: Met, difference: Option<String>) -> Result<Met, String> {
+    difference.map_or(Ok(met), Err)
+}
+
+/// Reading, with a table of this length.
+pub fn reading(source: &[u8], table_len: usize) -> Result<Met, String> {
+    let reading = reference::read(source, table_len / ROW);
+    let (answer, table) = expected(reading.as_ref(), table_len);
+    let lent = source.to_vec();
+    let mut buffer = vec![OLD; table_len + GUARD];
+    let given = library::read(black_box(&lent), &mut buffer[..table_len]);
+    let difference = answer_difference(given, answer)
+        .or_else(|| table_difference(&buffer, &table))
+        .or_else(|| source_difference(&lent, source));
+    agreed(Met::of(reading.as_ref()), difference)
+}
+
+/// The quick check.
+pub fn quick(source: &[u8]) -> Result<Met, String> {
+    let (given, wanted) = (library::quick_check(source), reference::quick_check(source));
+    let difference = (given != wanted).then(|| format!("quick check: library {given:#x}, reference {wanted:#x}"));
+    agreed(Met::of_number(wanted >> 32), difference)
+}
+
+/// Resolving, with a table and an output of these lengths.
+pub fn resolving(source: &[u8], table_len: usize, out_len: usize) -> Result<Met, String> {
+    let resolved = reference::resolve(source, table_len / ROW, out_len);
+    let met = Met::of(resolved.as_ref());
+    let (answer, table) = expected(resolved.as_ref().map(|(reading, _)| reading), table_len);
+    let text = resolved.map_or_else(|_| String::new(), |(_, text)| text);
+    let lent = source.to_vec();
+    let mut buffer = vec![OLD; table_len + GUARD];
+    let mut out = vec![OLD as u8; out_len + GUARD];
+    let given = library::resolve(black_box(&lent), &mut buffer[..table_len], &mut out[..out_len]);
+    let difference = answer_difference(given, (answer, text.len() as u64))
+        .or_else(|| table_difference(&buffer, &table))
+        .or_else(|| text_difference(&out, text.as_bytes()))
+        .or_else(|| source_difference(&lent, source));
+    agreed(met, difference)
+}
+
+/// Reading with an answer of any length: the numbers that fit are written, and no other. What was met stands in the
+/// library's own whole answer, so the reference has no part in it.
+pub fn short_answer(source: &[u8], table_len: usize, answer_len: usize) -> Result<(), String> {
+    let mut table = vec![OLD; table_len];
+    let whole = library::read(source, &mut table);
+    let whole = [whole.number, whole.place, whole.rows, whole.free];
+    let mut part = [OLD; 8];
+    library::read_into(source, &mut table, &mut part[..answer_len]);
+    let good = (0..8).all(|at| part[at] == if at < answer_len.min(4) { whole[at] } else { OLD });
+    good.then_some(()).ok_or_else(|| format!("answer of length {answer_len}: {part:x?} where {whole:x?} was due"))
 }

@@ -1,4 +1,5 @@
-//! What the programs of this crate share: one check of the library against the reference, and the sources for it.
+//! What the programs of this crate share: the checks of the library against the reference, the sources for them, and the
+//! tally of the answers met.
 
 #![forbid(unsafe_code)]
 
@@ -10,3 +11,4 @@ pub mod json;
 mod limits;
 pub mod random;
 pub mod sources;
+pub mod tally;

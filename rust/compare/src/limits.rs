@@ -2,10 +2,11 @@
 
 use crate::grammar::{text, OPERATORS};
 use crate::random::Random;
+use reference::LONGEST;
 
 /// A text at one of document 01's limits, or a little past it.
 pub fn at_a_limit(random: &mut Random) -> Vec<u8> {
-    match random.below(13) {
+    match random.below(14) {
         0 => padded(random),
         1 => longest_chain(random),
         2 => {
@@ -27,6 +28,7 @@ pub fn at_a_limit(random: &mut Random) -> Vec<u8> {
         9 => many_options(random),
         10 => many_references(random),
         11 => about_1024_rows(random),
+        12 => longest_text(random),
         _ => {
             let name = "n".repeat(random.between(1, 3_000));
             let other = format!("{}{}", &name[1..], random.pick(&["n", "m", "nn", ""]));
@@ -71,6 +73,16 @@ fn about_1024_rows(random: &mut Random) -> Vec<u8> {
         format!("rule r{last},ruleref(r0) endrule;"),
     ];
     framed(&items.concat())
+}
+
+/// A source whose resolved text is about as long as one may be: labels, which take ten bytes of it or a digit more.
+fn longest_text(random: &mut Random) -> Vec<u8> {
+    const FRAME: usize = 237;
+    const LABEL: usize = 10;
+    let bytes = random.between(LONGEST - 3, LONGEST + 3) - FRAME;
+    let longer = bytes % LABEL + LABEL * random.below(2);
+    let labels = (bytes - longer) / LABEL;
+    framed(&format!("{}{}", "label 0;".repeat(labels - longer), "label 10;".repeat(longer)))
 }
 
 fn longest_chain(random: &mut Random) -> Vec<u8> {

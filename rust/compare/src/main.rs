@@ -1,15 +1,21 @@
 //! `compare SECONDS [SEED]`: the library against the reference on every edit of one source, which takes
-//! about ten seconds, then on random sources for so long.
+//! about ten seconds, then on random sources for so long. It prints how often each call gave each answer; a run of at
+//! least a minute fails where an answer that a call can give was never met, a shorter one only says so.
 
 #![forbid(unsafe_code)]
 
-use compare::check::{difference, quick_difference, resolve_difference, short_answer_difference};
+use compare::check;
 use compare::edits::every_edit;
 use compare::random::Random;
 use compare::sources;
+use compare::tally::{Call, Met, Tally};
+use reference::{ROW, TEXT_REFUSAL};
 use std::env;
 use std::process::ExitCode;
 use std::time::{Duration, Instant, SystemTime, UNIX_EPOCH};
+
+/// The seconds from which on every answer has to be met; the gate's run is as long.
+const WHOLE_RUN: u64 = 60;
 
 fn seconds_and_seed() -> Option<(u64, u64)> {
     let mut words = env::args().skip(1);
@@ -29,11 +35,11 @@ fn need(source: &[u8]) -> Option<usize> {
 /// Lengths of tables: none, odd ones, one number or one row short, exact, and more than enough.
 fn table_lengths(source: &[u8], random: &mut Random) -> Vec<usize> {
     let Some(need) = need(source) else {
-        return vec![[0, 12, random.below(100)][random.below(3)]];
+        return vec![[0, ROW, random.below(100)][random.below(3)]];
     };
-    let exact = 12 * need;
-    let short = [0, random.between(1, 24), exact - 1, exact - 12, random.below(exact)][random.below(5)];
-    let enough = [exact, exact + random.between(1, 11), exact + random.between(12, 200)][random.below(3)];
+    let exact = ROW * need;
+    let short = [0, random.between(1, 2 * ROW), exact - 1, exact - ROW, random.below(exact)][random.below(5)];
+    let enough = [exact, exact + random.between(1, ROW - 1), exact + random.between(ROW, 200)][random.below(3)];
     vec![enough, short]
 }
 
@@ -46,12 +52,13 @@ enum Check {
     Resolve(usize, usize),
 }
 
-fn fault(source: &[u8], check: Check) -> Option<String> {
+/// What a check met, if it tells of one call's answer; or how the two differ.
+fn outcome(source: &[u8], check: Check) -> Result<Option<(Call, Met)>, String> {
     match check {
-        Check::Quick => quick_difference(source),
-        Check::Table(length) => difference(source, length),
-        Check::Answer(table, answer) => short_answer_difference(source, table, answer),
-        Check::Resolve(table, out) => resolve_difference(source, table, out),
+        Check::Quick => check::quick(source).map(|met| Some((Call::Quick, met))),
+        Check::Table(length) => check::reading(source, length).map(|met| Some((Call::Reading, met))),
+        Check::Answer(table, answer) => check::short_answer(source, table, answer).map(|()| None),
+        Check::Resolve(table, out) => check::resolving(source, table, out).map(|met| Some((Call::Resolving, met))),
     }
 }
 
@@ -69,7 +76,7 @@ fn checks(source: &[u8], random: &mut Random) -> Vec<Check> {
 /// The length of an output: none, a byte short, exact, more than enough, or any.
 fn output_length(source: &[u8], random: &mut Random) -> usize {
     let need = match reference::resolve(source, usize::MAX, 0) {
-        Err(refusal) if refusal.number == 13 => refusal.need,
+        Err(refusal) if refusal.number == TEXT_REFUSAL => refusal.need,
         _ => return random.below(200),
     };
     match random.below(6) {
@@ -97,7 +104,7 @@ fn shrunk(source: &[u8], check: Check) -> Vec<u8> {
 /// Takes a run out, if the check still fails; answers that.
 fn take_out(source: &mut Vec<u8>, start: usize, end: usize, check: Check) -> bool {
     let shorter = [&source[..start], &source[end..]].concat();
-    let fails = fault(&shorter, check).is_some();
+    let fails = outcome(&shorter, check).is_err();
     if fails {
         *source = shorter;
     }
@@ -132,77 +139,81 @@ fn report(seed: u64, source: &[u8], check: Check) {
     let least = shrunk(source, check);
     println!("DISAGREEMENT at seed {seed}, {check:?}, source of {} bytes, shortened to {}:", source.len(), least.len());
     println!("{}", least.escape_ascii());
-    println!("{}", fault(&least, check).unwrap_or_default());
+    println!("{}", outcome(&least, check).err().unwrap_or_default());
 }
 
-/// How often each answer was given, 0 for acceptance.
+/// What was compared.
 #[derive(Default)]
-struct Tally {
+struct Run {
     sources: u64,
     bytes: u64,
     checks: u64,
-    answers: [u64; 14],
+    tally: Tally,
 }
 
-impl Tally {
-    fn note(&mut self, source: &[u8], checks: &[Check]) {
+impl Run {
+    /// Compares on one source, for which the random numbers choose the buffers. Answers whether all agrees.
+    fn compare(&mut self, seed: u64, source: &[u8], random: &mut Random) -> bool {
         self.sources += 1;
         self.bytes += source.len() as u64;
-        self.checks += checks.len() as u64;
-        for check in checks {
-            if let Check::Table(length) = check {
-                let number = reference::read(source, length / 12).err().map_or(0, |refusal| refusal.number);
-                self.answers[number as usize] += 1;
+        for check in checks(source, random) {
+            self.checks += 1;
+            match outcome(source, check) {
+                Ok(Some((call, met))) => self.tally.note(call, met),
+                Ok(None) => {}
+                Err(_) => {
+                    report(seed, source, check);
+                    return false;
+                }
             }
         }
+        true
     }
 
-    fn print(&self) {
-        println!("{} sources of {} bytes, {} checks, no disagreement", self.sources, self.bytes, self.checks);
-        for (number, count) in self.answers.iter().enumerate().take(13) {
-            println!("  answer {number:2}: {count}");
+    /// Every edit of one source.
+    fn compare_edits(&mut self, seed: u64) -> bool {
+        let mut random = Random::new(seed);
+        let mut good = true;
+        every_edit(|source| good = good && self.compare(seed, source, &mut random));
+        good
+    }
+
+    /// Random sources for so many seconds.
+    fn compare_random(&mut self, first: u64, seconds: u64) -> bool {
+        let start = Instant::now();
+        let mut seed = first;
+        let mut good = true;
+        while good && start.elapsed() < Duration::from_secs(seconds) {
+            let mut random = Random::new(seed.wrapping_mul(0x2545_f491_4f6c_dd1d));
+            let source = sources::source(&mut random);
+            good = self.compare(seed, &source, &mut random);
+            seed += 1;
         }
+        good
     }
-}
 
-/// Compares on one source; the seed also chooses the buffers. Answers whether all agrees.
-fn compare(seed: u64, source: &[u8], random: &mut Random, tally: &mut Tally) -> bool {
-    let checks = checks(source, random);
-    if let Some(&check) = checks.iter().find(|&&check| fault(source, check).is_some()) {
-        report(seed, source, check);
-        return false;
+    /// Prints the tally; answers whether the run, if it was long enough, met all that it should.
+    fn print(&self, seconds: u64) -> bool {
+        println!("{} sources of {} bytes, {} checks, no disagreement", self.sources, self.bytes, self.checks);
+        println!("{}", self.tally);
+        let missing = self.tally.missing();
+        let is_whole = seconds >= WHOLE_RUN;
+        let weight = if is_whole { "NEVER MET" } else { "not met (a run of a minute or more would fail)" };
+        missing.iter().for_each(|(call, met)| println!("{weight}: {call}, {met}"));
+        missing.is_empty() || !is_whole
     }
-    tally.note(source, &checks);
-    true
-}
-
-/// Every edit of one source.
-fn compare_edits(seed: u64, tally: &mut Tally) -> bool {
-    let mut random = Random::new(seed);
-    let mut good = true;
-    every_edit(|source| good = good && compare(seed, source, &mut random, tally));
-    good
 }
 
 fn main() -> ExitCode {
-    let Some((seconds, first)) = seconds_and_seed() else {
+    let Some((seconds, seed)) = seconds_and_seed() else {
         eprintln!("compare SECONDS [SEED]");
         return ExitCode::from(2);
     };
-    println!("seed {first}");
-    let mut tally = Tally::default();
-    let mut good = compare_edits(first, &mut tally);
-    let start = Instant::now();
-    let mut seed = first;
-    while good && start.elapsed() < Duration::from_secs(seconds) {
-        let mut random = Random::new(seed.wrapping_mul(0x2545_f491_4f6c_dd1d));
-        let source = sources::source(&mut random);
-        good = compare(seed, &source, &mut random, &mut tally);
-        seed += 1;
+    println!("seed {seed}");
+    let mut run = Run::default();
+    if run.compare_edits(seed) && run.compare_random(seed, seconds) && run.print(seconds) {
+        ExitCode::SUCCESS
+    } else {
+        ExitCode::FAILURE
     }
-    if !good {
-        return ExitCode::FAILURE;
-    }
-    tally.print();
-    ExitCode::SUCCESS
 }

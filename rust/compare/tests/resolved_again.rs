@@ -2,13 +2,16 @@
 
 use compare::random::Random;
 use compare::sources::source;
-use reference::{resolve, Row, LONGEST};
+use reference::{column, resolve, Row, LONGEST};
 
 const ROWS: usize = 70_000;
 
-/// A row without its name and place.
-fn meaning(row: &Row) -> &[u64] {
-    &row[..10]
+/// A row with both columns of places, of a name and of its own, set to 0.
+fn without_places(row: &Row) -> Row {
+    let mut row = *row;
+    row[column::NAME] = 0;
+    row[column::PLACE] = 0;
+    row
 }
 
 #[test]
@@ -20,7 +23,7 @@ fn resolved_again() {
         let (second, again) = resolve(text.as_bytes(), ROWS, LONGEST).expect("a resolved text is accepted");
         assert_eq!(again, text, "seed {seed}");
         assert_eq!(second.free, first.free, "seed {seed}");
-        assert!(second.rows.iter().map(meaning).eq(first.rows.iter().map(meaning)), "seed {seed}");
+        assert!(second.rows.iter().map(without_places).eq(first.rows.iter().map(without_places)), "seed {seed}");
         resolved += 1;
     }
     assert!(resolved > 500, "only {resolved} sources were accepted");

@@ -9,10 +9,20 @@ mod record;
 mod row;
 mod text;
 
-pub use row::Row;
+pub use lexer::{Kind, Lexer, Token};
+pub use row::{column, Row, ROW};
 
 /// Document 01's longest source and longest resolved text.
 pub const LONGEST: usize = 65_536;
+
+/// The refusals that the quick check gives.
+pub const QUICK_REFUSALS: &[u64] = &[1, 2, 3, 4, 5];
+
+/// The refusals that reading gives.
+pub const READ_REFUSALS: &[u64] = &[1, 2, 3, 4, 5, 6, 7, 8, 9, 10, 11, 12];
+
+/// The refusal that resolving gives besides those of reading.
+pub const TEXT_REFUSAL: u64 = 13;
 
 /// A refusal's number and place, and the need that 6 (rows) and 13 (bytes) tell.
 #[derive(Clone, Copy, PartialEq, Eq, Debug)]
@@ -83,7 +93,7 @@ pub fn resolve(source: &[u8], rows_lent: usize, bytes_lent: usize) -> Result<(Re
     let reading = read(source, rows_lent)?;
     let text = text::text(&reading.rows);
     if text.len() > bytes_lent.min(LONGEST) {
-        return Err(Refusal::short(13, text.len()));
+        return Err(Refusal::short(TEXT_REFUSAL, text.len()));
     }
     Ok((reading, text))
 }

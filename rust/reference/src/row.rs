@@ -1,8 +1,11 @@
 //! Document 01, section "Rows": columns and codes.
 
-/// Twelve numbers.
-pub type Row = [u64; 12];
+/// How many numbers a row has.
+pub const ROW: usize = 12;
 
+pub type Row = [u64; ROW];
+
+/// Where a row holds what.
 pub mod column {
     pub const CODE: usize = 0;
     pub const PARENT: usize = 1;
@@ -74,7 +77,7 @@ pub mod flag {
 
 /// A row with its code, parent and place; the rest is 0.
 pub fn row(code: u64, parent: usize, place: usize) -> Row {
-    let mut row = [0; 12];
+    let mut row = [0; ROW];
     row[column::CODE] = code;
     row[column::PARENT] = parent as u64;
     row[column::PLACE] = place as u64;

@@ -3,9 +3,10 @@ use mathlib.Core.Path.{ap, _∙_}
 use native.Mathlib.Omega.{arith}
 use lib.ListN.{getD, drop}
 use borrow.Author.Needs.{needs}
-use Rattle.lex.specs.Tokens.{word, wordClass}
-use Rattle.lex.proofs.WordParts.{word-inside, word-part, word-end-is, first-byte}
-use Rattle.lex.proofs.Steps.{digit-word}
+use Rattle.lexemes.specs.Words.{word}
+use Rattle.lex.specs.Tokens.{wordClass}
+use Rattle.lexemes.proofs.WordParts.{word-inside, word-part, word-end-is, first-byte}
+use Rattle.lexemes.proofs.Steps.{digit-word}
 use Rattle.lex.proofs.Cases.{word-bad, word-good}
 use Rattle.lex.proofs.any_number.Statement.{statement}
 use Rattle.lex.proofs.any_number.Tie as tie

@@ -4,9 +4,9 @@ use Prim.Native.Nat.{_+_, _-_, _≤_, _<_}
 use native.Mathlib.Omega.{arith}
 use lib.ListN.{length, drop, List·getD-eq-default}
 use borrow.Author.Needs.{needs}
-use Rattle.lex.specs.Bytes.{isDigit}
-use Rattle.lex.specs.Tokens.{run}
-use Rattle.lex.proofs.Steps.{run-end, run-no, run-yes}
+use Rattle.lexemes.specs.Bytes.{isDigit}
+use Rattle.lexemes.specs.Words.{run}
+use Rattle.lexemes.proofs.Steps.{run-end, run-no, run-yes}
 use Rattle.lex.proofs.Cases.{decimal-token}
 use Rattle.lex.proofs.number_token.Statement.{statement}
 use Rattle.lex.proofs.number_token.Tie as tie

@@ -5,14 +5,14 @@ use Prim.Native.Nat.{_+_}
 use native.Mathlib.Omega.{arith}
 use lib.ListN.{drop}
 use borrow.Author.Needs.{needs}
-use Rattle.lex.specs.Bytes.{isWordByte}
-use Rattle.lex.specs.Classes.{SIGNS}
-use Rattle.lex.specs.Lexemes.{reserved}
-use Rattle.lex.specs.Lookup.{LikelyEnd}
-use Rattle.lex.specs.Tokens.{run, word, placeOf}
-use Rattle.lex.proofs.Steps.{run-yes}
-use Rattle.lex.proofs.Equality.{place-le}
-use Rattle.lex.proofs.WordParts.{word-inside, word-part, word-stops}
+use Rattle.lexemes.specs.Bytes.{isWordByte}
+use Rattle.lexemes.specs.Classes.{SIGNS}
+use Rattle.lexemes.specs.Lexemes.{reserved}
+use Rattle.lex.specs.Likely.{LikelyEnd}
+use Rattle.lexemes.specs.Words.{run, word, placeOf}
+use Rattle.lexemes.proofs.Steps.{run-yes}
+use Rattle.lexemes.proofs.Equality.{place-le}
+use Rattle.lexemes.proofs.WordParts.{word-inside, word-part, word-stops}
 use Rattle.lex.proofs.Cases.{known-token, name-token}
 use Rattle.lex.proofs.word_token.Statement.{statement}
 use Rattle.lex.proofs.word_token.Tie as tie

@@ -2,7 +2,7 @@
 use borrow.Author.Needs.{needs}
 use mathlib.Core.Path.{refl}
 use native.Mathlib.Omega.{arith}
-use Rattle.phrases.specs.Symbols.{CONDITION-CLOSE, EXPRESSION-CLOSE, NUMBER, QUESTION-REF, RULE-REF, GROUP-CLOSE, phraseSymbols, symbolsOf}
+use Rattle.elements.specs.Symbols.{CONDITION-CLOSE, EXPRESSION-CLOSE, NUMBER, QUESTION-REF, RULE-REF, GROUP-CLOSE, phraseSymbols, symbolsOf}
 use Rattle.phrases.proofs.Theorems.{read-tested}
 use Rattle.phrases.proofs.read_expression.Statement.{statement}
 use Rattle.phrases.proofs.read_expression.Tie as tie

@@ -2,7 +2,7 @@
 use borrow.Author.Needs.{needs}
 use mathlib.Core.Path.{refl}
 use native.Mathlib.Omega.{arith}
-use Rattle.phrases.specs.Symbols.{FORM-OPEN, FORM-CLOSE, RULE-OPEN, RULE-CLOSE, phraseSymbols, symbolsOf}
+use Rattle.elements.specs.Symbols.{FORM-OPEN, FORM-CLOSE, RULE-OPEN, RULE-CLOSE, phraseSymbols, symbolsOf}
 use Rattle.phrases.proofs.Theorems.{read-tested}
 use Rattle.phrases.proofs.read_form.Statement.{statement}
 use Rattle.phrases.proofs.read_form.Tie as tie

@@ -2,7 +2,7 @@
 use borrow.Author.Needs.{needs}
 use mathlib.Core.Path.{refl}
 use native.Mathlib.Omega.{arith}
-use Rattle.phrases.specs.Symbols.{SUBTITLE, TEXT, LABEL, GOTO, CHECKBOX, NUMERIC, phraseSymbols, symbolsOf}
+use Rattle.elements.specs.Symbols.{SUBTITLE, TEXT, LABEL, GOTO, CHECKBOX, NUMERIC, phraseSymbols, symbolsOf}
 use Rattle.phrases.proofs.Theorems.{read-tested}
 use Rattle.phrases.proofs.read_item.Statement.{statement}
 use Rattle.phrases.proofs.read_item.Tie as tie

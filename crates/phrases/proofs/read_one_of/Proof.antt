@@ -2,7 +2,7 @@
 use borrow.Author.Needs.{needs}
 use mathlib.Core.Path.{refl}
 use native.Mathlib.Omega.{arith}
-use Rattle.phrases.specs.Symbols.{ONE-OF-OPEN, ONE-OF-CLOSE, OPTION, phraseSymbols, symbolsOf}
+use Rattle.elements.specs.Symbols.{ONE-OF-OPEN, ONE-OF-CLOSE, OPTION, phraseSymbols, symbolsOf}
 use Rattle.phrases.proofs.Theorems.{read-tested}
 use Rattle.phrases.proofs.read_one_of.Statement.{statement}
 use Rattle.phrases.proofs.read_one_of.Tie as tie

@@ -3,16 +3,16 @@
 
 #![forbid(unsafe_code)]
 
-use compare::check::{difference, quick_difference, resolve_difference};
+use compare::check;
 use compare::json::{base64, Json};
-use reference::{Reading, Refusal};
+use reference::{Reading, Refusal, LONGEST, ROW};
 use std::path::Path;
 use std::process::ExitCode;
 use std::{env, fs};
 
 /// The lent rows and bytes of the program `resolve`.
 const PROGRAM_ROWS: usize = 512;
-const PROGRAM_BYTES: usize = 65_536;
+const PROGRAM_BYTES: usize = LONGEST;
 
 #[derive(Default)]
 struct Tally {
@@ -54,9 +54,9 @@ fn text_cases(folder: &Path, tally: &mut Tally) -> std::io::Result<()> {
         let expected = fs::read(path.with_extension("expected"))?;
         let name = path.display().to_string();
         tally.note(&name, text_case(&source, &expected));
-        tally.note(&name, difference(&source, 12 * PROGRAM_ROWS));
-        tally.note(&name, resolve_difference(&source, 12 * PROGRAM_ROWS, PROGRAM_BYTES));
-        tally.note(&name, quick_difference(&source));
+        tally.note(&name, check::reading(&source, ROW * PROGRAM_ROWS).err());
+        tally.note(&name, check::resolving(&source, ROW * PROGRAM_ROWS, PROGRAM_BYTES).err());
+        tally.note(&name, check::quick(&source).err());
     }
     Ok(())
 }
@@ -102,9 +102,9 @@ fn row_cases(folder: &Path, tally: &mut Tally) -> std::io::Result<()> {
         tally.note(&name, differ("read", told(&reading), told_in(case.field("read"))));
         tally.note(&name, differ("quick check", reference::quick_check(&source), case.field("quick").number()));
         tally.note(&name, resolve_case(&source, rows, bytes, case.field("resolve")));
-        tally.note(&name, difference(&source, 12 * rows));
-        tally.note(&name, resolve_difference(&source, 12 * rows, bytes));
-        tally.note(&name, quick_difference(&source));
+        tally.note(&name, check::reading(&source, ROW * rows).err());
+        tally.note(&name, check::resolving(&source, ROW * rows, bytes).err());
+        tally.note(&name, check::quick(&source).err());
     }
     Ok(())
 }

@@ -1,7 +1,7 @@
 -- `fields::parts::with_marks` meets its contract.
 -- Assumes nothing.
 use borrow.Author.Needs.{needs}
-use Rattle.grammar.specs.Drafts.{encoded}
+use Rattle.answers.specs.Drafts.{encoded}
 use Rattle.fields.proofs.parts.with_marks.Statement.{statement}
 use Rattle.fields.proofs.parts.with_marks.Tie as tie
 

@@ -1,7 +1,7 @@
 -- `fields::phrase::label_row` meets its contract.
 -- Assumes nothing.
 use borrow.Author.Needs.{needs}
-use Rattle.grammar.specs.Drafts.{encoded}
+use Rattle.answers.specs.Drafts.{encoded}
 use Rattle.fields.proofs.phrase.label_row.Statement.{statement}
 use Rattle.fields.proofs.phrase.label_row.Tie as tie
 

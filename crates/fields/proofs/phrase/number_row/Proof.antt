@@ -1,7 +1,7 @@
 -- `fields::phrase::number_row` meets its contract.
 -- Assumes nothing.
 use borrow.Author.Needs.{needs}
-use Rattle.grammar.specs.Drafts.{encoded}
+use Rattle.answers.specs.Drafts.{encoded}
 use Rattle.fields.proofs.phrase.number_row.Statement.{statement}
 use Rattle.fields.proofs.phrase.number_row.Tie as tie
 

@@ -1,7 +1,7 @@
 -- `fields::phrase::rule_row` meets its contract.
 -- Assumes nothing.
 use borrow.Author.Needs.{needs}
-use Rattle.grammar.specs.Drafts.{encoded}
+use Rattle.answers.specs.Drafts.{encoded}
 use Rattle.fields.proofs.phrase.rule_row.Statement.{statement}
 use Rattle.fields.proofs.phrase.rule_row.Tie as tie
 

@@ -2,7 +2,7 @@
 -- Assumes nothing.
 use mathlib.Core.Path.{_∙_}
 use borrow.Author.Needs.{needs}
-use Rattle.grammar.specs.Drafts.{encoded}
+use Rattle.answers.specs.Drafts.{encoded}
 use Rattle.fields.proofs.phrase.word_row.Statement.{statement}
 use Rattle.fields.proofs.phrase.word_row.Tie as tie
 

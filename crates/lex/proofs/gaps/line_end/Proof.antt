@@ -6,8 +6,8 @@ use native.Mathlib.Omega.{arith}
 use lib.ListN.{length, drop}
 use borrow.Author.Needs.{needs}
 use borrow.Author.Tests.{eq-eqb, ne-eqb}
-use Rattle.lex.specs.Tokens.{run}
-use Rattle.lex.proofs.Steps.{run-end, run-no, run-yes}
+use Rattle.lexemes.specs.Words.{run}
+use Rattle.lexemes.proofs.Steps.{run-end, run-no, run-yes}
 use Rattle.lex.proofs.Comments.{inLine}
 use Rattle.lex.proofs.gaps.line_end.Statement.{statement}
 use Rattle.lex.proofs.gaps.line_end.Tie as tie

@@ -1,9 +1,9 @@
 -- `lex::signs::one_byte` meets its contract: each arm by computation.
 use mathlib.Core.Path.{sym}
 use mathlib.Core.List.{[]}
-use Rattle.lex.specs.Lexemes.{signs}
-use Rattle.lex.specs.Tokens.{same, placeOf}
-use Rattle.lex.proofs.Missed.{byte-missed}
+use Rattle.lexemes.specs.Lexemes.{signs}
+use Rattle.lexemes.specs.Words.{same, placeOf}
+use Rattle.lexemes.proofs.Missed.{byte-missed}
 use Rattle.lex.proofs.signs.one_byte.Statement.{statement}
 use Rattle.lex.proofs.signs.one_byte.Tie as tie
 

@@ -3,9 +3,9 @@ use mathlib.Core.Path.{sym}
 use mathlib.Core.List.{[], _∷_}
 use native.Mathlib.Omega.{arith}
 use borrow.Author.Needs.{needs}
-use Rattle.lex.specs.Lexemes.{signs}
-use Rattle.lex.specs.Tokens.{same, placeOf}
-use Rattle.lex.proofs.Missed.{byte-missed}
+use Rattle.lexemes.specs.Lexemes.{signs}
+use Rattle.lexemes.specs.Words.{same, placeOf}
+use Rattle.lexemes.proofs.Missed.{byte-missed}
 use Rattle.lex.proofs.Cases.{no-second}
 use Rattle.lex.proofs.signs.two_bytes.Statement.{statement}
 use Rattle.lex.proofs.signs.two_bytes.Tie as tie

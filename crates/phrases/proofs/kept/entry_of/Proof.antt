@@ -1,6 +1,6 @@
 -- `phrases::kept::entry_of` meets its contract.
 use borrow.Author.Tests.{eq-eqb, ne-eqb}
-use Rattle.phrases.specs.Elements.{elementEntry}
+use Rattle.elements.specs.Kinds.{elementEntry}
 use Rattle.phrases.proofs.kept.entry_of.Statement.{statement}
 use Rattle.phrases.proofs.kept.entry_of.Tie as tie
 

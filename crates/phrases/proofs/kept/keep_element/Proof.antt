@@ -2,7 +2,7 @@
 use borrow.Author.Needs.{needs}
 use native.Mathlib.Numerals.{add-one}
 use borrow.Author.Tests.{eq-eqb, ne-eqb}
-use Rattle.phrases.specs.Elements.{elementEntries}
+use Rattle.elements.specs.Kinds.{elementEntries}
 use Rattle.phrases.specs.Phrase.{withEntries}
 use Rattle.phrases.proofs.kept.keep_element.Statement.{statement}
 use Rattle.phrases.proofs.kept.keep_element.Tie as tie

@@ -1,7 +1,7 @@
 -- `phrases::kept::keep_reference` meets its contract.
 use borrow.Author.Needs.{needs}
 use borrow.Author.Tests.{eq-eqb, ne-eqb}
-use Rattle.phrases.specs.Elements.{referenceEntries}
+use Rattle.elements.specs.Kinds.{referenceEntries}
 use Rattle.phrases.specs.Phrase.{withEntries}
 use Rattle.phrases.proofs.kept.keep_reference.Statement.{statement}
 use Rattle.phrases.proofs.kept.keep_reference.Tie as tie

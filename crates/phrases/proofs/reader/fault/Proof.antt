@@ -3,7 +3,7 @@ use borrow.Author.Needs.{needs}
 use mathlib.Core.Path.{sym, _∙_}
 use native.Mathlib.Numerals.{add-one}
 use borrow.Author.Tests.{eq-eqb, ne-eqb}
-use Rattle.phrases.specs.Marks.{marked}
+use Rattle.elements.specs.Marks.{marked}
 use Rattle.phrases.proofs.reader.fault.Statement.{statement}
 use Rattle.phrases.proofs.reader.fault.Tie as tie
 

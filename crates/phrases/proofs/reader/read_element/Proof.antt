@@ -3,7 +3,7 @@ use borrow.Author.Needs.{needs}
 use mathlib.Core.Path.{sym, _∙_}
 use native.Mathlib.Omega.{arith}
 use borrow.Author.Tests.{not-true, not-false}
-use Rattle.phrases.proofs.ElementLaws.{kept-below}
+use Rattle.elements.proofs.KindLaws.{kept-below}
 use Rattle.phrases.proofs.ReadingLaws.{refuses, takes-flags, takes-token}
 use Rattle.phrases.proofs.reader.read_element.Statement.{statement}
 use Rattle.phrases.proofs.reader.read_element.Tie as tie

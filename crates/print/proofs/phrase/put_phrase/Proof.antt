@@ -5,10 +5,10 @@ use native.Mathlib.Omega.{arith}
 use mathlib.Core.Path.{_≡_, refl}
 use lib.ListN.{length}
 use Rattle.rows.specs.Table.{rowAt}
-use Rattle.grammar.specs.Text.{textOf}
+use Rattle.answers.specs.Text.{textOf}
 use Rattle.print.specs.Phrase.{phraseWords}
 use Rattle.print.specs.Steps.{leftOf}
-use Rattle.print.proofs.Outputs.{Partly, partly-none, partly-more, partly-all}
+use Rattle.spellings.proofs.Outputs.{Partly, partly-none, partly-more, partly-all}
 use Rattle.print.proofs.PhraseLaws.{phrase-next, phrase-end}
 use borrow.Author.Needs.{needs}
 use Rattle.print.proofs.phrase.put_phrase.Statement.{statement}

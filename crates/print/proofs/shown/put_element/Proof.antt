@@ -1,7 +1,8 @@
 -- `print::shown::put_element` meets its contract.
 -- Assumes nothing.
 use Rattle.print.specs.Phrase.{elementWords}
-use Rattle.print.proofs.PhraseLaws.{as-words, other-element}
+use Rattle.spellings.proofs.Outputs.{as-words}
+use Rattle.print.proofs.PhraseLaws.{other-element}
 use borrow.Author.Needs.{needs}
 use Rattle.print.proofs.shown.put_element.Statement.{statement}
 use Rattle.print.proofs.shown.put_element.Tie as tie

@@ -1,6 +1,7 @@
 -- `print::shown::put_truth` meets its contract.
 -- Assumes nothing.
-use Rattle.print.proofs.PhraseLaws.{as-words, truth-true, truth-false}
+use Rattle.spellings.proofs.Outputs.{as-words}
+use Rattle.print.proofs.PhraseLaws.{truth-true, truth-false}
 use borrow.Author.Needs.{needs}
 use Rattle.print.proofs.shown.put_truth.Statement.{statement}
 use Rattle.print.proofs.shown.put_truth.Tie as tie

@@ -1,7 +1,7 @@
 -- `print::sources::guid_byte` meets its contract.
 -- Assumes nothing.
 use Rattle.print.specs.Phrase.{valueFrom}
-use Rattle.print.proofs.SpellingLaws.{past-all}
+use Rattle.spellings.proofs.SpellingLaws.{past-all}
 use Rattle.print.proofs.PhraseLaws.{last-byte}
 use borrow.Author.Needs.{needs}
 use Rattle.print.proofs.sources.guid_byte.Statement.{statement}

@@ -3,7 +3,7 @@
 use native.Mathlib.Omega.{arith}
 use mathlib.Core.Path.{_≡_}
 use Rattle.print.specs.Phrase.{valueFrom}
-use Rattle.print.proofs.SpellingLaws.{past-all}
+use Rattle.spellings.proofs.SpellingLaws.{past-all}
 use borrow.Author.Needs.{needs}
 use Rattle.print.proofs.sources.guid_part.Statement.{statement}
 use Rattle.print.proofs.sources.guid_part.Tie as tie

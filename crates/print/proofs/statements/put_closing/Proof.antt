@@ -1,8 +1,7 @@
 -- `print::statements::put_closing` meets its contract.
 -- Assumes nothing.
 use Rattle.print.specs.Statements.{closing}
-use Rattle.print.proofs.PhraseLaws.{as-words}
-use Rattle.print.proofs.Outputs.{prints-none}
+use Rattle.spellings.proofs.Outputs.{as-words, prints-none}
 use Rattle.print.proofs.StatementLaws.{form-set-close-words, form-close-words, one-of-close-words, condition-close-words, no-closing}
 use borrow.Author.Needs.{needs}
 use Rattle.print.proofs.statements.put_closing.Statement.{statement}

@@ -1,9 +1,8 @@
 -- `print::statements::put_condition` meets its contract.
 -- Assumes nothing.
-use Rattle.lex.specs.Lexemes.{lexemes, signs, reserved}
+use Rattle.lexemes.specs.Lexemes.{lexemes, signs, reserved}
 use Rattle.print.specs.Statements.{conditionWords}
-use Rattle.print.proofs.PhraseLaws.{as-words}
-use Rattle.print.proofs.Outputs.{prints-none}
+use Rattle.spellings.proofs.Outputs.{as-words, prints-none}
 use Rattle.print.proofs.StatementLaws.{no-condition}
 use borrow.Author.Needs.{needs}
 use Rattle.print.proofs.statements.put_condition.Statement.{statement}

@@ -2,7 +2,7 @@
 -- Assumes nothing.
 use borrow.Author.Tests.{eq-eqb, ne-eqb}
 use Rattle.print.specs.Statements.{expressionEnd}
-use Rattle.print.proofs.PhraseLaws.{as-words}
+use Rattle.spellings.proofs.Outputs.{as-words}
 use Rattle.print.proofs.StatementLaws.{rule-close-words, expression-close-words}
 use borrow.Author.Needs.{needs}
 use Rattle.print.proofs.statements.put_expression_end.Statement.{statement}

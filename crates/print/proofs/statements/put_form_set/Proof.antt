@@ -1,7 +1,6 @@
 -- `print::statements::put_form_set` meets its contract.
 -- Assumes nothing.
-use Rattle.print.proofs.PhraseLaws.{as-words}
-use Rattle.print.proofs.Outputs.{prints-then}
+use Rattle.spellings.proofs.Outputs.{as-words, prints-then}
 use Rattle.print.proofs.StatementLaws.{form-set-words}
 use borrow.Author.Needs.{needs}
 use Rattle.print.proofs.statements.put_form_set.Statement.{statement}

@@ -2,7 +2,7 @@
 -- Assumes nothing.
 use mathlib.Core.Path.{sym, _∙_}
 use Rattle.rows.specs.Table.{rowAt}
-use Rattle.print.proofs.PhraseLaws.{as-words}
+use Rattle.spellings.proofs.Outputs.{as-words}
 use Rattle.print.proofs.StatementLaws.{form-words, rule-words, subtitle-words, text-words, label-words, option-words, opens, opens-condition}
 use borrow.Author.Needs.{needs}
 use Rattle.print.proofs.statements.put_opening.Statement.{statement}

@@ -1,7 +1,7 @@
 -- `print::statements::put_operand_of` meets its contract.
 -- Assumes nothing.
 use mathlib.Core.Path.{sym, _∙_}
-use Rattle.print.proofs.PhraseLaws.{as-words}
+use Rattle.spellings.proofs.Outputs.{as-words}
 use Rattle.print.proofs.StatementLaws.{operand-question, operand-rule, operand-number}
 use borrow.Author.Needs.{needs}
 use Rattle.print.proofs.statements.put_operand_of.Statement.{statement}

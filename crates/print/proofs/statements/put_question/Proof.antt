@@ -2,7 +2,7 @@
 -- Assumes nothing.
 use mathlib.Core.Path.{sym, _∙_}
 use Rattle.rows.specs.Table.{rowAt}
-use Rattle.print.proofs.PhraseLaws.{as-words}
+use Rattle.spellings.proofs.Outputs.{as-words}
 use Rattle.print.proofs.StatementLaws.{goto-words, checkbox-words, numeric-words, one-of-words, opens, question-rest}
 use borrow.Author.Needs.{needs}
 use Rattle.print.proofs.statements.put_question.Statement.{statement}

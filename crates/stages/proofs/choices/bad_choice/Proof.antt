@@ -2,7 +2,7 @@
 use borrow.Author.Needs.{needs}
 use Prim.Native.Nat.{_-_}
 use Rattle.stages.specs.Choices.{choiceFault}
-use Rattle.stages.proofs.FaultLaws.{Searching, searching-start, searching-found, searching-next, searching-end}
+use Rattle.drafts.proofs.FaultLaws.{Searching, searching-start, searching-found, searching-next, searching-end}
 use Rattle.stages.proofs.choices.bad_choice.Statement.{statement}
 use Rattle.stages.proofs.choices.bad_choice.Tie as tie
 

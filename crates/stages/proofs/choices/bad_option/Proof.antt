@@ -4,9 +4,9 @@ use borrow.Author.Needs.{needs}
 use Prim.Native.Nat.{_-_}
 use mathlib.Core.Path.{_≡_, refl, _∙_}
 use Rattle.rows.specs.Columns as column
-use Rattle.stages.specs.Faults.{draftAt}
-use Rattle.stages.proofs.DraftLaws.{cell-read}
-use Rattle.stages.proofs.FaultLaws.{Looking, looking-start, looking-found, looking-next, looking-end}
+use Rattle.drafts.specs.Faults.{draftAt}
+use Rattle.drafts.proofs.DraftLaws.{cell-read}
+use Rattle.drafts.proofs.FaultLaws.{Looking, looking-start, looking-found, looking-next, looking-end}
 use Rattle.stages.proofs.ChoiceLaws.{sameValue, same-value, other-value, Choosing, choosing-start, choosing-value, choosing-default, choosing-next, choosing-end}
 use Rattle.stages.proofs.choices.bad_option.Statement.{statement}
 use Rattle.stages.proofs.choices.bad_option.Tie as tie

@@ -4,10 +4,10 @@ use Prim.Native.Nat.{_+_, _-_}
 use mathlib.Core.Path.{refl, sym, ap, _∙_}
 use mathlib.Core.List.{[]}
 use Rattle.rows.specs.Columns as column
-use Rattle.grammar.specs.Drafts.{draftsFrom}
-use Rattle.stages.specs.Faults.{draftAt}
+use Rattle.answers.specs.Drafts.{draftsFrom}
+use Rattle.drafts.specs.Faults.{draftAt}
 use Rattle.stages.specs.Choices.{optionFault}
-use Rattle.stages.proofs.DraftLaws.{cell-read}
+use Rattle.drafts.proofs.DraftLaws.{cell-read}
 use Rattle.stages.proofs.ChoiceLaws.{options-run, choice-numeric, choice-one-of, choice-other}
 use Rattle.stages.proofs.choices.fault_in.Statement.{statement}
 use Rattle.stages.proofs.choices.fault_in.Tie as tie

@@ -3,7 +3,7 @@ use borrow.Author.Needs.{needs}
 use Prim.Native.Nat.{_-_}
 use mathlib.Core.Path.{refl, sym, _∙_}
 use Rattle.rows.specs.Columns as column
-use Rattle.stages.proofs.DraftLaws.{cell-read}
+use Rattle.drafts.proofs.DraftLaws.{cell-read}
 use Rattle.stages.proofs.ChoiceLaws.{Passing, passing-start, passing-other, passing-option, passing-end}
 use Rattle.stages.proofs.choices.options_end.Statement.{statement}
 use Rattle.stages.proofs.choices.options_end.Tie as tie

@@ -1,9 +1,9 @@
 -- `stages::choices::repeats_default` meets its contract.
 use borrow.Author.Needs.{needs}
 use Prim.Native.Nat.{_-_}
-use Rattle.stages.specs.Faults.{draftAt}
+use Rattle.drafts.specs.Faults.{draftAt}
 use Rattle.stages.specs.Choices.{isDefault}
-use Rattle.stages.proofs.FaultLaws.{Looking, looking-start, looking-found, looking-next, looking-end}
+use Rattle.drafts.proofs.FaultLaws.{Looking, looking-start, looking-found, looking-next, looking-end}
 use Rattle.stages.proofs.ChoiceLaws.{is-default, no-default}
 use Rattle.stages.proofs.choices.repeats_default.Statement.{statement}
 use Rattle.stages.proofs.choices.repeats_default.Tie as tie

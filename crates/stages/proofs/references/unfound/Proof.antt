@@ -1,9 +1,9 @@
 -- `stages::references::unfound` meets its contract: no row before the loop's names anything in vain.
 use borrow.Author.Needs.{needs}
 use Prim.Native.Nat.{_-_}
-use Rattle.stages.specs.Faults.{alone}
+use Rattle.drafts.specs.Faults.{alone}
 use Rattle.stages.specs.References.{referenceFault}
-use Rattle.stages.proofs.FaultLaws.{Searching, searching-start, searching-found, searching-next, searching-end}
+use Rattle.drafts.proofs.FaultLaws.{Searching, searching-start, searching-found, searching-next, searching-end}
 use Rattle.stages.proofs.references.unfound.Statement.{statement}
 use Rattle.stages.proofs.references.unfound.Tie as tie
 

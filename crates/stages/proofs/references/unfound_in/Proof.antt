@@ -2,8 +2,8 @@
 use borrow.Author.Needs.{needs}
 use mathlib.Core.Path.{refl, _∙_}
 use Rattle.rows.specs.Columns as column
-use Rattle.stages.specs.Faults.{draftAt}
-use Rattle.stages.proofs.DraftLaws.{cell-read}
+use Rattle.drafts.specs.Faults.{draftAt}
+use Rattle.drafts.proofs.DraftLaws.{cell-read}
 use Rattle.stages.proofs.ReferenceLaws.{goto-found, goto-unfound, question-found, question-unfound, rule-found, rule-unfound, refers-not}
 use Rattle.stages.proofs.references.unfound_in.Statement.{statement}
 use Rattle.stages.proofs.references.unfound_in.Tie as tie

@@ -2,8 +2,8 @@
 use borrow.Author.Needs.{needs}
 use mathlib.Core.Path.{refl}
 use Rattle.rows.specs.Columns as column
-use Rattle.stages.specs.Faults.{draftAt}
-use Rattle.stages.proofs.DraftLaws.{cell-read}
+use Rattle.drafts.specs.Faults.{draftAt}
+use Rattle.drafts.proofs.DraftLaws.{cell-read}
 use Rattle.stages.proofs.RepeatLaws.{number-form, number-no-form, number-question, number-no-question}
 use Rattle.stages.proofs.repeats.number_of.Statement.{statement}
 use Rattle.stages.proofs.repeats.number_of.Tie as tie

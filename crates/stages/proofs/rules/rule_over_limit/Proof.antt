@@ -4,9 +4,10 @@ use Prim.Native.Nat.{_-_}
 use mathlib.Core.Path.{refl}
 use native.Mathlib.Omega.{arith}
 use Rattle.rows.specs.Columns as column
-use Rattle.stages.specs.Faults.{draftAt, alone, ruleFault}
-use Rattle.stages.proofs.DraftLaws.{cell-read}
-use Rattle.stages.proofs.FaultLaws.{Searching, searching-start, searching-found, searching-next, searching-end}
+use Rattle.drafts.specs.Faults.{draftAt, alone}
+use Rattle.stages.specs.Rules.{ruleFault}
+use Rattle.drafts.proofs.DraftLaws.{cell-read}
+use Rattle.drafts.proofs.FaultLaws.{Searching, searching-start, searching-found, searching-next, searching-end}
 use Rattle.stages.proofs.RuleLaws.{rule-over, rule-within}
 use Rattle.stages.proofs.rules.rule_over_limit.Statement.{statement}
 use Rattle.stages.proofs.rules.rule_over_limit.Tie as tie

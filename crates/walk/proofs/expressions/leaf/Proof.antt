@@ -3,7 +3,7 @@
 use mathlib.Core.Path.{refl, sym, _∙_}
 use borrow.Author.Needs.{needs}
 use Rattle.grammar.specs.Grammar.{rules}
-use Rattle.phrases.specs.Symbols.{symbolsOf, phraseSymbols}
+use Rattle.elements.specs.Symbols.{symbolsOf, phraseSymbols}
 use Rattle.walk.proofs.Atoms.{constant-word}
 use Rattle.walk.proofs.ExpressionSteps.{atom-constant, atom-question-ref, atom-rule-ref, atom-number}
 use Rattle.walk.proofs.expressions.leaf.Statement.{statement}

@@ -5,7 +5,7 @@ use borrow.Author.Needs.{needs}
 use native.Mathlib.Omega.{arith}
 use Rattle.ll1.specs.Trees.{depth}
 use Rattle.grammar.specs.Grammar.{rules}
-use Rattle.phrases.specs.Symbols.{symbolsOf, phraseSymbols}
+use Rattle.elements.specs.Symbols.{symbolsOf, phraseSymbols}
 use Rattle.walk.proofs.Rooms.{room-after}
 use Rattle.walk.proofs.StatementSteps.{form-walked}
 use Rattle.walk.proofs.forms.form.Statement.{statement}

@@ -9,7 +9,7 @@ use mathlib.Core.List.{[], _∷_}
 use Rattle.ll1.specs.Trees.{depth}
 use lib.Dec.{eqb}
 use borrow.Author.Tests.{eqb-true}
-use Rattle.lex.specs.Classes as class
+use Rattle.lexemes.specs.Classes as class
 use Rattle.ll1.proofs.Basics.{clash, both}
 use Rattle.grammar.specs.Grammar.{rules}
 use Rattle.grammar.specs.Notation.{r}

@@ -3,7 +3,7 @@
 use mathlib.Core.Path.{refl}
 use borrow.Author.Needs.{needs}
 use Rattle.grammar.specs.Grammar.{rules}
-use Rattle.phrases.specs.Symbols.{symbolsOf, phraseSymbols}
+use Rattle.elements.specs.Symbols.{symbolsOf, phraseSymbols}
 use Rattle.walk.proofs.StatementSteps.{item-reads, subtitle-is, text-is, label-is, goto-is, checkbox-is, numeric-is}
 use Rattle.walk.proofs.ItemSteps.{last-item}
 use Rattle.walk.proofs.items.item.Statement.{statement}

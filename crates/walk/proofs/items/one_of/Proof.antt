@@ -4,7 +4,7 @@ use mathlib.Core.Path.{refl}
 use borrow.Author.Needs.{needs}
 use Rattle.ll1.specs.Trees.{depth}
 use Rattle.grammar.specs.Grammar.{rules}
-use Rattle.phrases.specs.Symbols.{symbolsOf, phraseSymbols}
+use Rattle.elements.specs.Symbols.{symbolsOf, phraseSymbols}
 use Rattle.walk.proofs.Rooms.{room-after}
 use Rattle.walk.proofs.StatementSteps.{one-of-reads}
 use Rattle.walk.proofs.items.one_of.Statement.{statement}

@@ -7,7 +7,7 @@ use mathlib.Core.List.{[], _∷_}
 use Rattle.ll1.specs.Trees.{depth}
 use Rattle.grammar.specs.Grammar.{rules}
 use Rattle.grammar.specs.Notation.{r}
-use Rattle.phrases.specs.Symbols.{symbolsOf, phraseSymbols}
+use Rattle.elements.specs.Symbols.{symbolsOf, phraseSymbols}
 use Rattle.grammar.specs.Rules.{<option>*}
 use Rattle.grammar.specs.Derivation.{tooDeep}
 use Rattle.walk.proofs.Walks.{walked-off}

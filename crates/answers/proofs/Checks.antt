@@ -1,0 +1,106 @@
+-- What the stages of No. 1 to 5 find: the refusal of `Refuses`, or a derivation in which every number keeps its place.
+-- Assumes nothing.
+use mathlib.Core.Path.{_≡_, refl, _∙_}
+use mathlib.Core.List.{List, [], _∷_}
+use Prim.Native.Nat.{ℕ, _≤_, _<_}
+use native.Mathlib.Omega.{arith}
+use lib.Dec.{ltb}
+use lib.ListN.{length}
+use borrow.Author.Tests.{lt-ltb, le-ltb, ltb-true, ltb-false}
+use Rattle.lex.specs.declared.Found.{Found}
+use Rattle.lex.specs.declared.Found.the-variants.{At, Nothing}
+use Rattle.lex.specs.Tokens.{firstBad}
+use Rattle.lexemes.proofs.Lists.{either}
+use Rattle.ll1.specs.Trees.{Trees}
+use Rattle.ll1.specs.Verdict.{Verdict, accepted, ends-early, refused, is-text, is-unfinished}
+use Rattle.ll1.specs.Verdict as Verdict
+use Rattle.ll1.proofs.Basics.{clash}
+use Rattle.grammar.specs.Derivation.{Derives, SourceSays}
+use Rattle.grammar.specs.Reading.{derivation}
+use Rattle.grammar.specs.Source.{sourceTokens}
+use Rattle.grammar.specs.Ranges.{outOfRange}
+use Rattle.answers.specs.Answer.{LIMIT, Checked, refusal, derived, ranged, parsed, checked, refuses}
+use Rattle.answers.specs.Demand3.{Grammatical, to-4, Refuses, source-too-long, bad-token, no-text-starts-so, source-ends-early, opens-too-many, number-outside}
+use Rattle.grammar.proofs.Theorems.{verdict-right, verdict-only, derivation-exactly}
+use Rattle.grammar.proofs.SourceTokens.{bad-among, bad-within}
+use Rattle.grammar.proofs.NoBadLeaf.{no-bad-leaf}
+use Rattle.grammar.proofs.Places.{token-within, outside-within}
+
+-- a statement that holds whether a list is empty or has a first element
+pub listed : {A : Type 0} (l : List ℕ) → (l ≡ [] → A) → ((m : ℕ) (later : List ℕ) → l ≡ m ∷ later → A) → A
+listed [] none-case some-case = none-case refl
+listed (m ∷ l) none-case some-case = some-case m l refl
+
+-- a bad token allows no derivation
+pub no-derivation-with-bad : (s : List ℕ) (p : ℕ) → firstBad s ≡ At p → (tree : Trees) → Derives (sourceTokens s) tree → ⊥
+no-derivation-with-bad s p e tree d =
+    let b : _≡_ {A = ℕ} 0 1 = clash (cc (bad-among s p e, d .reads, no-bad-leaf (d .fits) refl)) in
+    omega arith
+
+module _ (s : List ℕ) where
+  no-bad : (tree : Trees) → Derives (sourceTokens s) tree → firstBad s ≡ Nothing
+  no-bad tree d = by (firstBad s) refl
+    where
+      by : (r : Found) → firstBad s ≡ r → r ≡ Nothing
+      by (At p) e = absurd (no-derivation-with-bad s p e tree d)
+      by Nothing e = refl
+
+  pub checked-1 : LIMIT < length s → checked s ≡ refusal 1 0
+  unfolding checked
+  checked-1 h = rw (lt-ltb LIMIT (length s) h, checked)
+
+  pub checked-2 : (p : ℕ) → length s ≤ LIMIT → firstBad s ≡ At p → checked s ≡ refusal 2 p
+  unfolding checked
+  checked-2 p h e = rw (le-ltb LIMIT (length s) h, e, checked)
+
+  pub checked-parsed : (v : Verdict) → length s ≤ LIMIT → firstBad s ≡ Nothing → SourceSays (sourceTokens s) v → checked s ≡ parsed s v (derivation (sourceTokens s))
+  unfolding checked
+  checked-parsed v h e w = rw (le-ltb LIMIT (length s) h, e, verdict-only (sourceTokens s) v w, checked)
+
+  checked-ranged : (tree : Trees) → Grammatical s tree → checked s ≡ ranged s tree
+  checked-ranged tree g =
+      let d = g .derives in
+      let says : SourceSays (sourceTokens s) accepted = is-text (record { tree = tree; derives = d; allowed = g .depths }) in
+      checked-parsed accepted (g .short) (no-bad tree d) says ∙ rw (derivation-exactly (sourceTokens s) tree .1 d)
+
+  pub checked-5 : (tree : Trees) (p : ℕ) (later : List ℕ) → Grammatical s tree → outOfRange s tree ≡ p ∷ later → checked s ≡ refusal 5 p
+  checked-5 tree p later g e = checked-ranged tree g ∙ rw (e, ranged)
+
+  pub checked-derived : (tree : Trees) → Grammatical s tree → outOfRange s tree ≡ [] → checked s ≡ derived tree
+  checked-derived tree g e = checked-ranged tree g ∙ rw (e, ranged)
+
+-- ---- what they find
+
+-- a refusal, whatever table is lent, or a derivation
+pub data Decided (s : List ℕ) : Checked → Type 0 where
+  stopped : (k p : ℕ) → (1 ≤ k) × (k ≤ 5) × (p ≤ LIMIT) → ((n : ℕ) → Refuses s n (refuses k p)) → Decided s (refusal k p)
+  passed : {tree : Trees} → Grammatical s tree → outOfRange s tree ≡ [] → Decided s (derived tree)
+
+module _ (s : List ℕ) where
+  with-derivation : (tree : Trees) → Grammatical s tree → Decided s (checked s)
+  with-derivation tree g =
+      listed (outOfRange s tree)
+      (λ e. rw (checked-derived s tree g e) (passed g e))
+      (λ p later e. rw (checked-5 s tree p later g e) (stopped 5 p (omega (arith, outside-within s tree p later (g .derives) e)) (λ n. number-outside (to-4 g) e)))
+
+  without-bad : {v : Verdict} → length s ≤ LIMIT → firstBad s ≡ Nothing → SourceSays (sourceTokens s) v → Decided s (checked s)
+  without-bad h e (is-text a) = with-derivation (a .tree) (record { short = h; derives = a .derives; depths = a .allowed })
+  without-bad h e (is-unfinished starts none-is) =
+      let w = is-unfinished starts none-is in
+      rw (checked-parsed s ends-early h e w) (stopped 3 (length s) (omega arith) (λ n. source-ends-early h e w))
+  without-bad h e (Verdict.no-text-starts-so u v k p c starts none-starts) =
+      let w = Verdict.no-text-starts-so u v k p c starts none-starts in
+      rw (checked-parsed s (refused 3 p) h e w) (stopped 3 p (omega (arith, token-within s u v k p c)) (λ n. no-text-starts-so h e w))
+  without-bad h e (Verdict.opens-too-many u v k p c starts) =
+      let w = Verdict.opens-too-many u v k p c starts in
+      rw (checked-parsed s (refused 4 p) h e w) (stopped 4 p (omega (arith, token-within s u v k p c)) (λ n. opens-too-many h e w))
+
+  pub decided : Decided s (checked s)
+  decided =
+      either (ltb LIMIT (length s))
+      (λ l. let h = ltb-true LIMIT (length s) l in rw (checked-1 s h) (stopped 1 0 (omega arith) (λ n. source-too-long h)))
+      (λ l. short (ltb-false LIMIT (length s) l) (firstBad s) refl)
+    where
+      short : length s ≤ LIMIT → (r : Found) → firstBad s ≡ r → Decided s (checked s)
+      short h (At p) e = rw (checked-2 s p h e) (stopped 2 p (omega (arith, bad-within s p e)) (λ n. bad-token h e))
+      short h Nothing e = without-bad h e (verdict-right (sourceTokens s))

@@ -1,0 +1,21 @@
+-- Demand 3 as theorems of the definitions.
+pub mod Demand3
+-- Decided points of document 01, by computation.
+pub mod Computed
+pub mod Decided
+pub mod Printed
+-- Rows: how many, how long, at which places, and found by their places.
+pub mod ExpressionSymbols
+pub mod ExpressionWeight
+pub mod RowWeight
+pub mod StatementPlaces
+pub mod RowCount
+pub mod RowShape
+pub mod FoundRows
+pub mod Walks
+pub mod RowPlaces
+-- What demand 3 rests on: the stages in order, and the numbers that questions get.
+pub mod Checks
+pub mod Answers
+pub mod QuickCheck
+pub mod QuestionNumbers

@@ -1,0 +1,71 @@
+-- Expressions as the resolved text prints them, with the fewest parentheses, and texts that do not fit (document 01, Resolved text;
+-- docs/DECISIONS.md, D54 and D59 to D61), by computation.
+-- Assumes nothing.
+use mathlib.Core.Path.{_≡_, refl}
+use mathlib.Core.List.{List, [], _∷_, _++_, map}
+use Prim.Native.Nat.{ℕ}
+use Prim.Native.String.{String}
+use Rattle.lexemes.specs.Lexemes.{bytes}
+use Rattle.answers.specs.Resolution.{Resolution}
+use Rattle.answers.proofs.Computed.{resolvedIn, textRead}
+use Rattle.answers.proofs.Decided.{framed-bytes}
+
+-- an expression as a source writes it, and as its resolved text does
+pub record Printing : Type 0 where
+  pub written : String
+  pub printed : String
+
+infix 68 _becomes_
+abbrev _becomes_ : String → String → Printing
+a becomes b = record { written = a; printed = b }
+
+unfoldable pub printings : List Printing
+printings =
+    "1-(2-3)" becomes "1 - ( 2 - 3 )"
+    ∷ "(1-2)-3" becomes "1 - 2 - 3"
+    ∷ "(1==2)!=3" becomes "1 == 2 != 3"
+    ∷ "1<(2<=3)" becomes "1 < ( 2 <= 3 )"
+    ∷ "(1 OR 2)AND 3" becomes "( 1 OR 2 ) AND 3"
+    ∷ "1+(NOT 2)" becomes "1 + NOT 2"
+    ∷ "NOT(NOT 1)" becomes "NOT NOT 1"
+    ∷ "NOT((1))" becomes "NOT 1"
+    ∷ "NOT(1|2)" becomes "NOT ( 1 | 2 )"
+    ∷ "((1*2))+3" becomes "1 * 2 + 3"
+    ∷ "1*(2%3)" becomes "1 * ( 2 % 3 )"
+    ∷ "1 AND(2 AND 3)" becomes "1 AND ( 2 AND 3 )"
+    ∷ "ruleref(A)<<0x10>>(ZERO&ONES)" becomes "ruleref ( R1 ) << 16 >> ( ZERO & ONES )"
+    ∷ []
+
+-- the expression of the only rule
+abbrev source : String → List ℕ
+source e = framed-bytes (bytes "rule A," ++ (bytes e ++ bytes " endrule;"))
+
+abbrev resolved : String → List ℕ
+resolved e =
+    bytes "formset guid = { 0x00000001 , 0x0002 , 0x0003 , { 0x04 , 0x05 , 0x06 , 0x07 , 0x08 , 0x09 , 0x0a , 0x0b } } , title = STRING_TOKEN ( 2 ) , help = STRING_TOKEN ( 3 ) , form formid = 1 , title = STRING_TOKEN ( 4 ) ;\n"
+    ++ (bytes "rule R1 , " ++ (bytes e ++ bytes " endrule ;\nendform ;\nendformset ;\n"))
+
+pub printed-as-decided : map (λ x. textRead (source (x .written))) printings ≡ map (λ x. resolved (x .printed)) printings
+unfolding printings textRead
+printed-as-decided = refl
+
+-- ---- texts that do not fit
+
+-- the frame without a fragment has two rows, and its text 237 bytes; it is resolved through n numbers into m bytes
+abbrev resolving : ℕ → ℕ → Resolution
+resolving n m = resolvedIn n m (framed-bytes []) .answer
+
+-- D59, D60: one byte too few
+pub one-byte-short : resolving 120 236 ≡ record { number = 13; place = 0; rows = 237; free = 0; bytes = 0 }
+unfolding resolvedIn
+one-byte-short = refl
+
+-- D61: a table and an output that are both too short
+pub both-short : resolving 12 0 ≡ record { number = 6; place = 0; rows = 2; free = 0; bytes = 0 }
+unfolding resolvedIn
+both-short = refl
+
+-- D59: as many bytes as the text has
+pub just-enough : resolving 120 237 .number ≡ 0
+unfolding resolvedIn
+just-enough = refl

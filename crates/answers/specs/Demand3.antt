@@ -1,0 +1,94 @@
+-- Demand 3 in document 01's own terms: what a source must be for reading to accept it, and what it is where reading refuses it.
+-- Assumes nothing.
+use Prim.Native.Nat.{ℕ, _/_, _≤_, _<_}
+use mathlib.Core.Path.{_≡_}
+use mathlib.Core.Bool.{cond}
+use mathlib.Core.List.{List, [], _∷_}
+use lib.ListN.{length, getD}
+use Rattle.lex.specs.declared.Found.the-variants.{At, Nothing}
+use Rattle.lex.specs.Tokens.{firstBad}
+use Rattle.rows.specs.Codes.{isQuestion}
+use Rattle.rows.specs.Columns as column
+use Rattle.rows.specs.Columns.{ROW}
+use Rattle.ll1.specs.Trees.{Trees}
+use Rattle.ll1.specs.Verdict.{ends-early, refused}
+use Rattle.grammar.specs.Derivation.{Derives, NowhereTooDeep, SourceSays}
+use Rattle.grammar.specs.Source.{sourceTokens}
+use Rattle.grammar.specs.Ranges.{outOfRange}
+use Rattle.answers.specs.Stages.{placeOf, repeatedForms, repeatedQuestions, repeatedNames, rulesOverLimit, unfound, badChoices}
+use Rattle.answers.specs.Answer.{LIMIT, Answer, refuses, needs, drafts}
+
+-- the tree is a derivation of the source, and "its depths, ranges, 255-rule limit, uniqueness, reference and choice rules hold"
+pub record Sound (s : List ℕ) (tree : Trees) : Type 0 where
+  -- "A derivation is a tree of the grammar's rules .. whose leaves are, in order, all of a source's tokens; a bad token allows none"
+  pub derives : Derives (sourceTokens s) tree
+  pub depths : NowhereTooDeep tree
+  -- "Demand 3's ranges hold exactly when no fault of No. 5 stands anywhere in the derivation"
+  pub ranges : outOfRange s tree ≡ []
+  -- "likewise uniqueness by 7 to 9
+  pub forms : repeatedForms (drafts s tree) ≡ []
+  pub questions : repeatedQuestions (drafts s tree) ≡ []
+  pub names : repeatedNames s (drafts s tree) ≡ []
+  -- the limit by 10
+  pub limit : rulesOverLimit (drafts s tree) ≡ []
+  -- reference by 11
+  pub references : unfound s (drafts s tree) ≡ []
+  -- choice by 12"
+  pub choices : badChoices (drafts s tree) ≡ []
+
+-- ---- refusals
+
+-- no stage of No. 1 to 4 refuses the source, and the tree is its derivation
+pub record Grammatical (s : List ℕ) (tree : Trees) : Type 0 where
+  pub short : length s ≤ LIMIT
+  pub derives : Derives (sourceTokens s) tree
+  pub depths : NowhereTooDeep tree
+
+-- no stage up to a number refuses the source s and a table of n numbers; the tree is the source's derivation
+pub data Passes (s : List ℕ) (n : ℕ) (tree : Trees) : ℕ → Type 0 where
+  to-4 : Grammatical s tree → Passes s n tree 4
+  to-5 : Passes s n tree 4 → outOfRange s tree ≡ [] → Passes s n tree 5
+  to-6 : Passes s n tree 5 → length (drafts s tree) ≤ n / ROW → Passes s n tree 6
+  to-7 : Passes s n tree 6 → repeatedForms (drafts s tree) ≡ [] → Passes s n tree 7
+  to-8 : Passes s n tree 7 → repeatedQuestions (drafts s tree) ≡ [] → Passes s n tree 8
+  to-9 : Passes s n tree 8 → repeatedNames s (drafts s tree) ≡ [] → Passes s n tree 9
+  to-10 : Passes s n tree 9 → rulesOverLimit (drafts s tree) ≡ [] → Passes s n tree 10
+  to-11 : Passes s n tree 10 → unfound s (drafts s tree) ≡ [] → Passes s n tree 11
+  to-12 : Passes s n tree 11 → badChoices (drafts s tree) ≡ [] → Passes s n tree 12
+
+-- Document 01's table of refusals, a line each: "No. | Given exactly when | Place". "The first stage that fails answers; within it the earliest
+-- token": a stage lists its faults in source order, so that the earliest is the first of its list. "A refusal's counts are 0 except as shown".
+pub data Refuses (s : List ℕ) (n : ℕ) : Answer → Type 0 where
+  -- 1 | source over 65,536 bytes | 0
+  source-too-long : LIMIT < length s → Refuses s n (refuses 1 0)
+  -- 2 | bad token | its first byte
+  bad-token : {p : ℕ} → length s ≤ LIMIT → firstBad s ≡ At p → Refuses s n (refuses 2 p)
+  -- 3 | depths aside, no text of the grammar starts with the tokens up to this one, or the source ends early | token, or source length
+  no-text-starts-so : {p : ℕ} → length s ≤ LIMIT → firstBad s ≡ Nothing → SourceSays (sourceTokens s) (refused 3 p) → Refuses s n (refuses 3 p)
+  source-ends-early : length s ≤ LIMIT → firstBad s ≡ Nothing → SourceSays (sourceTokens s) ends-early → Refuses s n (refuses 3 (length s))
+  -- 4 | a token that passes 3 opens a depth too many (same stage as 3) | that token
+  opens-too-many : {p : ℕ} → length s ≤ LIMIT → firstBad s ≡ Nothing → SourceSays (sourceTokens s) (refused 4 p) → Refuses s n (refuses 4 p)
+  -- 5 | number outside its place: .. | number
+  number-outside : {tree : Trees} {p : ℕ} {ps : List ℕ} → Passes s n tree 4 → outOfRange s tree ≡ p ∷ ps → Refuses s n (refuses 5 p)
+  -- 6 | more rows than whole rows lent | 0; row count is the need
+  more-rows : {tree : Trees} → Passes s n tree 5 → n / ROW < length (drafts s tree) → Refuses s n (needs (length (drafts s tree)))
+  -- 7 | form number repeated | second
+  form-repeated : {tree : Trees} {m : ℕ} {ms : List ℕ} → Passes s n tree 6 → repeatedForms (drafts s tree) ≡ m ∷ ms → Refuses s n (refuses 7 (placeOf m))
+  -- 8 | written question number repeated | second
+  question-repeated : {tree : Trees} {m : ℕ} {ms : List ℕ} → Passes s n tree 7 → repeatedQuestions (drafts s tree) ≡ m ∷ ms → Refuses s n (refuses 8 (placeOf m))
+  -- 9 | question name repeated among questions, or rule name among rules | second
+  name-repeated : {tree : Trees} {m : ℕ} {ms : List ℕ} → Passes s n tree 8 → repeatedNames s (drafts s tree) ≡ m ∷ ms → Refuses s n (refuses 9 (placeOf m))
+  -- 10 | a 256th rule | its `rule`
+  rule-over-limit : {tree : Trees} {m : ℕ} {ms : List ℕ} → Passes s n tree 9 → rulesOverLimit (drafts s tree) ≡ m ∷ ms → Refuses s n (refuses 10 (placeOf m))
+  -- 11 | goto, `questionref` or `ruleref` finds nothing | its number or name
+  nothing-found : {tree : Trees} {m : ℕ} {ms : List ℕ} → Passes s n tree 10 → unfound s (drafts s tree) ≡ m ∷ ms → Refuses s n (refuses 11 (placeOf m))
+  -- 12 | maximum below minimum; default outside them; an option's value repeated in its oneof; a second DEFAULT there
+  --    | the number of the maximum, default or value, or that word `DEFAULT`
+  bad-choice : {tree : Trees} {m : ℕ} {ms : List ℕ} → Passes s n tree 11 → badChoices (drafts s tree) ≡ m ∷ ms → Refuses s n (refuses 12 (placeOf m))
+
+-- ---- the numbers of questions
+
+-- the own numbers of the rows that are questions, in source order
+unfoldable pub questionNumbers : List (List ℕ) → List ℕ
+questionNumbers [] = []
+questionNumbers (r ∷ rs) = let later = questionNumbers rs in cond (isQuestion (getD r column.CODE 0)) (getD r column.OWN 0 ∷ later) later

@@ -1,0 +1,14 @@
+-- The rows of a derivation, and what each stage refuses.
+pub mod Expression
+pub mod Rows
+pub mod Drafts
+pub mod Stages
+-- The whole answer of reading and of the quick check, and demand 3 in document 01's own terms.
+pub mod Answer
+pub mod Demand3
+-- The resolved text, and the whole answer of resolving.
+pub mod Text
+pub mod Resolution
+-- What theorems say of rows: their places, and where a walk down a derivation meets them.
+pub mod RowPlaces
+pub mod Reached

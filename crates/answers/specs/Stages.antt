@@ -1,0 +1,144 @@
+-- Stages 7 to 12 over the rows of a derivation: the marks of what is at fault, in source order; and the finished rows (document 01, Rows and
+-- Refusal numbers). Assumes nothing.
+use Prim.Native.Nat.{ℕ, _-_}
+use mathlib.Core.Bool.{Bool, false, not, cond, _&&_, _||_}
+use mathlib.Core.List.{List, [], _∷_, _++_, map}
+use lib.Dec.{eqb, ltb}
+use lib.ListN.{getD, set, drop}
+use Rattle.lexemes.specs.Words.{sameWord}
+use Rattle.numbers.specs.Numbers.{numbered}
+use Rattle.rows.specs.Codes as code
+use Rattle.rows.specs.Codes.{isQuestion}
+use Rattle.rows.specs.Columns as column
+use Rattle.answers.specs.Rows.{Draft}
+use Rattle.grammar.specs.Parts.{mark}
+
+-- ---- of a row
+
+abbrev pub cell : ℕ → Draft → ℕ
+cell c d = getD (d .row) c 0
+
+abbrev pub is : ℕ → Draft → Bool
+is k d = eqb (cell column.CODE d) k
+
+abbrev pub asks : Draft → Bool
+asks d = isQuestion (cell column.CODE d)
+
+-- a question whose number is written with `questionid`
+abbrev pub writes : Draft → Bool
+writes d = asks d && ltb 0 (d .ownAt)
+
+-- the place that a mark stands for
+abbrev pub placeOf : ℕ → ℕ
+placeOf m = m - 1
+
+-- some row passes the test
+unfoldable pub any : (Draft → Bool) → List Draft → Bool
+any p [] = false
+any p (d ∷ ds) = p d || any p ds
+
+-- the marks at fault: of each row those that the rows before it and itself tell
+unfoldable pub faultsAfter : (List Draft → Draft → List ℕ) → List Draft → List Draft → List ℕ
+faultsAfter faults before [] = []
+faultsAfter faults before (d ∷ ds) = faults before d ++ faultsAfter faults (d ∷ before) ds
+
+abbrev pub faultsIn : (List Draft → Draft → List ℕ) → List Draft → List ℕ
+faultsIn faults ds = faultsAfter faults [] ds
+
+abbrev pub faultIf : Bool → ℕ → List ℕ
+faultIf b m = cond b (m ∷ []) []
+
+-- 7: form number repeated
+unfoldable pub repeatedForms : List Draft → List ℕ
+repeatedForms ds = faultsIn (λ before d. faultIf (is code.FORM d && any (λ e. is code.FORM e && eqb (cell column.OWN e) (cell column.OWN d)) before) (d .ownAt)) ds
+
+-- 8: written question number repeated
+unfoldable pub repeatedQuestions : List Draft → List ℕ
+repeatedQuestions ds = faultsIn (λ before d. faultIf (writes d && any (λ e. writes e && eqb (cell column.OWN e) (cell column.OWN d)) before) (d .ownAt)) ds
+
+-- 10: a 256th rule
+unfoldable pub rulesOverLimit : List Draft → List ℕ
+rulesOverLimit ds = faultsIn (λ before d. faultIf (is code.RULE d && ltb 255 (cell column.OWN d)) (mark (cell column.PLACE d))) ds
+
+-- 12: of a numeric, maximum below minimum, or default outside them; of an option, its value or DEFAULT repeated in its oneof
+abbrev pub outside : Draft → Bool
+outside d = ltb (cell column.D d) (cell column.A d) || ltb (cell column.B d) (cell column.D d)
+
+abbrev pub beside : Draft → Draft → Bool
+beside d e = is code.OPTION e && eqb (cell column.PARENT e) (cell column.PARENT d)
+
+abbrev pub numericFaults : Draft → List ℕ
+numericFaults d = faultIf (ltb (cell column.B d) (cell column.A d)) (d .limitAt) ++ faultIf (ltb 0 (d .defaultAt) && outside d) (d .defaultAt)
+
+abbrev pub optionFaults : List Draft → Draft → List ℕ
+optionFaults before d =
+    faultIf (any (λ e. beside d e && eqb (cell column.A e) (cell column.A d)) before) (d .limitAt)
+    ++ faultIf (ltb 0 (d .defaultAt) && any (λ e. beside d e && ltb 0 (e .defaultAt)) before) (d .defaultAt)
+
+unfoldable pub badChoices : List Draft → List ℕ
+badChoices ds =
+    faultsIn (λ before d. cond (is code.NUMERIC d) (numericFaults d) (cond (is code.OPTION d) (optionFaults before d) [])) ds
+
+-- ---- numbers
+
+-- the questions' numbers as written, 0 where none is
+unfoldable pub ownNumbers : List Draft → List ℕ
+ownNumbers [] = []
+ownNumbers (d ∷ ds) = let more = ownNumbers ds in cond (asks d) (cell column.OWN d ∷ more) more
+
+abbrev pub withCell : ℕ → ℕ → Draft → Draft
+withCell c v d = record { row = set (d .row) c v; ownAt = d .ownAt; limitAt = d .limitAt; defaultAt = d .defaultAt }
+
+-- each question with its number of the list
+unfoldable pub withNumbers : List ℕ → List Draft → List Draft
+withNumbers ns [] = []
+withNumbers ns (d ∷ ds) = cond (asks d) (withCell column.OWN (getD ns 0 0) d ∷ withNumbers (drop 1 ns) ds) (d ∷ withNumbers ns ds)
+
+unfoldable pub numberedRows : List Draft → List Draft
+numberedRows ds = withNumbers (numbered (ownNumbers ds)) ds
+
+-- ---- names and references
+
+module _ (s : List ℕ) where
+  -- two rows of a sort, both questions or both rules
+  abbrev pub sameSort : Draft → Draft → Bool
+  sameSort d e = asks d && asks e || is code.RULE d && is code.RULE e
+
+  -- the row declares the name at a place
+  abbrev pub declares : ℕ → Draft → Bool
+  declares p d = ltb 0 (cell column.NAME d) && sameWord s (placeOf (cell column.NAME d)) p
+
+  -- 9: question name repeated among questions, or rule name among rules
+  unfoldable pub repeatedNames : List Draft → List ℕ
+  repeatedNames ds =
+      faultsIn (λ before d. faultIf (ltb 0 (cell column.NAME d) && any (λ e. sameSort d e && declares (placeOf (cell column.NAME d)) e) before) (cell column.NAME d)) ds
+
+  -- the rows that a reference finds: by a number, the question that writes it; by a name, the question or rule that declares it
+  abbrev pub finds : Draft → Draft → Bool
+  finds d e =
+      cond (is code.RULE-REF d) (is code.RULE e && declares (placeOf (d .ownAt)) e)
+      (cond (ltb 0 (cell column.A d)) (writes e && eqb (cell column.OWN e) (cell column.A d))
+      (asks e && declares (placeOf (d .ownAt)) e))
+
+  abbrev pub refers : Draft → Bool
+  refers d = is code.QUESTION-REF d || is code.RULE-REF d
+
+  -- 11: goto, questionref or ruleref finds nothing; names and numbers are found anywhere in the form set
+  unfoldable pub unfound : List Draft → List ℕ
+  unfound ds =
+      faultsIn
+      (λ before d.
+      faultIf (is code.GOTO d && not (any (λ e. is code.FORM e && eqb (cell column.OWN e) (cell column.A d)) ds)) (d .limitAt)
+      ++ faultIf (refers d && not (any (finds d) ds)) (d .ownAt))
+      ds
+
+  -- the own number of the first row that passes the test, 0 where none does
+  unfoldable pub ownOfFirst : (Draft → Bool) → List Draft → ℕ
+  ownOfFirst p [] = 0
+  ownOfFirst p (d ∷ ds) = let later = ownOfFirst p ds in cond (p d) (cell column.OWN d) later
+
+  -- the finished rows: questions numbered, then each reference with the number that it finds
+  unfoldable pub finished : List Draft → List (List ℕ)
+  finished ds =
+      let numberedOnes = numberedRows ds in
+      map (λ d. cond (refers d) (set (d .row) column.A (ownOfFirst (finds d) numberedOnes)) (d .row)) numberedOnes

@@ -1,0 +1,121 @@
+-- What an element asks of a token, with the tests of the code.
+-- Assumes nothing.
+use Prim.Native.Nat.{ℕ, _≤_, _<_}
+use mathlib.Core.Path.{_≡_, refl, sym, _∙_}
+use mathlib.Core.Bool.{Bool, true, false, _||_, cond, or-false, or-assoc}
+use mathlib.Core.List.{List, [], _∷_}
+use mathlib.Core.Logic.{_⊎_, inl, inr, _≢_}
+use native.Mathlib.Omega.{arith}
+use native.Mathlib.Decide.{ℕ-discrete}
+use lib.Dec.{eqb, ltb, leb}
+use borrow.Author.Tests.{eq-eqb, ne-eqb, lt-ltb, le-ltb, lt-leb, eqb-true, ltb-true, leb-true}
+use Rattle.lexemes.specs.Classes.{«DEFAULT», «FALSE», «TRUE», NAME, HEX, DECIMAL, BAD}
+use Rattle.ll1.specs.ParseTable.{member}
+use Rattle.ll1.specs.Test.{all}
+use Rattle.ll1.proofs.Basics.{either, all-member}
+use Rattle.grammar.specs.Ranges.{Range, free, keeps}
+use Rattle.grammar.specs.Parts.{when}
+use Rattle.elements.specs.Kinds.{ID, SMALL, LARGE, OPTION-FLAGS, REFERENCE, TRUTH, FLAG-LIST, H8, H4, H2, numbers, flagWords, startsOf, isKept, elementRange}
+
+eqb-sym : (a b : ℕ) → eqb a b ≡ eqb b a
+eqb-sym a b = by (ℕ-discrete a b)
+  where
+    by : Dec (a ≡ b) → eqb a b ≡ eqb b a
+    by (yes e) = eq-eqb a b e ∙ sym (eq-eqb b a (sym e))
+    by (no h) = ne-eqb a b h ∙ sym (ne-eqb b a (λ e. h (sym e)))
+
+-- a class of one, two or three
+pub of-one : (k a : ℕ) → eqb k a ≡ member k (a ∷ [])
+of-one k a = rw (or-false (eqb a k)) (eqb-sym k a)
+
+pub of-two : (k a b : ℕ) → eqb k a || eqb k b ≡ member k (a ∷ b ∷ [])
+of-two k a b = rw (eqb-sym k a, eqb-sym k b, or-false (eqb b k))
+
+pub of-three : (k a b c : ℕ) → eqb k a || eqb k b || eqb k c ≡ member k (a ∷ b ∷ c ∷ [])
+of-three k a b c = rw (eqb-sym k a, eqb-sym k b, eqb-sym k c, or-false (eqb c k)) (or-assoc (eqb a k) (eqb b k) (eqb c k))
+
+pub number-or : (k a : ℕ) → member k numbers || eqb k a ≡ member k (DECIMAL ∷ HEX ∷ a ∷ [])
+number-or k a = rw (eqb-sym k a, or-false (eqb HEX k), or-false (eqb a k)) (or-assoc (eqb DECIMAL k) (eqb HEX k) (eqb a k))
+
+pub or-number : (k a : ℕ) → eqb k a || member k numbers ≡ member k (a ∷ numbers)
+or-number k a = rw (eqb-sym k a)
+
+-- ---- what an element can start with
+
+module _ (e : ℕ) where
+  pub starts-word : e < ID → startsOf e ≡ e ∷ []
+  unfolding startsOf
+  starts-word h = rw (lt-ltb e ID h)
+
+  pub starts-number : ID ≤ e → e < OPTION-FLAGS → startsOf e ≡ numbers
+  unfolding startsOf
+  starts-number l h = rw (le-ltb e ID l, lt-ltb e OPTION-FLAGS h)
+
+  pub starts-hex : OPTION-FLAGS ≤ e → e ≢ OPTION-FLAGS → e ≢ REFERENCE → e ≢ TRUTH → e ≢ FLAG-LIST → startsOf e ≡ HEX ∷ []
+  unfolding startsOf
+  starts-hex l a b c d =
+      rw (le-ltb e ID (omega arith), le-ltb e OPTION-FLAGS l, ne-eqb e OPTION-FLAGS a, ne-eqb e REFERENCE b, ne-eqb e TRUTH c, ne-eqb e FLAG-LIST d)
+
+  -- no number
+  pub range-free : (k : ℕ) → e ≢ ID → e ≢ SMALL → e ≢ LARGE → e ≢ OPTION-FLAGS → e ≢ REFERENCE → e ≢ H8 → e ≢ H4 → e ≢ H2 → elementRange e k ≡ free
+  unfolding elementRange
+  range-free k a b c d f g h i =
+      rw (ne-eqb e ID a, ne-eqb e SMALL b, ne-eqb e LARGE c, ne-eqb e OPTION-FLAGS d, ne-eqb e REFERENCE f, ne-eqb e H8 g, ne-eqb e H4 h, ne-eqb e H2 i)
+
+-- a word, or a number in its range
+pub word-or : (s : List ℕ) (b : Bool) (range : Range) (p : ℕ) → keeps s (cond b free range) p ≡ b || keeps s range p
+unfolding keeps
+word-or s true range p = refl
+word-or s false range p = refl
+
+-- ---- flags
+
+pub when-le : (b : Bool) (n : ℕ) → when b n ≤ n
+when-le true n = omega arith
+when-le false n = omega arith
+
+-- ---- a sign or a reserved word keeps nothing
+
+pub not-kept : (k : ℕ) → k < NAME → isKept k ≡ false
+not-kept k h = rw (ne-eqb k NAME (λ e. omega arith)) (lt-leb ID k (omega arith))
+
+-- ---- an element that keeps something is a token with bytes
+
+-- the lists of `startsOf` from ID on
+abbrev starts-by : (a b c d e : Bool) → List ℕ
+starts-by a b c d e = cond a numbers (cond b (DECIMAL ∷ HEX ∷ «DEFAULT» ∷ []) (cond c (NAME ∷ numbers) (cond d («TRUE» ∷ «FALSE» ∷ []) (cond e flagWords (HEX ∷ [])))))
+
+abbrev below : List ℕ → Bool
+below l = all (λ k. ltb k BAD) l
+
+all-below : (a b c d e : Bool) → below (starts-by a b c d e) ≡ true
+all-below true b c d e = refl
+all-below false true c d e = refl
+all-below false false true d e = refl
+all-below false false false true e = refl
+all-below false false false false true = refl
+all-below false false false false false = refl
+
+member-below : (l : List ℕ) (k : ℕ) → below l ≡ true → member k l ≡ true → k < BAD
+member-below l k h m = ltb-true k BAD (all-member (λ k. ltb k BAD) l k h m)
+
+name-below : (e k : ℕ) → e ≡ NAME → member k (startsOf e) ≡ true → k < BAD
+unfolding startsOf
+name-below e k q m = member-below (NAME ∷ []) k refl (rw q at m)
+
+kind-below : (e k : ℕ) → ID ≤ e → member k (startsOf e) ≡ true → k < BAD
+unfolding startsOf
+kind-below e k l m =
+    let a = ltb e OPTION-FLAGS in
+    let b = eqb e OPTION-FLAGS in
+    let c = eqb e REFERENCE in
+    let d = eqb e TRUTH in
+    let f = eqb e FLAG-LIST in
+    member-below (starts-by a b c d f) k (all-below a b c d f) (rw (le-ltb e ID l) at m)
+
+pub kept-below : (e k : ℕ) → isKept e ≡ true → member k (startsOf e) ≡ true → k < BAD
+kept-below e k h m = by (either (eqb e NAME) (leb ID e) h)
+  where
+    by : (eqb e NAME ≡ true) ⊎ (leb ID e ≡ true) → k < BAD
+    by (inl q) = name-below e k (eqb-true e NAME q) m
+    by (inr q) = kind-below e k (leb-true ID e q) m

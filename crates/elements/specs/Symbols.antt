@@ -1,0 +1,130 @@
+-- The phrases by number, and the symbols of the grammar that each reads (document 01, Grammar).
+-- Assumes nothing.
+use Prim.Native.Nat.{ℕ}
+use mathlib.Core.List.{List, [], _∷_}
+use lib.ListN.{getD}
+use Rattle.lexemes.specs.Classes.{open-brace, close-brace, open-paren, close-paren, comma, semicolon, «=»}
+use Rattle.lexemes.specs.Classes.{«checkbox», «endcheckbox», «endform», «endformset», «endif», «endnumeric», «endoneof», «endrule», «flags», «form», «formid», «formset», «goto», «guid», «help», «label», «maximum», «minimum», «numeric», «oneof», «option», «questionref», «rule», «ruleref», «subtitle», «text», «title», «value», NAME}
+use Rattle.ll1.specs.Trees.{Symbol}
+use Rattle.grammar.specs.Rules.{<eight>, <H8>, <H4>, <str>, <id>, <small>, <large>, <goto-flags>?, <flags>?, <truth-default>?, <step>?, <number-default>?, <option-flags>, <head>, <name-or-number>}
+use Rattle.grammar.specs.Notation.{t, r}
+
+abbrev pub FORM-SET-OPEN : ℕ
+FORM-SET-OPEN = 0
+
+abbrev pub FORM-SET-BRACED : ℕ
+FORM-SET-BRACED = 1
+
+abbrev pub FORM-SET-PLAIN : ℕ
+FORM-SET-PLAIN = 2
+
+abbrev pub FORM-SET-CLOSE : ℕ
+FORM-SET-CLOSE = 3
+
+abbrev pub FORM-OPEN : ℕ
+FORM-OPEN = 4
+
+abbrev pub FORM-CLOSE : ℕ
+FORM-CLOSE = 5
+
+abbrev pub RULE-OPEN : ℕ
+RULE-OPEN = 6
+
+abbrev pub RULE-CLOSE : ℕ
+RULE-CLOSE = 7
+
+abbrev pub SUBTITLE : ℕ
+SUBTITLE = 8
+
+abbrev pub TEXT : ℕ
+TEXT = 9
+
+abbrev pub LABEL : ℕ
+LABEL = 10
+
+abbrev pub GOTO : ℕ
+GOTO = 11
+
+abbrev pub CHECKBOX : ℕ
+CHECKBOX = 12
+
+abbrev pub NUMERIC : ℕ
+NUMERIC = 13
+
+abbrev pub ONE-OF-OPEN : ℕ
+ONE-OF-OPEN = 14
+
+abbrev pub ONE-OF-CLOSE : ℕ
+ONE-OF-CLOSE = 15
+
+abbrev pub OPTION : ℕ
+OPTION = 16
+
+abbrev pub CONDITION-CLOSE : ℕ
+CONDITION-CLOSE = 17
+
+abbrev pub EXPRESSION-CLOSE : ℕ
+EXPRESSION-CLOSE = 18
+
+abbrev pub NUMBER : ℕ
+NUMBER = 19
+
+abbrev pub QUESTION-REF : ℕ
+QUESTION-REF = 20
+
+abbrev pub RULE-REF : ℕ
+RULE-REF = 21
+
+abbrev pub GROUP-CLOSE : ℕ
+GROUP-CLOSE = 22
+
+-- how a form set's opening ends: , title = STR , help = STR ,
+abbrev pub titleAndHelp : List Symbol
+titleAndHelp = t comma ∷ t «title» ∷ t «=» ∷ r <str> ∷ t comma ∷ t «help» ∷ t «=» ∷ r <str> ∷ t comma ∷ []
+
+-- in the order of their numbers
+unfoldable pub phraseSymbols : List (List Symbol)
+phraseSymbols =
+    -- formset guid = { H8 , H4 , H4 ,
+    (t «formset» ∷ t «guid» ∷ t «=» ∷ t open-brace ∷ r <H8> ∷ t comma ∷ r <H4> ∷ t comma ∷ r <H4> ∷ t comma ∷ [])
+    -- the rest of a form set's opening, with the inner braces and without
+    ∷ (t open-brace ∷ r <eight> ∷ t close-brace ∷ t close-brace ∷ titleAndHelp)
+    ∷ (r <eight> ∷ t close-brace ∷ titleAndHelp)
+    ∷ (t «endformset» ∷ t semicolon ∷ [])
+    -- form formid = N , title = STR ;
+    ∷ (t «form» ∷ t «formid» ∷ t «=» ∷ r <id> ∷ t comma ∷ t «title» ∷ t «=» ∷ r <str> ∷ t semicolon ∷ [])
+    ∷ (t «endform» ∷ t semicolon ∷ [])
+    -- rule NAME ,
+    ∷ (t «rule» ∷ t NAME ∷ t comma ∷ [])
+    ∷ (t «endrule» ∷ t semicolon ∷ [])
+    -- subtitle text = STR ;
+    ∷ (t «subtitle» ∷ t «text» ∷ t «=» ∷ r <str> ∷ t semicolon ∷ [])
+    -- text help = STR , text = STR ;
+    ∷ (t «text» ∷ t «help» ∷ t «=» ∷ r <str> ∷ t comma ∷ t «text» ∷ t «=» ∷ r <str> ∷ t semicolon ∷ [])
+    -- label N ;
+    ∷ (t «label» ∷ r <small> ∷ t semicolon ∷ [])
+    -- goto N , HEAD [, flags = FL] ;
+    ∷ (t «goto» ∷ r <id> ∷ t comma ∷ r <head> ∷ r <goto-flags>? ∷ t semicolon ∷ [])
+    -- checkbox HEAD , [flags = FL ,] [default = TRUE or FALSE ,] endcheckbox ;
+    ∷ (t «checkbox» ∷ r <head> ∷ t comma ∷ r <flags>? ∷ r <truth-default>? ∷ t «endcheckbox» ∷ t semicolon ∷ [])
+    -- numeric HEAD , [flags = FL ,] minimum = N , maximum = N , [step = N ,] [default = N ,] endnumeric ;
+    ∷ (t «numeric» ∷ r <head> ∷ t comma ∷ r <flags>? ∷ t «minimum» ∷ t «=» ∷ r <large> ∷ t comma ∷ t «maximum» ∷ t «=» ∷ r <large> ∷ t comma ∷ r <step>? ∷ r <number-default>? ∷ t «endnumeric» ∷ t semicolon ∷ [])
+    -- oneof HEAD , [flags = FL ,]
+    ∷ (t «oneof» ∷ r <head> ∷ t comma ∷ r <flags>? ∷ [])
+    ∷ (t «endoneof» ∷ t semicolon ∷ [])
+    -- option text = STR , value = N , flags = (N or DEFAULT) ;
+    ∷ (t «option» ∷ t «text» ∷ t «=» ∷ r <str> ∷ t comma ∷ t «value» ∷ t «=» ∷ r <large> ∷ t comma ∷ t «flags» ∷ t «=» ∷ r <option-flags> ∷ t semicolon ∷ [])
+    ∷ (t «endif» ∷ t semicolon ∷ [])
+    ∷ (t semicolon ∷ [])
+    -- N
+    ∷ (r <large> ∷ [])
+    -- questionref ( NAME or N )
+    ∷ (t «questionref» ∷ t open-paren ∷ r <name-or-number> ∷ t close-paren ∷ [])
+    -- ruleref ( NAME )
+    ∷ (t «ruleref» ∷ t open-paren ∷ t NAME ∷ t close-paren ∷ [])
+    ∷ (t close-paren ∷ [])
+    ∷ []
+
+-- the symbols that a phrase reads; a number that no phrase has reads none
+unfoldable pub symbolsOf : ℕ → List Symbol
+symbolsOf phrase = getD phraseSymbols phrase []

@@ -1,0 +1,22 @@
+-- The expressions of a source's derivation; and how deep an expression may go.
+-- Assumes nothing.
+use Prim.Native.Nat.{ℕ, _≤_}
+use Rattle.ll1.specs.Trees.{Token, Trees, leaf, node}
+use Rattle.grammar.specs.Rules.{<expression>}
+use Rattle.grammar.specs.Derivation.{maxGroups}
+use Rattle.formulas.specs.Formula.{Formula, nest}
+use Rattle.formulas.specs.Need.{need, MOST}
+
+-- among the trees f, at any depth, stands an `expression` with the trees c under it
+pub data ExpressionIn (c : Trees) : Trees → Type 0 where
+  here : {i : ℕ} {f : Trees} → ExpressionIn c (node <expression> i c f)
+  past-leaf : {t : Token} {f : Trees} → ExpressionIn c f → ExpressionIn c (leaf t f)
+  past-node : {A i : ℕ} {d f : Trees} → ExpressionIn c f → ExpressionIn c (node A i d f)
+  inside : {A i : ℕ} {d f : Trees} → ExpressionIn c d → ExpressionIn c (node A i d f)
+
+-- an expression that goes no deeper than one of an accepted source
+pub record Shallow (e : Formula) : Type 0 where
+  -- "at most 32 unfinished grouping parentheses and `NOT`s in one expression" (document 01, Depths), also with the fewest parentheses
+  pub groups : nest 9 e ≤ maxGroups
+  -- with at most nine levels in each of these groups and outside them all: so few values wait at once
+  pub levels : need e ≤ MOST

@@ -1,0 +1,27 @@
+-- `lexemes::reserved::four_class` meets its contract: each arm by computation.
+use mathlib.Core.Path.{sym, ap}
+use Prim.Native.Nat.{_+_}
+use Rattle.lexemes.specs.Classes.{SIGNS}
+use Rattle.lexemes.specs.Lexemes.{reserved}
+use Rattle.lexemes.specs.Lookup.{packed, codePlace}
+use Rattle.lexemes.proofs.Missed.{code-missed}
+use Rattle.lexemes.proofs.reserved.four_class.Statement.{statement}
+use Rattle.lexemes.proofs.reserved.four_class.Tie as tie
+
+pub four-class-spec : {M : Type 1} → statement M
+unfolding reserved packed codePlace
+four-class-spec =
+    tie.close
+    (tie.spec
+    (λ c. rw (c .match .keys1))
+    (λ c. rw (c .match .keys2))
+    (λ c. rw (c .match .keys3))
+    (λ c. rw (c .match .keys4))
+    (λ c. rw (c .match .keys5))
+    (λ c. rw (c .match .keys6))
+    (λ c. rw (c .match .keys7))
+    (λ c. rw (c .match .keys8))
+    (λ c. rw (c .match .keys9))
+    (λ c. rw (c .match .keys10))
+    (λ c. rw (c .match .keys11))
+    (λ c. sym (ap (_+_ SIGNS) (code-missed 4 (c .before .args .first) 0 reserved (c .match .rest)))))

@@ -1,7 +1,0 @@
--- `phrases::elements::word_or_between` meets its contract.
-use borrow.Author.Needs.{needs}
-use Rattle.phrases.proofs.elements.word_or_between.Statement.{statement}
-use Rattle.phrases.proofs.elements.word_or_between.Tie as tie
-
-pub word-or-between-spec : {M : Type 1} → statement M
-word-or-between-spec = tie.close (tie.spec (λ c. rw (c .if1 .taken)) (λ c κs. search needs) (λ c. rw (c .before .if1 .left) (c .is-between .ensures)))

@@ -1,0 +1,78 @@
+// Short texts, of 2 to 15 bytes, each written by its first and its last bytes.
+use crate::bytes::end_of;
+use crate::bytes::put;
+ghost use mathlib.Core.Path.{_≡_};
+ghost use Prim.Native.Nat.{_+_, _≤_};
+ghost use lib.ListN.{length, take};
+ghost use lib.Seq.{sets};
+ghost use Rattle.spellings.specs.Output.{Puts};
+ghost use Rattle.spellings.specs.Spelling.{lowBytes, spelt, Written};
+
+// A text as two numbers, the lowest byte first, and how many bytes it has: the numbers are its first and its last two
+// bytes, or four from four bytes on, or eight from nine on.
+pub struct Spelling(pub u64, pub u64, pub usize);
+
+// No short text has as many bytes.
+pub const ROOM: usize = 16;
+
+fn write_two(out: &mut [u8], at: usize, x: u64)
+    requires { ⌜ at + 2 ≤ length (now out) ⌝ }
+    ensures { λ _. ⌜ now (out .exit) ≡ sets (now (out .entry)) at (lowBytes 2 x) ⌝ }
+{
+    out[at] = (x % 256) as u8;
+    out[at + 1] = (x / 256 % 256) as u8;
+}
+
+fn write_four(out: &mut [u8], at: usize, x: u64)
+    requires { ⌜ at + 4 ≤ length (now out) ⌝ }
+    ensures { λ _. ⌜ now (out .exit) ≡ sets (now (out .entry)) at (lowBytes 4 x) ⌝ }
+{
+    write_two(out, at, x);
+    write_two(out, at + 2, x / 0x1_0000);
+}
+
+fn write_eight(out: &mut [u8], at: usize, x: u64)
+    requires { ⌜ at + 8 ≤ length (now out) ⌝ }
+    ensures { λ _. ⌜ now (out .exit) ≡ sets (now (out .entry)) at (lowBytes 8 x) ⌝ }
+{
+    write_four(out, at, x);
+    write_four(out, at + 4, x / 0x1_0000_0000);
+}
+
+// Writes a text; where it ends.
+pub fn write_text(out: &mut [u8], at: usize, s: Spelling) -> usize
+    requires { ⌜ (at + 16 ≤ length (now out)) × (2 ≤ s .2) × (s .2 ≤ 15) ⌝ }
+    ensures { λ r. ⌜ Written (now (out .entry)) at (spelt s) (now (out .exit)) r ⌝ }
+{
+    let n = s.2;
+    if n < 4 {
+        write_two(out, at, s.0);
+        write_two(out, at + n - 2, s.1);
+        return at + n;
+    }
+    if n <= 8 {
+        write_four(out, at, s.0);
+        write_four(out, at + n - 4, s.1);
+        return at + n;
+    }
+    write_eight(out, at, s.0);
+    write_eight(out, at + n - 8, s.1);
+    at + n
+}
+
+// The first bytes of a text, where they fit.
+pub fn put_part(out: &mut [u8], at: usize, text: &[u8], count: usize) -> usize
+    requires { ⌜ count ≤ length (now text) ⌝ }
+    ensures { λ r. ⌜ Puts (now (out .entry)) at (take count (now (text .entry))) (now (out .exit)) r ⌝ }
+{
+    if out.len() <= at {
+        return end_of(at, count);
+    }
+    let mut at = at;
+    let mut k = 0;
+    while k < count {
+        at = put(out, at, text[k]);
+        k += 1;
+    }
+    at
+}

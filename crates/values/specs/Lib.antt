@@ -1,0 +1,2 @@
+-- Hex numbers, the value of a number, and a GUID part's digits.
+pub mod Numbers

@@ -8,7 +8,7 @@ use native.Mathlib.Omega.{arith}
 use lib.Dec.{ltb}
 use lib.ListN.{drop}
 use borrow.Author.Tests.{ltb-true}
-use Rattle.lexemes.specs.Words as lex
+use Rattle.lexemes.specs.Words as words
 use Rattle.lexemes.proofs.Lists.{either, and-true}
 use Rattle.lexemes.proofs.Equality.{same-word-true}
 use Rattle.rows.specs.Codes as code
@@ -34,7 +34,7 @@ from-first (one-more p) = (refl, p)
 
 -- a rule among the first n, and its name
 abbrev Earlier : List ℕ → ℕ → Draft → Type 0
-Earlier t n e = is code.RULE e ≡ true → (cell column.OWN e ≤ n) × (lex.word (drop (placeOf (cell column.NAME e)) t) ≡ nameWord (cell column.OWN e))
+Earlier t n e = is code.RULE e ≡ true → (cell column.OWN e ≤ n) × (words.word (drop (placeOf (cell column.NAME e)) t) ≡ nameWord (cell column.OWN e))
 
 abbrev nameFaults : List ℕ → List Draft → Draft → List ℕ
 nameFaults t before d =

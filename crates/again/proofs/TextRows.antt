@@ -7,7 +7,7 @@ use Prim.Native.Nat.{ℕ, _<_}
 use native.Mathlib.Omega.{arith}
 use lib.Dec.{ltb}
 use lib.ListN.{getD, drop}
-use Rattle.lexemes.specs.Words as lex
+use Rattle.lexemes.specs.Words as words
 use Rattle.numbers.specs.Numbers.{mem, numbered}
 use Rattle.numbers.proofs.FreeNumbers.{number-range}
 use Rattle.numbers.proofs.Numbering.{Own}
@@ -51,9 +51,9 @@ pub record Says (t : List ℕ) (ds : List Draft) (d : Draft) : Type 0 where
   pub written : asks d ≡ true → ltb 0 (d .ownAt) ≡ true
   pub nameless : asks d ≡ true → cell column.NAME d ≡ 0
   pub declared : is code.RULE d ≡ true → ltb 0 (cell column.NAME d) ≡ true
-  pub rule-name : is code.RULE d ≡ true → lex.word (drop (placeOf (cell column.NAME d)) t) ≡ nameWord (cell column.OWN d)
+  pub rule-name : is code.RULE d ≡ true → words.word (drop (placeOf (cell column.NAME d)) t) ≡ nameWord (cell column.OWN d)
   pub by-number : is code.QUESTION-REF d ≡ true → (0 < cell column.A d) × (mem (cell column.A d) (ownNumbers ds) ≡ true)
-  pub reference-name : is code.RULE-REF d ≡ true → lex.word (drop (placeOf (d .ownAt)) t) ≡ nameWord (named t d)
+  pub reference-name : is code.RULE-REF d ≡ true → words.word (drop (placeOf (d .ownAt)) t) ≡ nameWord (named t d)
   pub by-name : is code.RULE-REF d ≡ true → mem (named t d) (ruleNumbers ds) ≡ true
 
 module _ (t : List ℕ) (look : ℕ → List ℕ) {ds′ ds : List Draft} (numbers : ownNumbers ds′ ≡ numbered (ownNumbers ds)) (rules : ruleNumbers ds′ ≡ ruleNumbers ds) (own : Own (numbered (ownNumbers ds))) where

@@ -6,7 +6,7 @@ use mathlib.Core.Bool.{true, false, cond, _||_}
 use Prim.Native.Nat.{ℕ, _<_}
 use lib.Dec.{ltb}
 use lib.ListN.{length, set, take, drop}
-use Rattle.lexemes.specs.Words as lex
+use Rattle.lexemes.specs.Words as words
 use Rattle.rows.specs.Codes as code
 use Rattle.rows.specs.Columns as column
 use Rattle.grammar.specs.Source.{numberAt}
@@ -45,5 +45,5 @@ module _ (t : List ℕ) where
     -- a question writes its number and no name
     pub question : asks d′ ≡ true → (ltb 0 (d′ .ownAt) ≡ true) × (cell column.NAME d′ ≡ 0)
     -- a rule's name is R and its number, and so is the name in a ruleref
-    pub rule : is code.RULE d′ ≡ true → (ltb 0 (cell column.NAME d′) ≡ true) × (lex.word (drop (placeOf (cell column.NAME d′)) t) ≡ nameWord (cell column.OWN d′))
-    pub reference : is code.RULE-REF d′ ≡ true → lex.word (drop (placeOf (d′ .ownAt)) t) ≡ nameWord (numberAt t (placeOf (d′ .ownAt)))
+    pub rule : is code.RULE d′ ≡ true → (ltb 0 (cell column.NAME d′) ≡ true) × (words.word (drop (placeOf (cell column.NAME d′)) t) ≡ nameWord (cell column.OWN d′))
+    pub reference : is code.RULE-REF d′ ≡ true → words.word (drop (placeOf (d′ .ownAt)) t) ≡ nameWord (numberAt t (placeOf (d′ .ownAt)))

@@ -8,7 +8,7 @@ use Rattle.lexemes.specs.Classes.{NAME, HEX, DECIMAL}
 use Rattle.lexemes.specs.Lexemes.{bytes, lexemes}
 use Rattle.values.specs.declared.Value.the-variants.{Fits as FitsWord}
 use Rattle.values.specs.Numbers.{valueAt, digitsAt}
-use Rattle.lexemes.specs.Words as lex
+use Rattle.lexemes.specs.Words as words
 use Rattle.ll1.specs.Trees.{Token, token, Trees, nil, leaf, node}
 use Rattle.answers.specs.Text.{Word, decimalDigits, hexDigits}
 
@@ -75,7 +75,7 @@ spelling x = map word (lexed x)
 pub data Read (t : List ℕ) : (k p : ℕ) → Lexed → Type 0 where
   read-sign : {k p : ℕ} → Read t k p (sign k)
   read-decimal : {p v : ℕ} → valueAt t p ≡ FitsWord v → Read t DECIMAL p (decimal v)
-  read-rule : {p n : ℕ} → valueAt t p ≡ FitsWord n → lex.word (drop p t) ≡ ruleWord n → Read t NAME p (rule-name n)
+  read-rule : {p n : ℕ} → valueAt t p ≡ FitsWord n → words.word (drop p t) ≡ ruleWord n → Read t NAME p (rule-name n)
   read-hex : {p w v : ℕ} → valueAt t p ≡ FitsWord v → digitsAt t p ≡ w → Read t HEX p (hex w v)
 
 -- the tokens are these words

@@ -9,7 +9,7 @@ use lib.ListN.{drop}
 use Rattle.lexemes.specs.Classes as class
 use Rattle.values.specs.declared.Value.the-variants.{Fits as FitsWord}
 use Rattle.values.specs.Numbers.{valueAt}
-use Rattle.lexemes.specs.Words as lex
+use Rattle.lexemes.specs.Words as words
 use Rattle.ll1.specs.Trees.{Trees, node}
 use Rattle.grammar.specs.Rules.{<expression>, <atom>, <large>, <id>, <name-or-number>}
 use Rattle.answers.specs.Expression.{Operator, operatorClass, Constant, constantClass, Expression, number, constant, question-numbered, rule-named, negation, binary, expression}
@@ -74,7 +74,7 @@ pub data Rel (t : List ℕ) : Expression → Formula → Type 0 where
   rel-number : {p v : ℕ} → valueAt t p ≡ FitsWord v → Rel t (number p) (f-number v)
   rel-constant : {c : Constant} {p : ℕ} → Rel t (constant c p) (f-constant c)
   rel-question : {p q v : ℕ} → valueAt t q ≡ FitsWord v → Rel t (question-numbered p q) (f-question v)
-  rel-rule : {p q n : ℕ} → valueAt t q ≡ FitsWord n → lex.word (drop q t) ≡ ruleWord n → Rel t (rule-named p q) (f-rule n)
+  rel-rule : {p q n : ℕ} → valueAt t q ≡ FitsWord n → words.word (drop q t) ≡ ruleWord n → Rel t (rule-named p q) (f-rule n)
   rel-not : {p : ℕ} {e : Expression} {x : Formula} → Rel t e x → Rel t (negation p e) (f-not x)
   rel-binary : {o : Operator} {p : ℕ} {l r : Expression} {x y : Formula} → Rel t l x → Rel t r y → Rel t (binary o p l r) (f-binary o x y)
 

@@ -1,4 +1,2 @@
--- The laws of `print`: a phrase element by element, and the phrases of statements.
+-- The laws of `print`: a phrase element by element.
 pub mod PhraseLaws
-pub mod Patterns
-pub mod StatementLaws

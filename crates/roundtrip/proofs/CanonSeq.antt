@@ -2,7 +2,7 @@
 -- Assumes nothing.
 use mathlib.Core.Path.{_≡_, refl, ap, ap₂, sym, _∙_, subst}
 use mathlib.Core.List.{List, [], _∷_, _++_, map-append}
-use mathlib.Core.Bool.{Bool, true, not, _&&_}
+use mathlib.Core.Bool.{true, false}
 use Prim.Native.Nat.{ℕ, _+_}
 use native.Mathlib.Omega.{arith}
 use lib.Dec.{eqb}
@@ -10,9 +10,7 @@ use lib.ListN.{length, length-set}
 use Rattle.rows.specs.Codes as code
 use Rattle.rows.specs.Columns as column
 use Rattle.ll1.specs.Trees.{Trees, nil, node, Symbol, nonterminal, Depth, Fits, fits-node}
-use Rattle.ll1.proofs.Basics.{both}
 use Rattle.lexemes.proofs.Lists.{either}
-use borrow.Author.Tests.{not-true}
 use Rattle.grammar.specs.Rules.{<rule>}
 use Rattle.grammar.specs.Grammar.{rules}
 use Rattle.grammar.specs.Source.{numberAt}
@@ -35,19 +33,24 @@ use Rattle.roundtrip.proofs.Canon.{under, canon, Found, pairs-append, p
 pub spell-node : (A i : ℕ) (x f : Shape) {ws : List Word} → spelling x ≡ ws → spelling (s-node A i x f) ≡ ws ++ spelling f
 spell-node A i x f h = map-append word (lexed x) (lexed f) ∙ ap (λ u. u ++ spelling f) h
 
--- ---- shapes without statements
+-- ---- the statements among shapes
 
-abbrev pub silentShape : Shape → Bool
-silentShape s-nil = true
-silentShape (s-leaf l x) = silentShape x
-silentShape (s-node A i c x) = not (states A) && silentShape x
+abbrev pub coreShape : Shape → Shape
+coreShape s-nil = s-nil
+coreShape (s-leaf l x) = coreShape x
+coreShape (s-node A i c x) = elim (states A) [ true ↦ s-node A i c (coreShape x) | false ↦ coreShape x ]
 
-pub silent-core : {t : List ℕ} {T : Trees} {x : Shape} → Over t T x → silentShape x ≡ true → core T ≡ nil
-silent-core over-nil h = refl
-silent-core (over-leaf r o) h = silent-core o h
-silent-core (over-node {A = A} o₁ o₂) h =
-    let w = both (not (states A)) _ h in
-    rw (not-true (states A) (w .0), core) (silent-core o₂ (w .1))
+-- what states something among trees is over what states something in their shape
+pub over-core : {t : List ℕ} {T : Trees} {x : Shape} → Over t T x → Over t (core T) (coreShape x)
+over-core over-nil = over-nil
+over-core (over-leaf r o) = over-core o
+over-core (over-node {A = A} o₁ o₂) = either (states A) (λ y. rw (y, core, coreShape) (over-node o₁ (over-core o₂))) (λ no. rw (no, core, coreShape) (over-core o₂))
+
+pub silent-core : {t : List ℕ} {T : Trees} {x : Shape} → Over t T x → coreShape x ≡ s-nil → core T ≡ nil
+silent-core {t} {T} {x} o h = by (core T) (subst (λ y. Over t (core T) y) h (over-core o))
+  where
+    by : (K : Trees) → Over t K s-nil → K ≡ nil
+    by K over-nil = refl
 
 module _ (t : List ℕ) (look look′ : ℕ → List ℕ) (source : ℕ → ℕ) where
   abbrev pub N : ℕ → ℕ

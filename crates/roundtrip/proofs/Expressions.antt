@@ -7,7 +7,7 @@ use Prim.Native.Nat.{ℕ, _-_}
 use native.Mathlib.Omega.{arith}
 use lib.Dec.{eqb}
 use lib.ListN.{getD, take, drop}
-use Rattle.lexemes.specs.Words as lex
+use Rattle.lexemes.specs.Words as words
 use Rattle.rows.specs.Codes as code
 use Rattle.rows.specs.Codes.{member, questions, isQuestion}
 use Rattle.rows.specs.Columns as column
@@ -121,7 +121,7 @@ module _ (t : List ℕ) (look : ℕ → List ℕ) (source : ℕ → ℕ) (at : �
   back : (q : ℕ) → mark q - 1 ≡ q
   back q = omega arith
 
-  rule-ref-match : (p q′ p′ q : ℕ) → Settled look (operand source at code.RULE-REF 0 p (mark q)) → N q′ ≡ held look p → lex.word (drop q′ t) ≡ ruleWord (N q′) → Match t look (operand N at code.RULE-REF 0 p′ (mark q′)) (operand source at code.RULE-REF 0 p (mark q))
+  rule-ref-match : (p q′ p′ q : ℕ) → Settled look (operand source at code.RULE-REF 0 p (mark q)) → N q′ ≡ held look p → words.word (drop q′ t) ≡ ruleWord (N q′) → Match t look (operand N at code.RULE-REF 0 p′ (mark q′)) (operand source at code.RULE-REF 0 p (mark q))
   unfolding isQuestion member questions
   rule-ref-match p q′ p′ q s h w =
       let e : look p ≡ columns code.RULE-REF at 0 0 0 0 (s .a) 0 0 0 0 p = s .is-row ∙ (λ j. columns code.RULE-REF at (s .own-same refl j) 0 0 0 (s .a) 0 0 0 0 p) in
@@ -132,7 +132,7 @@ module _ (t : List ℕ) (look : ℕ → List ℕ) (source : ℕ → ℕ) (at : �
         default = refl;
         question = false-true false refl;
         rule = false-true false refl;
-        reference = λ z. ap (λ x. lex.word (drop x t)) (back q′) ∙ w ∙ ap (λ x. ruleWord (N x)) (sym (back q′));
+        reference = λ z. ap (λ x. words.word (drop x t)) (back q′) ∙ w ∙ ap (λ x. ruleWord (N x)) (sym (back q′));
       }
 
   -- ---- every expression

@@ -3,6 +3,8 @@ pub mod PhraseWords
 pub mod PhraseFits
 pub mod PhraseRows
 pub mod Core
+pub mod Rebuilt
+pub mod Stating
 pub mod Canon
 pub mod Matches
 pub mod Expressions

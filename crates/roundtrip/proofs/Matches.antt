@@ -7,7 +7,7 @@ use Prim.Native.Nat.{ℕ, suc, _+_, _-_, _/_, _%_, _^_, _<_}
 use native.Mathlib.Omega.{arith}
 use lib.Dec.{eqb, ltb}
 use lib.ListN.{take, drop}
-use Rattle.lexemes.specs.Words as lex
+use Rattle.lexemes.specs.Words as words
 use Rattle.rows.specs.Codes as code
 use Rattle.rows.specs.Codes.{member, questions, isQuestion}
 use Rattle.rows.specs.Columns as column
@@ -329,7 +329,7 @@ module _ (t : List ℕ) (look : ℕ → List ℕ) (source : ℕ → ℕ) (parent
         code-same = refl;
         default = refl;
         question = never;
-        rule = λ z. (marked (placeAt 1 T), ap (λ p. lex.word (drop p t)) back ∙ rule-is t r x parent n o ∙ ap (λ y. ruleWord (cell column.OWN y)) e);
+        rule = λ z. (marked (placeAt 1 T), ap (λ p. words.word (drop p t)) back ∙ rule-is t r x parent n o ∙ ap (λ y. ruleWord (cell column.OWN y)) e);
         reference = never;
       }
 

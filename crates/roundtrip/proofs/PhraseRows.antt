@@ -10,7 +10,7 @@ use lib.ListN.{drop}
 use borrow.Author.Tests.{lt-ltb}
 use Rattle.values.specs.declared.Value.the-variants.{Fits as FitsWord}
 use Rattle.values.specs.Numbers.{valueAt}
-use Rattle.lexemes.specs.Words as lex
+use Rattle.lexemes.specs.Words as words
 use Rattle.rows.specs.Codes as code
 use Rattle.rows.specs.Columns as column
 use Rattle.rows.specs.Flags as flag
@@ -200,7 +200,7 @@ module _ (t : List ℕ) where
       )
 
   -- its name is R and its number
-  pub rule-is : (r : List ℕ) (e : Formula) (parent n : ℕ) {T : Trees} → Over t T (ruleUnder r e) → lex.word (drop (placeAt 1 T) t) ≡ ruleWord (cell column.OWN r)
+  pub rule-is : (r : List ℕ) (e : Formula) (parent n : ℕ) {T : Trees} → Over t T (ruleUnder r e) → words.word (drop (placeAt 1 T) t) ≡ ruleWord (cell column.OWN r)
   rule-is r e parent n (over-leaf read-sign (over-leaf (read-rule h w) o)) = w
 
   pub form-is : (r : List ℕ) (x : Shape) (parent : ℕ) {T : Trees} → Over t T (formUnder r x) → form N parent T .row ≡ columns code.FORM parent (cell column.OWN r) (cell column.FIRST r) 0 0 0 0 0 0 0 (placeAt 0 T)

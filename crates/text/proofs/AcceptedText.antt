@@ -26,7 +26,7 @@ use Rattle.answers.proofs.Checks.{checked-derived}
 use Rattle.answers.proofs.Answers.{past-12, laid-rows, passes-sound}
 use Rattle.answers.proofs.Demand3.{rows-few, accepts-passing}
 use Rattle.spellings.specs.Output.{MOST}
-use Rattle.print.specs.Statements.{closing}
+use Rattle.statements.specs.Statements.{closing}
 use Rattle.laid.specs.Items.{done}
 use Rattle.laid.specs.Statements.{itemsOf}
 use Rattle.laid.proofs.Held.{Held}

@@ -17,7 +17,7 @@ use Rattle.rows.specs.Table.{rowAt, cellAt}
 use Rattle.answers.specs.Expression.{Expression, negation, binary, Operator, operatorCode, operatorClass, level, constantClass}
 use Rattle.answers.specs.Text.{Word, words, lexeme, printed, textOf}
 use Rattle.spellings.specs.Output.{MOST, Prints, PrintsBefore}
-use Rattle.print.specs.Statements.{operandWords}
+use Rattle.statements.specs.Statements.{operandWords}
 use Rattle.spellings.proofs.Outputs.{print-before, counted-before, before-end, count-before}
 use Rattle.laid.specs.Spans.{Spans, spans-number, spans-constant, spans-question-named, spans-question-numbered, spans-rule-named, spans-negation, spans-binary}
 use Rattle.text.specs.declared.expressions.Ahead.{Ahead}

@@ -16,7 +16,7 @@ use Rattle.rows.specs.Table.{rowAt, cellAt}
 use Rattle.answers.specs.Expression.{Expression}
 use Rattle.answers.specs.Text.{opening}
 use Rattle.spellings.specs.Output.{Prints}
-use Rattle.print.specs.Statements.{closing, expressionEnd}
+use Rattle.statements.specs.Statements.{closing, expressionEnd}
 use Rattle.spellings.proofs.Outputs.{prints-none, prints-then}
 use Rattle.spellings.proofs.Outputs.{as-words}
 use Rattle.laid.specs.Spans.{Spans, spans-number, spans-constant, spans-question-named, spans-question-numbered, spans-rule-named, spans-negation, spans-binary}

@@ -16,12 +16,12 @@ use Rattle.answers.specs.Expression.{Expression, constantClass, operatorClass, 
 use Rattle.answers.specs.Text as text
 use Rattle.answers.specs.Text.{Word, words, decimal, decimalDigits, hex, hexDigits, ruleName, lexeme, flagList, truth, grouped, printed, opening, textOf, Phrase, _prints_, phraseAmong, statements}
 use Rattle.print.specs.Phrase.{bit, flagWords, optionFlags, elementWords, valueFrom, added, skipAfter, passedAfter, phraseFrom, shownIn, elementIn, phraseWords}
-use Rattle.print.specs.Statements.{closing, expressionEnd}
+use Rattle.statements.specs.Statements.{closing, expressionEnd}
 use Rattle.spellings.proofs.Outputs.{text-append}
 use Rattle.spellings.proofs.DigitLaws.{digits-few}
 use Rattle.spellings.proofs.SpellingLaws.{lexeme-short}
-use Rattle.print.proofs.Patterns as p
-use Rattle.print.proofs.StatementLaws.{form-words, rule-words, subtitle-words, text-words, label-words, form-set-words, option-words, goto-words, checkbox-words, numeric-words, one-of-words}
+use Rattle.statements.proofs.Patterns as p
+use Rattle.statements.proofs.StatementLaws.{form-words, rule-words, subtitle-words, text-words, label-words, form-set-words, option-words, goto-words, checkbox-words, numeric-words, one-of-words}
 use Rattle.laid.specs.Spans.{Spans, spans-number, spans-constant, spans-question-named, spans-question-numbered, spans-rule-named, spans-negation, spans-binary}
 use Rattle.laid.specs.Items.{Inner, Items}
 use Rattle.laid.specs.Laid.{Inside, inside-plain, inside-expressed, Laid, laid-done, laid-item}

@@ -21,7 +21,7 @@ use Rattle.answers.specs.Text as text
 use Rattle.answers.specs.Text.{Word, words, opening, wordsOf, around}
 use Rattle.grammar.proofs.Alternatives.{at-alternative}
 use Rattle.grammar.proofs.Statements.{statements, states, free, Under, tested}
-use Rattle.print.specs.Statements.{closing, expressionEnd}
+use Rattle.statements.specs.Statements.{closing, expressionEnd}
 use Rattle.laid.specs.Items.{Items, done}
 use Rattle.laid.specs.Statements.{makesRow, itemCodes, codeOf, innerOf, itemsOf}
 use Rattle.laid.proofs.Held.{Held}

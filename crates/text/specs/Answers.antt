@@ -12,7 +12,7 @@ use Rattle.answers.specs.Answer.{accepts}
 use Rattle.answers.specs.Resolution.{Resolution, resolvedInto}
 use Rattle.answers.specs.Text.{opening, textOf}
 use Rattle.spellings.specs.Output.{MOST}
-use Rattle.print.specs.Statements.{closing}
+use Rattle.statements.specs.Statements.{closing}
 use Rattle.laid.specs.Items.{Items}
 use Rattle.laid.specs.Laid.{Stops, Laid}
 use Rattle.text.specs.declared.Answer.{Answer}

@@ -5,7 +5,7 @@ use mathlib.Core.List.{List, [], _++_}
 use lib.ListN.{getD}
 use Rattle.rows.specs.Columns as column
 use Rattle.answers.specs.Text.{Word, opening, printed}
-use Rattle.print.specs.Statements.{closing, expressionEnd}
+use Rattle.statements.specs.Statements.{closing, expressionEnd}
 use Rattle.laid.specs.Items.{Inner, plain, expressed, Items, done, item}
 
 -- `found` gives the row of a place

@@ -10,7 +10,7 @@ use Rattle.rows.specs.Columns as column
 use Rattle.answers.specs.Expression.{operators, operatorCode, operatorClass, level, constantCode, constantClass}
 use Rattle.answers.specs.Text.{Word, lexeme}
 use Rattle.fields.specs.Words.{Pair, pair, lookUp, constants}
-use Rattle.print.specs.Statements.{operandWords}
+use Rattle.statements.specs.Statements.{operandWords}
 
 -- how many levels of operators there are
 abbrev pub LEVELS : ℕ

@@ -7,7 +7,7 @@ use Rattle.rows.specs.Codes as code
 use Rattle.rows.specs.Table.{rowAt}
 use Rattle.answers.specs.Text.{opening}
 use Rattle.spellings.specs.Output.{Prints}
-use Rattle.print.specs.Statements.{closing}
+use Rattle.statements.specs.Statements.{closing}
 use Rattle.laid.specs.Items.{Inner, Items}
 use Rattle.laid.specs.Laid.{Stretch, Stops, Inside, Laid}
 use Rattle.text.specs.declared.items.Printed.{Printed}

@@ -1,12 +1,12 @@
 // Statements from their rows: each with its expression, the statements in it and its end.
 use crate::expressions::put_expression;
-use print::statements::put_closing;
-use print::statements::put_expression_end;
-use print::statements::put_opening;
 use rows::cell;
 use rows::codes;
 use rows::columns::CODE;
 use rows::columns::PARENT;
+use statements::put_closing;
+use statements::put_expression_end;
+use statements::put_opening;
 ghost use Prim.Native.Nat.{_<_};
 ghost use Rattle.laid.specs.Laid.{Stretch};
 ghost use Rattle.text.specs.Printing.{Opened, ItemsPrinted, TextPrinted};

@@ -10,7 +10,7 @@ use borrow.Fn.PlainCycle.{Measures, is, falls, and}
 use Rattle.text.proofs.items.put_within.Reads as put-within
 use Rattle.text.proofs.items.put_within.Kinds as put-within-kinds
 use Rattle.text.proofs.items.+put_within.Lts-put_within as put-within-lts
-use Rattle.print.proofs.statements.put_closing.Reads as put-closing-reads
+use Rattle.statements.proofs.put_closing.Reads as put-closing-reads
 use Rattle.rows.proofs.cell.Reads as cell-reads
 use Rattle.text.proofs.items.put_statement.Reads as put-statement-reads
 use Rattle.text.proofs.items.+put_within.{statement}

@@ -1,10 +1,10 @@
 -- `print::statements::put_form_set` meets its contract.
 -- Assumes nothing.
 use Rattle.spellings.proofs.Outputs.{as-words, prints-then}
-use Rattle.print.proofs.StatementLaws.{form-set-words}
+use Rattle.statements.proofs.StatementLaws.{form-set-words}
 use borrow.Author.Needs.{needs}
-use Rattle.print.proofs.statements.put_form_set.Statement.{statement}
-use Rattle.print.proofs.statements.put_form_set.Tie as tie
+use Rattle.statements.proofs.put_form_set.Statement.{statement}
+use Rattle.statements.proofs.put_form_set.Tie as tie
 
 slice-aggregate-put-phrase : tie.Need-slice-aggregate-put-phrase
 slice-aggregate-put-phrase c = search needs

@@ -2,10 +2,10 @@
 -- Assumes nothing.
 use mathlib.Core.Path.{sym, _∙_}
 use Rattle.spellings.proofs.Outputs.{as-words}
-use Rattle.print.proofs.StatementLaws.{operand-question, operand-rule, operand-number}
+use Rattle.statements.proofs.StatementLaws.{operand-question, operand-rule, operand-number}
 use borrow.Author.Needs.{needs}
-use Rattle.print.proofs.statements.put_operand_of.Statement.{statement}
-use Rattle.print.proofs.statements.put_operand_of.Tie as tie
+use Rattle.statements.proofs.put_operand_of.Statement.{statement}
+use Rattle.statements.proofs.put_operand_of.Tie as tie
 
 slice-aggregate-put-phrase : tie.Need-slice-aggregate-put-phrase
 slice-aggregate-put-phrase c = search needs

@@ -1,12 +1,12 @@
 -- `print::statements::put_expression_end` meets its contract.
 -- Assumes nothing.
 use borrow.Author.Tests.{eq-eqb, ne-eqb}
-use Rattle.print.specs.Statements.{expressionEnd}
+use Rattle.statements.specs.Statements.{expressionEnd}
 use Rattle.spellings.proofs.Outputs.{as-words}
-use Rattle.print.proofs.StatementLaws.{rule-close-words, expression-close-words}
+use Rattle.statements.proofs.StatementLaws.{rule-close-words, expression-close-words}
 use borrow.Author.Needs.{needs}
-use Rattle.print.proofs.statements.put_expression_end.Statement.{statement}
-use Rattle.print.proofs.statements.put_expression_end.Tie as tie
+use Rattle.statements.proofs.put_expression_end.Statement.{statement}
+use Rattle.statements.proofs.put_expression_end.Tie as tie
 
 slice-aggregate-put-plain : tie.Need-slice-aggregate-put-plain
 slice-aggregate-put-plain c = search needs

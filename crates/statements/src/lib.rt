@@ -1,10 +1,10 @@
-// The phrases of statements by the code of their row: how each opens and how it ends.
-use crate::phrase::put_phrase;
-use crate::shown::put_element;
-use crate::sources;
+// The phrases of statements by the code of their row: how each opens and how it ends (document 01, Resolved text).
 use elements::kinds::LARGE;
 use elements::patterns;
 use lexemes::classes::*;
+use print::phrase::put_phrase;
+use print::shown::put_element;
+use print::sources;
 use rows::cell;
 use rows::codes;
 use rows::columns::A;
@@ -19,8 +19,8 @@ ghost use Rattle.rows.specs.Codes.{isQuestion};
 ghost use Rattle.rows.specs.Table.{rowAt};
 ghost use Rattle.answers.specs.Text.{formSet, opening};
 ghost use Rattle.spellings.specs.Output.{Prints};
 ghost use Rattle.print.specs.Phrase.{phraseWords};
-ghost use Rattle.print.specs.Statements.{conditionWords, closing, expressionEnd, operandWords};
+ghost use Rattle.statements.specs.Statements.{conditionWords, closing, expressionEnd, operandWords};
 
 fn put_form_set(out: &mut [u8], at: usize, table: &[u64], row: usize) -> usize
     ensures { λ r. ⌜ Prints (now (out .entry)) at (formSet (rowAt (now (table .entry)) row)) (now (out .exit)) r ⌝ }

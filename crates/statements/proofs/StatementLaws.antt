@@ -14,9 +14,9 @@ use Rattle.elements.specs.Kinds.{LARGE}
 use Rattle.answers.specs.Text as text
 use Rattle.rows.specs.Codes.{member, questions, isQuestion}
 use Rattle.answers.specs.Text.{Word, words, decimal, decimalDigits, head, flagList, framed, Phrase, _prints_, opening, phraseAmong}
 use Rattle.print.specs.Phrase.{bit, flagWords, optionFlags, elementWords, shownBy, anyFlag, hasDefault, valueFrom, added, skipAfter, passedAfter, phraseFrom, elementIn, phraseWords}
-use Rattle.print.specs.Statements.{conditionWords, closing, operandWords}
-use Rattle.print.proofs.Patterns as p
+use Rattle.statements.specs.Statements.{conditionWords, closing, operandWords}
+use Rattle.statements.proofs.Patterns as p
 
 -- ---- phrases with nothing that may be absent
 

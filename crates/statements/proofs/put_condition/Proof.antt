@@ -1,12 +1,12 @@
 -- `print::statements::put_condition` meets its contract.
 -- Assumes nothing.
 use Rattle.lexemes.specs.Lexemes.{lexemes, signs, reserved}
-use Rattle.print.specs.Statements.{conditionWords}
+use Rattle.statements.specs.Statements.{conditionWords}
 use Rattle.spellings.proofs.Outputs.{as-words, prints-none}
-use Rattle.print.proofs.StatementLaws.{no-condition}
+use Rattle.statements.proofs.StatementLaws.{no-condition}
 use borrow.Author.Needs.{needs}
-use Rattle.print.proofs.statements.put_condition.Statement.{statement}
-use Rattle.print.proofs.statements.put_condition.Tie as tie
+use Rattle.statements.proofs.put_condition.Statement.{statement}
+use Rattle.statements.proofs.put_condition.Tie as tie
 
 put-word-requires : tie.Need-put-word-requires
 put-word-requires c κs = search needs

@@ -1,11 +1,11 @@
 -- `print::statements::put_closing` meets its contract.
 -- Assumes nothing.
-use Rattle.print.specs.Statements.{closing}
+use Rattle.statements.specs.Statements.{closing}
 use Rattle.spellings.proofs.Outputs.{as-words, prints-none}
-use Rattle.print.proofs.StatementLaws.{form-set-close-words, form-close-words, one-of-close-words, condition-close-words, no-closing}
+use Rattle.statements.proofs.StatementLaws.{form-set-close-words, form-close-words, one-of-close-words, condition-close-words, no-closing}
 use borrow.Author.Needs.{needs}
-use Rattle.print.proofs.statements.put_closing.Statement.{statement}
-use Rattle.print.proofs.statements.put_closing.Tie as tie
+use Rattle.statements.proofs.put_closing.Statement.{statement}
+use Rattle.statements.proofs.put_closing.Tie as tie
 
 slice-aggregate-put-plain : tie.Need-slice-aggregate-put-plain
 slice-aggregate-put-plain c = search needs

@@ -3,10 +3,10 @@
 use mathlib.Core.Path.{sym, _∙_}
 use Rattle.rows.specs.Table.{rowAt}
 use Rattle.spellings.proofs.Outputs.{as-words}
-use Rattle.print.proofs.StatementLaws.{goto-words, checkbox-words, numeric-words, one-of-words, opens, question-rest}
+use Rattle.statements.proofs.StatementLaws.{goto-words, checkbox-words, numeric-words, one-of-words, opens, question-rest}
 use borrow.Author.Needs.{needs}
-use Rattle.print.proofs.statements.put_question.Statement.{statement}
-use Rattle.print.proofs.statements.put_question.Tie as tie
+use Rattle.statements.proofs.put_question.Statement.{statement}
+use Rattle.statements.proofs.put_question.Tie as tie
 
 slice-aggregate-put-phrase : tie.Need-slice-aggregate-put-phrase
 slice-aggregate-put-phrase c = search needs

@@ -3,10 +3,10 @@
 use mathlib.Core.Path.{sym, _∙_}
 use Rattle.rows.specs.Table.{rowAt}
 use Rattle.spellings.proofs.Outputs.{as-words}
-use Rattle.print.proofs.StatementLaws.{form-words, rule-words, subtitle-words, text-words, label-words, option-words, opens, opens-condition}
+use Rattle.statements.proofs.StatementLaws.{form-words, rule-words, subtitle-words, text-words, label-words, option-words, opens, opens-condition}
 use borrow.Author.Needs.{needs}
-use Rattle.print.proofs.statements.put_opening.Statement.{statement}
-use Rattle.print.proofs.statements.put_opening.Tie as tie
+use Rattle.statements.proofs.put_opening.Statement.{statement}
+use Rattle.statements.proofs.put_opening.Tie as tie
 
 cell-requires : tie.Need-cell-requires
 cell-requires c κs = search needs

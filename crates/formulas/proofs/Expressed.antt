@@ -1,4 +1,4 @@
--- A tree over an expression's shape is a node of the grammar's `expression`, and reads as an expression of the same values.
+-- An expression's shape is one node of the grammar's `expression`, and what is over it reads as an expression of the same values.
 -- Assumes nothing.
 use mathlib.Core.Path.{_≡_, refl, sym, _∙_, subst}
 use mathlib.Core.List.{List}
@@ -11,7 +11,7 @@ use Rattle.answers.specs.Expression.{true′, false′, zero′, one′, ones�
 use Rattle.answers.specs.Expression.{Expression, number, nothing, spelled, expression}
 use Rattle.formulas.specs.Shapes.{Shape, s-nil, s-node, part, Over, over-nil, over-node}
 use Rattle.formulas.specs.Formula.{Formula, f-number, f-constant, f-question, f-rule, f-not, f-binary}
-use Rattle.formulas.specs.Tree.{tree, Rel, Expressed, an-expression}
+use Rattle.formulas.specs.Tree.{tree, Rel}
 use Rattle.formulas.proofs.Good.{good}
 
 -- ---- the tree of an expression is one node
@@ -45,15 +45,14 @@ tree-node (f-binary multiply l r) f = refl
 tree-node (f-binary divide l r) f = refl
 tree-node (f-binary modulo l r) f = refl
 
-pub expressed : (t : List ℕ) (e : Formula) (x : Shape) {T : Trees} → Over t T (tree e 9 x) → Expressed t e x T
+-- the trees under it read as an expression of its values
+pub expression-is : (t : List ℕ) (e : Formula) (x : Shape) {C : Trees} → Over t C (part 0 (tree e 9 x)) → Rel t (expression C) e
 unfolding expression
-expressed t e x {T} o = by (subst (λ y. Over t T y) (tree-node e x) o)
+expression-is t e x {C} o =
+    let E = node <expression> 0 C nil in
+    let o′ : Over t E (tree e 9 s-nil) = subst (λ y. Over t E y) (sym (tree-node e s-nil)) (over-node (subst (λ y. Over t C (part 0 y)) (tree-node e x) o) over-nil) in
+    let m = good t e .whole 9 (omega arith) .means s-nil E o′ in
+    subst (λ y. Rel t y e) (sym (m .is (number 0) nothing ∙ ended (m .expr) (m .over))) (m .rel)
   where
     ended : {B : Trees} (a : Expression) → Over t B s-nil → spelled a nothing B ≡ a
     ended a over-nil = refl
-
-    by : {T : Trees} → Over t T (s-node <expression> 0 (part 0 (tree e 9 s-nil)) x) → Expressed t e x T
-    by (over-node {c = c} {f = f} o₁ o₂) =
-        let m = good t e .whole 9 (omega arith) .means s-nil (node <expression> 0 c nil) (subst (λ y. Over t (node <expression> 0 c nil) y) (sym (tree-node e s-nil)) (over-node o₁ over-nil)) in
-        let is : expression c ≡ m .expr = m .is (number 0) nothing ∙ ended (m .expr) (m .over) in
-        an-expression o₂ (subst (λ y. Rel t y e) (sym is) (m .rel))

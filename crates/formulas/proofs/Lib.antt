@@ -12,3 +12,5 @@ pub mod Shapes
 pub mod Tree
 pub mod Good
 pub mod Expressed
+-- Small expressions, computed.
+pub mod Examples

@@ -10,11 +10,9 @@ use lib.Dec.{eqb, leb}
 use borrow.Author.Tests.{leb-true, leb-false, lt-leb}
 use Rattle.lexemes.specs.Classes as class
 use Rattle.ll1.specs.Trees.{token, Trees, nil, leaf, node, Symbol, terminal, nonterminal, Alternative, alternativeOf, Depth, depth, deeper}
-use Rattle.ll1.proofs.Basics.{clash}
 use Rattle.lexemes.proofs.Lists.{either}
 use Rattle.grammar.specs.Rules.{<expression>, <atom>, <large>, <name-or-number>}
 use Rattle.grammar.specs.Grammar.{rules}
-use Rattle.grammar.specs.Notation.{plain}
 use Rattle.grammar.specs.Derivation.{tooDeep}
 use Rattle.grammar.specs.Parts.{chosen, placeAt}
 use Rattle.answers.specs.Expression.{Operator, operatorClass, Constant, true′, false′, zero′, one′, ones′, undefined′, constantClass, Expression, number, constant, rule-named, negation, binary, nothing, joined, asked, atom, spelled}
@@ -210,10 +208,14 @@ module _ (look : ℕ → List ℕ) where
   numeral-leaf {d} {g} (e-leaf u e-nil) = not-deep d g u
 
   -- the trees under the alternative that it is
-  under-it : (d : Depth) {x a : Alternative} {c : Trees} → some x ≡ some a → Every (deeper d (a .opens)) (a .symbols) c → Every (deeper d (x .opens)) (x .symbols) c
+  under-it :
+      (d : Depth) {x a : Alternative} {c : Trees} → some x ≡ some a → Every (deeper d (a .opens)) (a .symbols) c
+      → Every (deeper d (x .opens)) (x .symbols) c
   under-it d {c = c} q u = subst (λ b. Every (deeper d (b .opens)) (b .symbols) c) (sym (alternative-is q)) u
 
-  numeral-of : (d g i : ℕ) (a : Alternative) (c : Trees) → alternativeOf rules <large> i ≡ some a → Every (deeper (depth d g) (a .opens)) (a .symbols) c → Numeral d g
+  numeral-of :
+      (d g i : ℕ) (a : Alternative) (c : Trees) → alternativeOf rules <large> i ≡ some a → Every (deeper (depth d g) (a .opens)) (a .symbols) c
+      → Numeral d g
   unfolding rules
   numeral-of d g zero a c e u = numeral-leaf (under-it (depth d g) e u)
   numeral-of d g (suc zero) a c e u = numeral-leaf (under-it (depth d g) e u)

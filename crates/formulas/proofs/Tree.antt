@@ -1,4 +1,5 @@
--- What is to hold of an expression's shape: it fits the grammar, it spells the text, and every tree over it means the expression; and that levels and atoms keep it.
+-- What is to hold of an expression's shape: it fits the grammar, it spells the text, and every tree over it means the expression.
+-- Levels and atoms are so where their parts are.
 -- Assumes nothing.
 use mathlib.Core.Path.{_≡_, refl, ap, sym, _∙_, subst}
 use mathlib.Core.List.{List, [], _∷_, _++_, append-nil}

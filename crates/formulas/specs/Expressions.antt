@@ -1,7 +1,10 @@
 -- The expressions of a source's derivation; and how deep an expression may go.
 -- Assumes nothing.
-use Prim.Native.Nat.{ℕ, _≤_}
-use Rattle.ll1.specs.Trees.{Token, Trees, leaf, node}
+use mathlib.Core.List.{List, [], _∷_}
+use mathlib.Core.Bool.{Bool, false}
+use Prim.Native.Nat.{ℕ, zero, suc, _≤_}
+use lib.Dec.{eqb}
+use Rattle.ll1.specs.Trees.{Token, Trees, leaf, node, Symbol, terminal, nonterminal}
 use Rattle.grammar.specs.Rules.{<expression>}
 use Rattle.grammar.specs.Derivation.{maxGroups}
 use Rattle.formulas.specs.Formula.{Formula, nest}
@@ -13,6 +16,14 @@ pub data ExpressionIn (c : Trees) : Trees → Type 0 where
   past-leaf : {t : Token} {f : Trees} → ExpressionIn c f → ExpressionIn c (leaf t f)
   past-node : {A i : ℕ} {d f : Trees} → ExpressionIn c f → ExpressionIn c (node A i d f)
   inside : {A i : ℕ} {d f : Trees} → ExpressionIn c d → ExpressionIn c (node A i d f)
+
+-- the n-th of the symbols is the rule A
+abbrev pub ruleAt : ℕ → ℕ → List Symbol → Bool
+ruleAt n A [] = false
+ruleAt zero A (terminal k ∷ σ) = false
+ruleAt (suc n) A (terminal k ∷ σ) = ruleAt n A σ
+ruleAt zero A (nonterminal B ∷ σ) = eqb B A
+ruleAt (suc n) A (nonterminal B ∷ σ) = ruleAt n A σ
 
 -- an expression that goes no deeper than one of an accepted source
 pub record Shallow (e : Formula) : Type 0 where

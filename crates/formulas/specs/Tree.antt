@@ -10,10 +10,9 @@ use Rattle.lexemes.specs.Classes as class
 use Rattle.values.specs.declared.Value.the-variants.{Fits as FitsWord}
 use Rattle.values.specs.Numbers.{valueAt}
 use Rattle.lexemes.specs.Words as words
-use Rattle.ll1.specs.Trees.{Trees, node}
-use Rattle.grammar.specs.Rules.{<expression>, <atom>, <large>, <id>, <name-or-number>}
-use Rattle.answers.specs.Expression.{Operator, operatorClass, Constant, constantClass, Expression, number, constant, question-numbered, rule-named, negation, binary, expression}
-use Rattle.formulas.specs.Shapes.{sign, decimal, rule-name, ruleWord, Shape, s-nil, s-leaf, s-node, Over}
+use Rattle.grammar.specs.Rules.{<atom>, <large>, <id>, <name-or-number>}
+use Rattle.answers.specs.Expression.{Operator, operatorClass, Constant, constantClass, Expression, number, constant, question-numbered, rule-named, negation, binary}
+use Rattle.formulas.specs.Shapes.{sign, decimal, rule-name, ruleWord, Shape, s-nil, s-leaf, s-node}
 use Rattle.formulas.specs.Formula.{Formula, f-number, f-constant, f-question, f-rule, f-not, f-binary, tight}
 use Rattle.formulas.specs.Levels.{alternative, constantAlternative, lv, tl}
 
@@ -77,8 +76,3 @@ pub data Rel (t : List ℕ) : Expression → Formula → Type 0 where
   rel-rule : {p q n : ℕ} → valueAt t q ≡ FitsWord n → words.word (drop q t) ≡ ruleWord n → Rel t (rule-named p q) (f-rule n)
   rel-not : {p : ℕ} {e : Expression} {x : Formula} → Rel t e x → Rel t (negation p e) (f-not x)
   rel-binary : {o : Operator} {p : ℕ} {l r : Expression} {x y : Formula} → Rel t l x → Rel t r y → Rel t (binary o p l r) (f-binary o x y)
-
--- ---- a tree over an expression's shape
-
-pub data Expressed (t : List ℕ) (e : Formula) (x : Shape) : Trees → Type 0 where
-  an-expression : {c f : Trees} → Over t f x → Rel t (expression c) e → Expressed t e x (node <expression> 0 c f)

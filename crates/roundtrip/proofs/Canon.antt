@@ -12,7 +12,7 @@ use Rattle.rows.specs.Columns as column
 use Rattle.rows.specs.Flags as flag
 use Rattle.ll1.specs.Trees.{token, Trees, nil, leaf, node}
 use Rattle.grammar.specs.Rules.{<source>, <form>*, <form>, <item-or-rule>*, <rule>, <item>, <option>*, <item>*, <option>}
-use Rattle.grammar.specs.Parts.{child, placeAt}
+use Rattle.grammar.specs.Parts.{child, chosen, placeAt}
 use Rattle.answers.specs.Expression.{expression}
 use Rattle.answers.specs.Rows.{Draft}
 use Rattle.answers.specs.Stages.{cell}
@@ -85,6 +85,10 @@ module _ (look : ℕ → List ℕ) where
   canon nil = s-nil
   canon (leaf (token k p) f) = s-leaf (sign k) (canon f)
   canon (node A i c f) = s-node A i (under A i c (canon c)) (canon f)
+
+  -- the n-th of the trees c, a statement or a list of statements, made anew; and the shape beside it
+  abbrev pub listed : ℕ → ℕ → Trees → Shape → Shape
+  listed A n c f = s-node A (chosen n c) (under A (chosen n c) (child n c) (canon (child n c))) f
 
 -- ---- rows
 

@@ -44,7 +44,8 @@ coreShape (s-node A i c x) = elim (states A) [ true ↦ s-node A i c (coreShape 
 pub over-core : {t : List ℕ} {T : Trees} {x : Shape} → Over t T x → Over t (core T) (coreShape x)
 over-core over-nil = over-nil
 over-core (over-leaf r o) = over-core o
-over-core (over-node {A = A} o₁ o₂) = either (states A) (λ y. rw (y, core, coreShape) (over-node o₁ (over-core o₂))) (λ no. rw (no, core, coreShape) (over-core o₂))
+over-core (over-node {A = A} o₁ o₂) =
+    either (states A) (λ y. rw (y, core, coreShape) (over-node o₁ (over-core o₂))) (λ no. rw (no, core, coreShape) (over-core o₂))
 
 pub silent-core : {t : List ℕ} {T : Trees} {x : Shape} → Over t T x → coreShape x ≡ s-nil → core T ≡ nil
 silent-core {t} {T} {x} o h = by (core T) (subst (λ y. Over t (core T) y) h (over-core o))

@@ -19,12 +19,13 @@ use Rattle.answers.specs.Rows.{Draft, rulesIn, draftsOf, expressionRows, item, 
 use Rattle.sound.proofs.Lists.{All}
 use Rattle.formulas.specs.Fitted.{Fitted, f-nil, f-leaf, f-node}
 use Rattle.formulas.proofs.Fitted.{to-fits}
+use Rattle.formulas.specs.Expressions.{ruleAt}
 use Rattle.formulas.specs.Formula.{formula, nest}
 use Rattle.formulas.proofs.Nesting.{expression-node}
 use Rattle.roundtrip.proofs.Expressions.{all-parts}
 use Rattle.grammar.proofs.Statements.{statements, states, free}
 use Rattle.roundtrip.proofs.Core.{core, within, Told, told}
-use Rattle.roundtrip.proofs.Rebuilt.{anew, by-parts, ruleAt}
+use Rattle.roundtrip.proofs.Rebuilt.{anew, by-parts}
 use Rattle.roundtrip.proofs.Stating.{rule-symbols, condition-symbols, Stating, is-form-set, is-no-forms, is-more-forms, is-form, is-no-items-or-rules, is-item-first, is-rule-first, is-rule, is-subtitle, is-text, is-label, is-goto, is-checkbox, is-numeric, is-one-of, is-suppress, is-gray-out, is-disable, is-no-options, is-more-options, is-no-items, is-more-items, is-option, stating}
 use Rattle.again.specs.Matches.{Settled}
 use Rattle.roundtrip.proofs.CanonSeq.{Ok}
@@ -89,7 +90,9 @@ module _ (text : List ℕ) (look look′ : ℕ → List ℕ) (source : ℕ → �
 
   -- ---- the statements, by their alternatives
 
-  stated-as : (x y : ℕ) {A i : ℕ} {a : Alternative} {c : Trees} → Stating A i a → Fits rules (a .symbols) c → Each (deeper (depth x y) (a .opens)) (a .symbols) c → Stated (depth x y) A i c
+  stated-as :
+      (x y : ℕ) {A i : ℕ} {a : Alternative} {c : Trees} → Stating A i a → Fits rules (a .symbols) c → Each (deeper (depth x y) (a .opens)) (a .symbols) c
+      → Stated (depth x y) A i c
   stated-as x y is-subtitle h e = subtitle-ok text look look′ source (depth x y) (word-deep e) _ (told source look h) (none-stated e refl)
   stated-as x y is-text h e = text-ok text look look′ source (depth x y) (word-deep e) _ (told source look h) (none-stated e refl)
   stated-as x y is-label h e = label-ok text look look′ source (depth x y) (word-deep e) _ (told source look h) (none-stated e refl)
@@ -100,28 +103,32 @@ module _ (text : List ℕ) (look look′ : ℕ → List ℕ) (source : ℕ → �
   stated-as x y {c = c} is-one-of h e =
       by-parts (λ c. Told source look c → Stated (depth x y) <item> 6 c) h (λ v parent at n all.
       let z = two-parts <option> (chosen 4 c) <option>* (chosen 5 c) (child 4 c) (child 5 c) at (at + 1) n (of-core v at (at + 1) n (tail-of all)) in
-      one-of-ok text look look′ source (depth x y) (word-deep e) c parent at n v (head-of all) (node-at 4 <option> e refl .0 refl at (at + 1) n (z .0)) (node-at 5 <option>* e refl .0 refl at _ _ (z .1))) (told source look h)
+      one-of-ok text look look′ source (depth x y) (word-deep e) c parent at n v (head-of all)
+      (node-at 4 <option> e refl .0 refl at (at + 1) n (z .0)) (node-at 5 <option>* e refl .0 refl at _ _ (z .1))) (told source look h)
   stated-as x y {c = c} is-suppress h e =
       by-parts (λ c. Told source look c → Stated (depth x y) <item> 7 c) h (λ v parent at n all.
       let E = item source parent 7 (anew (condition-symbols class.«suppressif») c) ∷ expressionRows source at (expression (child 1 c)) in
       let b = node-at 1 <expression> e refl .1 refl in
       let z = all-parts E _ all in
+      let items = one-part <item>* (chosen 3 c) (child 3 c) at (at + length E) n (of-core v at (at + length E) n (z .1)) in
       suppress-ok text look look′ source x y (b .0) c (b .1) parent at n v (head-of (z .0)) (tail-of (z .0))
-      (node-at 3 <item>* e refl .0 refl at (at + length E) n (one-part <item>* (chosen 3 c) (child 3 c) at (at + length E) n (of-core v at (at + length E) n (z .1))))) (told source look h)
+      (node-at 3 <item>* e refl .0 refl at (at + length E) n items)) (told source look h)
   stated-as x y {c = c} is-gray-out h e =
       by-parts (λ c. Told source look c → Stated (depth x y) <item> 8 c) h (λ v parent at n all.
       let E = item source parent 8 (anew (condition-symbols class.«grayoutif») c) ∷ expressionRows source at (expression (child 1 c)) in
       let b = node-at 1 <expression> e refl .1 refl in
       let z = all-parts E _ all in
+      let items = one-part <item>* (chosen 3 c) (child 3 c) at (at + length E) n (of-core v at (at + length E) n (z .1)) in
       gray-out-ok text look look′ source x y (b .0) c (b .1) parent at n v (head-of (z .0)) (tail-of (z .0))
-      (node-at 3 <item>* e refl .0 refl at (at + length E) n (one-part <item>* (chosen 3 c) (child 3 c) at (at + length E) n (of-core v at (at + length E) n (z .1))))) (told source look h)
+      (node-at 3 <item>* e refl .0 refl at (at + length E) n items)) (told source look h)
   stated-as x y {c = c} is-disable h e =
       by-parts (λ c. Told source look c → Stated (depth x y) <item> 9 c) h (λ v parent at n all.
       let E = item source parent 9 (anew (condition-symbols class.«disableif») c) ∷ expressionRows source at (expression (child 1 c)) in
       let b = node-at 1 <expression> e refl .1 refl in
       let z = all-parts E _ all in
+      let items = one-part <item>* (chosen 3 c) (child 3 c) at (at + length E) n (of-core v at (at + length E) n (z .1)) in
       disable-ok text look look′ source x y (b .0) c (b .1) parent at n v (head-of (z .0)) (tail-of (z .0))
-      (node-at 3 <item>* e refl .0 refl at (at + length E) n (one-part <item>* (chosen 3 c) (child 3 c) at (at + length E) n (of-core v at (at + length E) n (z .1))))) (told source look h)
+      (node-at 3 <item>* e refl .0 refl at (at + length E) n items)) (told source look h)
   stated-as x y {c = c} is-rule h e =
       by-parts (λ c. Told source look c → Stated (depth x y) <rule> 0 c) h (λ v parent at n all.
       let E = ruleDraft source parent n (anew rule-symbols c) ∷ expressionRows source at (expression (child 3 c)) in
@@ -130,12 +137,14 @@ module _ (text : List ℕ) (look look′ : ℕ → List ℕ) (source : ℕ → �
       rule-ok text look look′ source x y (b .0) c (b .1) parent at n v (head-of (z .0)) (tail-of (z .0))) (told source look h)
   stated-as x y {c = c} is-form h e =
       by-parts (λ c. Told source look c → Stated (depth x y) <form> 0 c) h (λ v parent at n all.
+      let items = one-part <item-or-rule>* (chosen 9 c) (child 9 c) at (at + 1) n (of-core v at (at + 1) n (tail-of all)) in
       form-ok text look look′ source (depth x y) (word-deep e) c parent at n v (head-of all)
-      (node-at 9 <item-or-rule>* e refl .0 refl at (at + 1) n (one-part <item-or-rule>* (chosen 9 c) (child 9 c) at (at + 1) n (of-core v at (at + 1) n (tail-of all))))) (told source look h)
+      (node-at 9 <item-or-rule>* e refl .0 refl at (at + 1) n items)) (told source look h)
   stated-as x y {c = c} is-form-set h e =
       by-parts (λ c. Told source look c → Stated (depth x y) <source> 0 c) h (λ v parent at n all.
       let z = two-parts <form> (chosen 13 c) <form>* (chosen 14 c) (child 13 c) (child 14 c) at (at + 1) n (of-core v at (at + 1) n (tail-of all)) in
-      form-set-ok text look look′ source (depth x y) (word-deep e) c parent at n v (high-small source (child 3 c)) (low-again source (guidBytes source (child 3 c))) (head-of all)
+      form-set-ok text look look′ source (depth x y) (word-deep e) c parent at n v (high-small source (child 3 c))
+      (low-again source (guidBytes source (child 3 c))) (head-of all)
       (node-at 13 <form> e refl .0 refl at (at + 1) n (z .0)) (node-at 14 <form>* e refl .0 refl at _ _ (z .1))) (told source look h)
   stated-as x y is-no-forms h each-nil = λ parent at n all. no-forms text look look′ source (depth x y) parent at n
   stated-as x y is-more-forms h (each-node {i = j} {c = b} q (each-node {i = k} {c = a} s each-nil)) = λ parent at n all.

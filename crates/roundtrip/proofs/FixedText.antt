@@ -76,7 +76,8 @@ no-questions = refl
 pub same-answers : readAnswer one n ≡ readAnswer two n
 same-answers =
     let rows : length (rowsOf one) ≡ length (rowsOf two) = ap length (rows-read one) ∙ as-many ∙ ap length (sym (rows-read two)) in
-    let numbers : questionNumbers (rowsOf one) ≡ questionNumbers (rowsOf two) = ap questionNumbers (rows-read one) ∙ no-questions ∙ ap questionNumbers (sym (rows-read two)) in
+    let numbers : questionNumbers (rowsOf one) ≡ questionNumbers (rowsOf two) =
+    ap questionNumbers (rows-read one) ∙ no-questions ∙ ap questionNumbers (sym (rows-read two)) in
     answer-told one (resolves one one-resolves) ∙ ap₂ (λ k l. accepts k (freeCount l)) rows numbers ∙ sym (answer-told two (resolves two two-resolves))
 
 -- ---- their rows differ: the label's number, in the third row

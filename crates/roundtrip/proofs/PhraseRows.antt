@@ -17,7 +17,7 @@ use Rattle.rows.specs.Flags as flag
 use Rattle.ll1.specs.Trees.{Trees}
 use Rattle.grammar.specs.Rules.{<flag>}
 use Rattle.grammar.specs.Source.{numberAt}
-use Rattle.grammar.specs.Parts.{child, placeAt}
+use Rattle.grammar.specs.Parts.{child, chosen, placeAt}
 use Rattle.answers.specs.Rows.{Draft, columns, numeralAt, value, string, writtenNumber, writtenMark, nameMark, item, option, form, guidHigh, guidLow, guidBytes, formSet}
 use Rattle.grammar.specs.Parts.{mark, when}
 use Rattle.grammar.specs.Flags.{hasFlag, flags}
@@ -165,7 +165,10 @@ module _ (t : List ℕ) where
       let fl = over-flags (over-part 3 o) ∙ other-flags-in a b c in
       let de = ap (λ k. eqb k 1) (over-taken 4 o) ∙ present-is e in
       let dv = (λ i. when (de i) (when (eqb (over-taken 2 (over-part 4 o) i) 0) 1)) ∙ truth-is e v in
-      record { row = λ i. columns code.CHECKBOX parent (h .own i) (h .first i) (h .second i) (fl i + when (de i) flag.HAS-DEFAULT) 0 0 0 (dv i) (h .unnamed i) (placeAt 0 T); written = h .written }
+      record {
+        row = λ i. columns code.CHECKBOX parent (h .own i) (h .first i) (h .second i) (fl i + when (de i) flag.HAS-DEFAULT) 0 0 0 (dv i) (h .unnamed i) (placeAt 0 T);
+        written = h .written;
+      }
 
   pub numeric-is : (a b c e : Bool) (r : List ℕ) (parent : ℕ) {T : Trees} → Over t T (numericUnder a b c e r)
       → Question (item N parent 5 T) code.NUMERIC parent (flagSum a b c + when e flag.HAS-DEFAULT) (cell column.A r) (cell column.B r) (cell column.C r) (when e (cell column.D r)) (placeAt 0 T) r × (ltb 0 (item N parent 5 T .defaultAt) ≡ e)
@@ -176,8 +179,12 @@ module _ (t : List ℕ) where
       let hb = number-is {v = cell column.B r} (over-part 10 o) in
       let hs = number-is {v = cell column.C r} (over-part 2 (over-part 12 o)) in
       let de = ap (λ k. eqb k 1) (over-taken 13 o) ∙ present-is e in
-      let dv = ap (λ z. when z (value N 2 (child 13 T))) de ∙ default-is e (cell column.D r) (over-part 13 o) in (
-        record { row = λ i. columns code.NUMERIC parent (h .own i) (h .first i) (h .second i) (fl i + when (de i) flag.HAS-DEFAULT) (ha i) (hb i) (when (eqb (over-taken 12 o i) 1) (hs i)) (dv i) (h .unnamed i) (placeAt 0 T); written = h .written },
+      let dv = ap (λ z. when z (value N 2 (child 13 T))) de ∙ default-is e (cell column.D r) (over-part 13 o) in
+      let hc : when (eqb (chosen 12 T) 1) (value N 2 (child 12 T)) ≡ cell column.C r = λ i. when (eqb (over-taken 12 o i) 1) (hs i) in (
+        record {
+          row = λ i. columns code.NUMERIC parent (h .own i) (h .first i) (h .second i) (fl i + when (de i) flag.HAS-DEFAULT) (ha i) (hb i) (hc i) (dv i) (h .unnamed i) (placeAt 0 T);
+          written = h .written;
+        },
         ap (λ z. ltb 0 (when z (mark (numeralAt N 2 (child 13 T))))) de ∙ marked-when e (numeralAt N 2 (child 13 T)),
       )
 

@@ -1,7 +1,7 @@
 -- The shape of a derivation's resolved text is ranged: one walk over the derivation.
 -- Assumes nothing.
 use mathlib.Core.Path.{_≡_, refl, ap, sym, _∙_, subst}
-use mathlib.Core.List.{List, [], _∷_}
+use mathlib.Core.List.{List, [], _∷_, _++_}
 use mathlib.Core.Option.{some}
 use mathlib.Core.Bool.{Bool, true, false}
 use Prim.Native.Nat.{ℕ, zero, suc, _+_, _^_, _<_}
@@ -31,15 +31,16 @@ use Rattle.answers.specs.Stages.{cell, is, asks}
 use Rattle.answers.specs.Text.{hasFlag}
 use Rattle.sound.proofs.Lists.{All, none, more}
 use Rattle.sound.proofs.Kept.{Kept, kept-nil, kept-leaf, kept-node, Node, part, id-range, small-range, string-range}
-use Rattle.formulas.specs.Shapes.{s-node}
+use Rattle.formulas.specs.Expressions.{ruleAt}
 use Rattle.formulas.specs.Formula.{formula}
 use Rattle.roundtrip.proofs.Expressions.{all-parts}
 use Rattle.grammar.proofs.Statements.{states}
 use Rattle.roundtrip.proofs.Core.{core, within, Told, told}
-use Rattle.roundtrip.proofs.Rebuilt.{anew, by-parts, ruleAt}
+use Rattle.roundtrip.proofs.Rebuilt.{anew, by-parts}
 use Rattle.roundtrip.proofs.Stating.{form-set-symbols, form-symbols, rule-symbols, one-of-symbols, condition-symbols, Stating, is-form-set, is-no-forms, is-more-forms, is-form, is-no-items-or-rules, is-item-first, is-rule-first, is-rule, is-subtitle, is-text, is-label, is-goto, is-checkbox, is-numeric, is-one-of, is-suppress, is-gray-out, is-disable, is-no-options, is-more-options, is-no-items, is-more-items, is-option, stating}
 use Rattle.again.specs.Matches.{Settled}
-use Rattle.roundtrip.proofs.Canon.{ending, under, canon}
+use Rattle.roundtrip.proofs.Phrases.{conditionUnder}
+use Rattle.roundtrip.proofs.Canon.{ending, under, canon, listed}
 use Rattle.roundtrip.proofs.CanonItems.{head-of, tail-of, rowOf}
 use Rattle.roundtrip.proofs.GuidAgain.{high-small}
 use Rattle.roundtrip.proofs.Ranged.{Ranged, Fine}
@@ -131,45 +132,71 @@ module _ (s : List ℕ) (look : ℕ → List ℕ) where
 
   -- ---- the statements, by their alternatives
 
-  subtitle-case : {c : Trees} → Told source look c → Node s <item> 0 c → Stated <item> 0 c
-  unfolding rules isQuestion member questions rangeOf ranges
-  subtitle-case {c} v x parent at n all =
-      let z = head-of all .0 in subtitle-ranged (look (placeAt 0 c)) (omega (arith, cell-is column.FIRST z, string-range s x 3 refl))
+  -- the row that is found, and its flags
+  abbrev found : Trees → List ℕ
+  found c = look (placeAt 0 c)
 
-  text-case : {c : Trees} → Told source look c → Node s <item> 1 c → Stated <item> 1 c
-  unfolding rules isQuestion member questions rangeOf ranges
-  text-case {c} v x parent at n all =
-      let z = head-of all .0 in text-ranged (look (placeAt 0 c)) (omega (arith, cell-is column.FIRST z, string-range s x 7 refl)) (omega (arith, cell-is column.SECOND z, string-range s x 3 refl))
+  abbrev given : ℕ → Trees → Bool
+  given k c = hasFlag k (found c)
 
-  label-case : {c : Trees} → Told source look c → Node s <item> 2 c → Stated <item> 2 c
+  subtitle-case : {c : Trees} → Node s <item> 0 c → Stated <item> 0 c
   unfolding rules isQuestion member questions rangeOf ranges
-  label-case {c} v x parent at n all =
-      let z = head-of all .0 in label-ranged (look (placeAt 0 c)) (omega (arith, cell-is column.OWN z, z .own-same refl, small-range s x 1 refl))
+  subtitle-case {c} x parent at n all =
+      let z = head-of all .0 in
+      subtitle-ranged (found c) (omega (arith, cell-is column.FIRST z, string-range s x 3 refl))
 
-  goto-case : {c : Trees} → Told source look c → Node s <item> 3 c → Stated <item> 3 c
+  text-case : {c : Trees} → Node s <item> 1 c → Stated <item> 1 c
   unfolding rules isQuestion member questions rangeOf ranges
-  goto-case {c} v x parent at n all =
+  text-case {c} x parent at n all =
+      let z = head-of all .0 in
+      text-ranged (found c) (omega (arith, cell-is column.FIRST z, string-range s x 7 refl)) (omega (arith, cell-is column.SECOND z, string-range s x 3 refl))
+
+  label-case : {c : Trees} → Node s <item> 2 c → Stated <item> 2 c
+  unfolding rules isQuestion member questions rangeOf ranges
+  label-case {c} x parent at n all =
+      let z = head-of all .0 in
+      label-ranged (found c) (omega (arith, cell-is column.OWN z, z .own-same refl, small-range s x 1 refl))
+
+  goto-case : {c : Trees} → Node s <item> 3 c → Stated <item> 3 c
+  unfolding rules isQuestion member questions rangeOf ranges
+  goto-case {c} x parent at n all =
       let z = head-of all .0 in
       let h = part s x 3 <head> refl in
-      goto-ranged (hasFlag flag.READ-ONLY (look (placeAt 0 c))) (hasFlag flag.INTERACTIVE (look (placeAt 0 c))) (hasFlag flag.RESET-REQUIRED (look (placeAt 0 c))) (look (placeAt 0 c)) (own-id z refl) (omega (arith, cell-is column.FIRST z, string-range s h 4 refl)) (omega (arith, cell-is column.SECOND z, string-range s h 8 refl)) (omega (arith, cell-is column.A z, z .a-same refl, id-range s x 1 refl))
+      goto-ranged (given flag.READ-ONLY c) (given flag.INTERACTIVE c) (given flag.RESET-REQUIRED c) (found c) (own-id z refl)
+      (omega (arith, cell-is column.FIRST z, string-range s h 4 refl))
+      (omega (arith, cell-is column.SECOND z, string-range s h 8 refl))
+      (omega (arith, cell-is column.A z, z .a-same refl, id-range s x 1 refl))
 
-  checkbox-case : {c : Trees} → Told source look c → Node s <item> 4 c → Stated <item> 4 c
+  checkbox-case : {c : Trees} → Node s <item> 4 c → Stated <item> 4 c
   unfolding rules isQuestion member questions rangeOf ranges
-  checkbox-case {c} v x parent at n all =
+  checkbox-case {c} x parent at n all =
       let z = head-of all .0 in
       let h = part s x 1 <head> refl in
-      checkbox-ranged (hasFlag flag.READ-ONLY (look (placeAt 0 c))) (hasFlag flag.INTERACTIVE (look (placeAt 0 c))) (hasFlag flag.RESET-REQUIRED (look (placeAt 0 c))) (hasFlag flag.HAS-DEFAULT (look (placeAt 0 c))) (eqb (getD (look (placeAt 0 c)) column.D 0) 1) (look (placeAt 0 c)) (own-id z refl) (omega (arith, cell-is column.FIRST z, string-range s h 4 refl)) (omega (arith, cell-is column.SECOND z, string-range s h 8 refl))
+      checkbox-ranged (given flag.READ-ONLY c) (given flag.INTERACTIVE c) (given flag.RESET-REQUIRED c) (given flag.HAS-DEFAULT c) (eqb (getD (found c) column.D 0) 1) (found c) (own-id z refl)
+      (omega (arith, cell-is column.FIRST z, string-range s h 4 refl))
+      (omega (arith, cell-is column.SECOND z, string-range s h 8 refl))
 
-  numeric-case : {c : Trees} → Told source look c → Node s <item> 5 c → Stated <item> 5 c
+  numeric-case : {c : Trees} → Node s <item> 5 c → Stated <item> 5 c
   unfolding rules isQuestion member questions rangeOf ranges
-  numeric-case {c} v x parent at n all =
+  numeric-case {c} x parent at n all =
       let z = head-of all .0 in
       let h = part s x 1 <head> refl in
-      numeric-ranged (hasFlag flag.READ-ONLY (look (placeAt 0 c))) (hasFlag flag.INTERACTIVE (look (placeAt 0 c))) (hasFlag flag.RESET-REQUIRED (look (placeAt 0 c))) (hasFlag flag.HAS-DEFAULT (look (placeAt 0 c))) (look (placeAt 0 c)) (own-id z refl) (omega (arith, cell-is column.FIRST z, string-range s h 4 refl)) (omega (arith, cell-is column.SECOND z, string-range s h 8 refl))
+      numeric-ranged (given flag.READ-ONLY c) (given flag.INTERACTIVE c) (given flag.RESET-REQUIRED c) (given flag.HAS-DEFAULT c) (found c) (own-id z refl)
+      (omega (arith, cell-is column.FIRST z, string-range s h 4 refl))
+      (omega (arith, cell-is column.SECOND z, string-range s h 8 refl))
       (omega (arith, cell-is column.A z, z .a-same refl, number-small s (placeAt 0 (child 6 c))))
       (omega (arith, cell-is column.B z, number-small s (placeAt 0 (child 10 c))))
       (omega (arith, cell-is column.C z, when-small (eqb (chosen 12 c) 1) (source (placeAt 0 (child 2 (child 12 c)))) (number-small s _)))
       (omega (arith, cell-is column.D z, when-small (eqb (chosen 13 c) 1) (source (placeAt 0 (child 2 (child 13 c)))) (number-small s _)))
+
+  option-case : {c : Trees} → Node s <option> 0 c → Stated <option> 0 c
+  unfolding rules isQuestion member questions rangeOf ranges
+  option-case {c} x parent at n all =
+      let z = head-of all .0 in
+      option-ranged (given flag.OPTION-DEFAULT c) (found c) (omega (arith, cell-is column.FIRST z, string-range s x 3 refl))
+      (omega (arith, cell-is column.A z, z .a-same refl, number-small s (placeAt 0 (child 7 c))))
+
+  -- ---- those with statements or an expression under them
 
   one-of-case : {c : Trees} → Told source look c → Node s <item> 6 c → Fits rules one-of-symbols c → Each one-of-symbols c → Stated <item> 6 c
   unfolding rules isQuestion member questions rangeOf ranges
@@ -178,55 +205,45 @@ module _ (s : List ℕ) (look : ℕ → List ℕ) where
       let z = head-of all .0 in
       let h = part s x 1 <head> refl in
       let y = two-parts <option> (chosen 4 c) <option>* (chosen 5 c) (child 4 c) (child 5 c) at (at + 1) n (of-core v at (at + 1) n (tail-of all)) in
-      one-of-ranged (hasFlag flag.READ-ONLY (look (placeAt 0 c))) (hasFlag flag.INTERACTIVE (look (placeAt 0 c))) (hasFlag flag.RESET-REQUIRED (look (placeAt 0 c))) (look (placeAt 0 c)) (s-node <option> (chosen 4 c) (under look <option> (chosen 4 c) (child 4 c) (canon look (child 4 c))) (s-node <option>* (chosen 5 c) (under look <option>* (chosen 5 c) (child 5 c) (canon look (child 5 c))) (ending class.«endoneof»))) (own-id z refl) (omega (arith, cell-is column.FIRST z, string-range s h 4 refl)) (omega (arith, cell-is column.SECOND z, string-range s h 8 refl)) (tt, node-at 4 <option> e refl refl at (at + 1) n (y .0), (tt, node-at 5 <option>* e refl refl at _ _ (y .1), ending-ranged class.«endoneof» (omega arith)))) v x
+      one-of-ranged (given flag.READ-ONLY c) (given flag.INTERACTIVE c) (given flag.RESET-REQUIRED c) (found c)
+      (listed look <option> 4 c (listed look <option>* 5 c (ending class.«endoneof»))) (own-id z refl)
+      (omega (arith, cell-is column.FIRST z, string-range s h 4 refl))
+      (omega (arith, cell-is column.SECOND z, string-range s h 8 refl))
+      (tt, node-at 4 <option> e refl refl at (at + 1) n (y .0), (tt, node-at 5 <option>* e refl refl at _ _ (y .1), ending-ranged class.«endoneof» (omega arith)))) v x
 
-  suppress-case : {c : Trees} → Told source look c → Fits rules (condition-symbols class.«suppressif») c → Each (condition-symbols class.«suppressif») c → Stated <item> 7 c
+  -- suppressif, grayoutif or disableif, which is the class k, with the row D
+  condition-case :
+      (k : ℕ) {c : Trees} (D : Draft) (at n : ℕ) → k < 72 → Told source look (anew (condition-symbols k) c) → Each (condition-symbols k) c
+      → Rows ((D ∷ expressionRows source at (expression (child 1 c))) ++ draftsOf source (anew (condition-symbols k) c) at (at + suc (length (expressionRows source at (expression (child 1 c))))) n)
+      → Ranged (conditionUnder k (formula look (expression (child 1 c))) (listed look <item>* 3 c (ending class.«endif»)))
+  unfolding rangeOf ranges
+  condition-case k {c} D at n b v e all =
+      let E = D ∷ expressionRows source at (expression (child 1 c)) in
+      let y = all-parts E (draftsOf source (anew (condition-symbols k) c) at (at + length E) n) all in
+      let items = one-part <item>* (chosen 3 c) (child 3 c) at (at + length E) n (of-core v at (at + length E) n (y .1)) in
+      condition-ranged k (formula look (expression (child 1 c))) (listed look <item>* 3 c (ending class.«endif»)) b (fine at (expression (child 1 c)) (tail-of (y .0)))
+      (tt, node-at 3 <item>* e refl refl at (at + length E) n items, ending-ranged class.«endif» (omega arith))
+
+  rule-case : {c : Trees} → Fits rules rule-symbols c → Stated <rule> 0 c
   unfolding isQuestion member questions rangeOf ranges
-  suppress-case {c} v h e =
-      by-parts (λ c. Told source look c → Stated <item> 7 c) h (λ v parent at n all.
-      let E = item source parent 7 (anew (condition-symbols class.«suppressif») c) ∷ expressionRows source at (expression (child 1 c)) in
-      let y = all-parts E _ all in
-      condition-ranged class.«suppressif» (formula look (expression (child 1 c))) (s-node <item>* (chosen 3 c) (under look <item>* (chosen 3 c) (child 3 c) (canon look (child 3 c))) (ending class.«endif»)) (omega arith) (fine at (expression (child 1 c)) (tail-of (y .0)))
-      (tt, node-at 3 <item>* e refl refl at (at + length E) n (one-part <item>* (chosen 3 c) (child 3 c) at (at + length E) n (of-core v at (at + length E) n (y .1))), ending-ranged class.«endif» (omega arith))) v
-
-  gray-out-case : {c : Trees} → Told source look c → Fits rules (condition-symbols class.«grayoutif») c → Each (condition-symbols class.«grayoutif») c → Stated <item> 8 c
-  unfolding isQuestion member questions rangeOf ranges
-  gray-out-case {c} v h e =
-      by-parts (λ c. Told source look c → Stated <item> 8 c) h (λ v parent at n all.
-      let E = item source parent 8 (anew (condition-symbols class.«grayoutif») c) ∷ expressionRows source at (expression (child 1 c)) in
-      let y = all-parts E _ all in
-      condition-ranged class.«grayoutif» (formula look (expression (child 1 c))) (s-node <item>* (chosen 3 c) (under look <item>* (chosen 3 c) (child 3 c) (canon look (child 3 c))) (ending class.«endif»)) (omega arith) (fine at (expression (child 1 c)) (tail-of (y .0)))
-      (tt, node-at 3 <item>* e refl refl at (at + length E) n (one-part <item>* (chosen 3 c) (child 3 c) at (at + length E) n (of-core v at (at + length E) n (y .1))), ending-ranged class.«endif» (omega arith))) v
-
-  disable-case : {c : Trees} → Told source look c → Fits rules (condition-symbols class.«disableif») c → Each (condition-symbols class.«disableif») c → Stated <item> 9 c
-  unfolding isQuestion member questions rangeOf ranges
-  disable-case {c} v h e =
-      by-parts (λ c. Told source look c → Stated <item> 9 c) h (λ v parent at n all.
-      let E = item source parent 9 (anew (condition-symbols class.«disableif») c) ∷ expressionRows source at (expression (child 1 c)) in
-      let y = all-parts E _ all in
-      condition-ranged class.«disableif» (formula look (expression (child 1 c))) (s-node <item>* (chosen 3 c) (under look <item>* (chosen 3 c) (child 3 c) (canon look (child 3 c))) (ending class.«endif»)) (omega arith) (fine at (expression (child 1 c)) (tail-of (y .0)))
-      (tt, node-at 3 <item>* e refl refl at (at + length E) n (one-part <item>* (chosen 3 c) (child 3 c) at (at + length E) n (of-core v at (at + length E) n (y .1))), ending-ranged class.«endif» (omega arith))) v
-
-  option-case : {c : Trees} → Told source look c → Node s <option> 0 c → Stated <option> 0 c
-  unfolding rules isQuestion member questions rangeOf ranges
-  option-case {c} v x parent at n all =
-      let z = head-of all .0 in option-ranged (hasFlag flag.OPTION-DEFAULT (look (placeAt 0 c))) (look (placeAt 0 c)) (omega (arith, cell-is column.FIRST z, string-range s x 3 refl)) (omega (arith, cell-is column.A z, z .a-same refl, number-small s (placeAt 0 (child 7 c))))
-
-  rule-case : {c : Trees} → Told source look c → Fits rules rule-symbols c → Stated <rule> 0 c
-  unfolding isQuestion member questions rangeOf ranges
-  rule-case {c} v h =
-      by-parts (λ c. Told source look c → Stated <rule> 0 c) h (λ v parent at n all.
+  rule-case {c} h =
+      by-parts (λ c. Stated <rule> 0 c) h (λ parent at n all.
       let E = ruleDraft source parent n (anew rule-symbols c) ∷ expressionRows source at (expression (child 3 c)) in
       let y = all-parts E _ all in
       let z = head-of (y .0) in
-      rule-ranged (look (placeAt 0 c)) (formula look (expression (child 3 c))) (omega (arith, cell-is column.OWN (z .0), z .0 .own-same refl, z .1 refl)) (fine at (expression (child 3 c)) (tail-of (y .0)))) v
+      rule-ranged (found c) (formula look (expression (child 3 c))) (omega (arith, cell-is column.OWN (z .0), z .0 .own-same refl, z .1 refl))
+      (fine at (expression (child 3 c)) (tail-of (y .0))))
 
   form-case : {c : Trees} → Told source look c → Node s <form> 0 c → Fits rules form-symbols c → Each form-symbols c → Stated <form> 0 c
   unfolding rules isQuestion member questions rangeOf ranges
   form-case {c} v x h e =
       by-parts (λ c. Told source look c → Node s <form> 0 c → Stated <form> 0 c) h (λ v x parent at n all.
       let z = head-of all .0 in
-      form-ranged (look (placeAt 0 c)) (s-node <item-or-rule>* (chosen 9 c) (under look <item-or-rule>* (chosen 9 c) (child 9 c) (canon look (child 9 c))) (ending class.«endform»)) (omega (arith, cell-is column.OWN z, z .own-same refl, id-range s x 3 refl)) (omega (arith, cell-is column.FIRST z, string-range s x 7 refl)) (tt, node-at 9 <item-or-rule>* e refl refl at (at + 1) n (one-part <item-or-rule>* (chosen 9 c) (child 9 c) at (at + 1) n (of-core v at (at + 1) n (tail-of all))), ending-ranged class.«endform» (omega arith))) v x
+      let items = one-part <item-or-rule>* (chosen 9 c) (child 9 c) at (at + 1) n (of-core v at (at + 1) n (tail-of all)) in
+      form-ranged (found c) (listed look <item-or-rule>* 9 c (ending class.«endform»))
+      (omega (arith, cell-is column.OWN z, z .own-same refl, id-range s x 3 refl))
+      (omega (arith, cell-is column.FIRST z, string-range s x 7 refl))
+      (tt, node-at 9 <item-or-rule>* e refl refl at (at + 1) n items, ending-ranged class.«endform» (omega arith))) v x
 
   form-set-case : {c : Trees} → Told source look c → Node s <source> 0 c → Fits rules form-set-symbols c → Each form-set-symbols c → Stated <source> 0 c
   unfolding rules isQuestion member questions rangeOf ranges
@@ -234,24 +251,34 @@ module _ (s : List ℕ) (look : ℕ → List ℕ) where
       by-parts (λ c. Told source look c → Node s <source> 0 c → Stated <source> 0 c) h (λ v x parent at n all.
       let z = head-of all .0 in
       let y = two-parts <form> (chosen 13 c) <form>* (chosen 14 c) (child 13 c) (child 14 c) at (at + 1) n (of-core v at (at + 1) n (tail-of all)) in
-      form-set-ranged (look (placeAt 0 c)) (s-node <form> (chosen 13 c) (under look <form> (chosen 13 c) (child 13 c) (canon look (child 13 c))) (s-node <form>* (chosen 14 c) (under look <form>* (chosen 14 c) (child 14 c) (canon look (child 14 c))) (ending class.«endformset»))) (omega (arith, cell-is column.FIRST z, string-range s x 7 refl)) (omega (arith, cell-is column.SECOND z, string-range s x 11 refl)) (subst (λ v. v < 2 ^ 64) (sym (cell-is column.A z ∙ z .a-same refl)) (high-small source (child 3 c))) (tt, node-at 13 <form> e refl refl at (at + 1) n (y .0), (tt, node-at 14 <form>* e refl refl at _ _ (y .1), ending-ranged class.«endformset» (omega arith)))) v x
+      form-set-ranged (found c) (listed look <form> 13 c (listed look <form>* 14 c (ending class.«endformset»)))
+      (omega (arith, cell-is column.FIRST z, string-range s x 7 refl))
+      (omega (arith, cell-is column.SECOND z, string-range s x 11 refl))
+      (subst (λ v. v < 2 ^ 64) (sym (cell-is column.A z ∙ z .a-same refl)) (high-small source (child 3 c)))
+      (tt, node-at 13 <form> e refl refl at (at + 1) n (y .0), (tt, node-at 14 <form>* e refl refl at _ _ (y .1), ending-ranged class.«endformset» (omega arith)))) v x
 
   -- ---- every statement
 
   stated-as : {A i : ℕ} {a : Alternative} {c : Trees} → Stating A i a → Node s A i c → Fits rules (a .symbols) c → Each (a .symbols) c → Stated A i c
   unfolding rangeOf ranges
-  stated-as is-subtitle x h e = subtitle-case (told source look h) x
-  stated-as is-text x h e = text-case (told source look h) x
-  stated-as is-label x h e = label-case (told source look h) x
-  stated-as is-goto x h e = goto-case (told source look h) x
-  stated-as is-checkbox x h e = checkbox-case (told source look h) x
-  stated-as is-numeric x h e = numeric-case (told source look h) x
-  stated-as is-option x h e = option-case (told source look h) x
+  stated-as is-subtitle x h e = subtitle-case x
+  stated-as is-text x h e = text-case x
+  stated-as is-label x h e = label-case x
+  stated-as is-goto x h e = goto-case x
+  stated-as is-checkbox x h e = checkbox-case x
+  stated-as is-numeric x h e = numeric-case x
+  stated-as is-option x h e = option-case x
   stated-as is-one-of x h e = one-of-case (told source look h) x h e
-  stated-as is-suppress x h e = suppress-case (told source look h) h e
-  stated-as is-gray-out x h e = gray-out-case (told source look h) h e
-  stated-as is-disable x h e = disable-case (told source look h) h e
-  stated-as is-rule x h e = rule-case (told source look h) h
+  stated-as {c = c} is-suppress x h e =
+      by-parts (λ c. Told source look c → Stated <item> 7 c) h (λ v parent at n all.
+      condition-case class.«suppressif» (item source parent 7 (anew (condition-symbols class.«suppressif») c)) at n (omega arith) v e all) (told source look h)
+  stated-as {c = c} is-gray-out x h e =
+      by-parts (λ c. Told source look c → Stated <item> 8 c) h (λ v parent at n all.
+      condition-case class.«grayoutif» (item source parent 8 (anew (condition-symbols class.«grayoutif») c)) at n (omega arith) v e all) (told source look h)
+  stated-as {c = c} is-disable x h e =
+      by-parts (λ c. Told source look c → Stated <item> 9 c) h (λ v parent at n all.
+      condition-case class.«disableif» (item source parent 9 (anew (condition-symbols class.«disableif») c)) at n (omega arith) v e all) (told source look h)
+  stated-as is-rule x h e = rule-case h
   stated-as is-form x h e = form-case (told source look h) x h e
   stated-as is-form-set x h e = form-set-case (told source look h) x h e
   stated-as is-no-forms x h each-nil = λ parent at n all. tt

@@ -2,9 +2,7 @@
 -- Assumes nothing.
 use mathlib.Core.Path.{_≡_, refl, ap, sym, subst}
 use mathlib.Core.List.{List, [], _∷_}
-use mathlib.Core.Bool.{Bool, false}
-use Prim.Native.Nat.{ℕ, zero, suc}
-use lib.Dec.{eqb}
+use Prim.Native.Nat.{ℕ, suc}
 use Rattle.ll1.specs.Trees.{token, Trees, nil, leaf, node, Symbol, terminal, nonterminal, Fits, fits-nil, fits-leaf, fits-node}
 use Rattle.grammar.specs.Grammar.{rules}
 use Rattle.grammar.specs.Parts.{child, chosen, placeAt}
@@ -26,12 +24,3 @@ is-anew (fits-node {A = A} {i = i} {c = c} e r₁ r₂) = ap (λ x. node A i c x
 -- so what holds of them made anew holds of them
 pub by-parts : (P : Trees → Type 0) {σ : List Symbol} {f : Trees} → Fits rules σ f → P (anew σ f) → P f
 by-parts P h p = subst P (sym (is-anew h)) p
-
--- ---- the n-th symbol is the rule A
-
-abbrev pub ruleAt : ℕ → ℕ → List Symbol → Bool
-ruleAt n A [] = false
-ruleAt zero A (terminal k ∷ σ) = false
-ruleAt (suc n) A (terminal k ∷ σ) = ruleAt n A σ
-ruleAt zero A (nonterminal B ∷ σ) = eqb B A
-ruleAt (suc n) A (nonterminal B ∷ σ) = ruleAt n A σ

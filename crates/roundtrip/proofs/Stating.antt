@@ -22,7 +22,8 @@ use Rattle.formulas.proofs.Inverse.{alternative-is, no-alternative}
 -- formset guid = GUID , title = STR , help = STR , form+ endformset ;
 abbrev pub form-set-symbols : List Symbol
 form-set-symbols =
-    t class.«formset» ∷ t class.«guid» ∷ t class.«=» ∷ r <guid> ∷ t class.comma ∷ t class.«title» ∷ t class.«=» ∷ r <str> ∷ t class.comma ∷ t class.«help» ∷ t class.«=» ∷ r <str> ∷ t class.comma
+    t class.«formset» ∷ t class.«guid» ∷ t class.«=» ∷ r <guid> ∷ t class.comma ∷ t class.«title» ∷ t class.«=» ∷ r <str> ∷ t class.comma
+    ∷ t class.«help» ∷ t class.«=» ∷ r <str> ∷ t class.comma
     ∷ r <form> ∷ r <form>* ∷ t class.«endformset» ∷ t class.semicolon ∷ []
 
 -- form formid = N , title = STR ; (item or rule)* endform ;
@@ -58,7 +59,8 @@ checkbox-symbols = t class.«checkbox» ∷ r <head> ∷ t class.comma ∷ r <fl
 -- numeric HEAD , [flags = FL ,] minimum = N , maximum = N , [step = N ,] [default = N ,] endnumeric ;
 abbrev pub numeric-symbols : List Symbol
 numeric-symbols =
-    t class.«numeric» ∷ r <head> ∷ t class.comma ∷ r <flags>? ∷ t class.«minimum» ∷ t class.«=» ∷ r <large> ∷ t class.comma ∷ t class.«maximum» ∷ t class.«=» ∷ r <large> ∷ t class.comma
+    t class.«numeric» ∷ r <head> ∷ t class.comma ∷ r <flags>? ∷ t class.«minimum» ∷ t class.«=» ∷ r <large> ∷ t class.comma
+    ∷ t class.«maximum» ∷ t class.«=» ∷ r <large> ∷ t class.comma
     ∷ r <step>? ∷ r <number-default>? ∷ t class.«endnumeric» ∷ t class.semicolon ∷ []
 
 -- oneof HEAD , [flags = FL ,] option+ endoneof ;
@@ -72,7 +74,8 @@ condition-symbols k = t k ∷ r <expression> ∷ t class.semicolon ∷ r <item>*
 -- option text = STR , value = N , flags = (N or DEFAULT) ;
 abbrev pub option-symbols : List Symbol
 option-symbols =
-    t class.«option» ∷ t class.«text» ∷ t class.«=» ∷ r <str> ∷ t class.comma ∷ t class.«value» ∷ t class.«=» ∷ r <large> ∷ t class.comma ∷ t class.«flags» ∷ t class.«=» ∷ r <option-flags>
+    t class.«option» ∷ t class.«text» ∷ t class.«=» ∷ r <str> ∷ t class.comma ∷ t class.«value» ∷ t class.«=» ∷ r <large> ∷ t class.comma
+    ∷ t class.«flags» ∷ t class.«=» ∷ r <option-flags>
     ∷ t class.semicolon ∷ []
 
 -- ---- the alternatives

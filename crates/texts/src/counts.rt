@@ -1,50 +1,53 @@
-// How many cases agree, are run, are resolved and are refused, and what the program prints.
-use libc::STDOUT_FILENO;
-use std::num::wrapping_add_u64;
+// How many cases agree, are resolved and are refused.
+use crate::Ran;
+use trials::tally::NONE;
+use trials::tally::Tally;
+use trials::tally::one;
+use trials::tally::print_number;
+use trials::tally::print_text;
+use trials::tally::sum;
 
-pub const SIZE: usize = 4;
-
-const AGREED: usize = 0;
-
-const ALL: usize = 1;
-
-const RESOLVED: usize = 2;
-
-const REFUSED: usize = 3;
-
-fn one_if(is_counted: bool) -> u64 {
-    if is_counted { 1 } else { 0 }
+// Of all cases: those that agree, those that are resolved, and those that are refused.
+pub struct Counts {
+    pub agreed: Tally,
+    pub resolved: Tally,
+    pub refused: Tally,
 }
 
-// Counts a case.
-pub fn add(counts: &mut [u64; SIZE], is_agreed: bool, is_resolved: bool) {
-    counts[AGREED] = wrapping_add_u64(counts[AGREED], one_if(is_agreed));
-    counts[ALL] = wrapping_add_u64(counts[ALL], 1);
-    counts[RESOLVED] = wrapping_add_u64(counts[RESOLVED], one_if(is_resolved));
-    counts[REFUSED] = wrapping_add_u64(counts[REFUSED], one_if(!is_resolved));
+pub const START: Counts = Counts {
+    agreed: NONE,
+    resolved: NONE,
+    refused: NONE,
+};
+
+fn print_difference(index: u64) {
+    print_text(b"case ");
+    print_number(index);
+    print_text(b" differs\n");
 }
 
-fn text(bytes: &[u8]) {
-    io::write_all(STDOUT_FILENO, bytes);
+// With one more case; a case that differs is printed.
+pub fn add(counts: Counts, index: u64, ran: Ran) -> Counts {
+    if !ran.agreed {
+        print_difference(index);
+    }
+    let agreed = sum(counts.agreed, one(ran.agreed));
+    let resolved = sum(counts.resolved, one(ran.resolved));
+    let refused = sum(counts.refused, one(!ran.resolved));
+    Counts {
+        agreed,
+        resolved,
+        refused,
+    }
 }
 
-fn number(n: u64) {
-    io::print_decimal(STDOUT_FILENO, n);
-}
-
-pub fn print_difference(index: u64) {
-    text(b"case ");
-    number(index);
-    text(b" differs\n");
-}
-
-pub fn print_all(counts: &[u64; SIZE]) {
-    number(counts[AGREED]);
-    text(b" of ");
-    number(counts[ALL]);
-    text(b" agree\n");
-    number(counts[RESOLVED]);
-    text(b" resolved, ");
-    number(counts[REFUSED]);
-    text(b" refused\n");
+pub fn print_all(counts: Counts) {
+    print_number(counts.agreed.agreed);
+    print_text(b" of ");
+    print_number(counts.agreed.all);
+    print_text(b" agree\n");
+    print_number(counts.resolved.agreed);
+    print_text(b" resolved, ");
+    print_number(counts.refused.agreed);
+    print_text(b" refused\n");
 }

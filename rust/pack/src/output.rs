@@ -49,8 +49,9 @@ impl Output {
         line(&mut text, "again, rows just enough", self.just_enough);
         line(&mut text, "again, no table", self.no_table);
         for number in READ_REFUSALS {
-            let count = self.met.get(number).unwrap_or(&0);
-            writeln!(text, "refusal {number} met by {count}").expect("a string takes all");
+            if let Some(count) = self.met.get(number) {
+                writeln!(text, "refusal {number} met by {count}").expect("a string takes all");
+            }
         }
         line(&mut text, "total", self.cases + self.one_row_short + self.just_enough + self.no_table);
         text

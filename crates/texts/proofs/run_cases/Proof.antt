@@ -1,43 +1,30 @@
--- `run_cases` is safe and ends: a case keeps the length of each buffer.
+-- `run_cases` is safe and ends.
 -- Assumes nothing.
 use Prim.Native.Nat.{_-_, _≤_}
-use mathlib.Core.Path.{_≡_}
-use lib.ListN.{length}
 use borrow.Author.Needs.{needs}
 use Rattle.texts.proofs.run_cases.Statement.{statement}
 use Rattle.texts.proofs.run_cases.Tie as tie
 
 abbrev Inv-loop : tie.InvT-loop
-Inv-loop src₀ expected₀ table₀ out₀ counts₀ k₀ src expected table out counts k =
-    (k ≤ 65536)
-    × (length src ≡ length src₀)
-    × (length expected ≡ length expected₀)
-    × (length table ≡ length table₀)
-    × (length out ≡ length out₀)
+Inv-loop counts₀ k₀ counts k = k ≤ 65536
 
 abbrev μ-loop : tie.MeasureT-loop
-μ-loop src₀ expected₀ table₀ out₀ counts₀ k₀ src expected table out counts k = 65536 - k
+μ-loop counts₀ k₀ counts k = 65536 - k
 
 loop-holds : tie.Need-loop-holds Inv-loop μ-loop
 loop-holds c = search needs
 
-run-case-requires : tie.Need-run-case-requires Inv-loop μ-loop
-run-case-requires c κs = search needs
-
-same-length : tie.Need-same-length Inv-loop μ-loop
-same-length c = search needs
-
-same-length-2 : tie.Need-same-length-2 Inv-loop μ-loop
-same-length-2 c = search needs
-
-same-length-3 : tie.Need-same-length-3 Inv-loop μ-loop
-same-length-3 c = search needs
-
-same-length-4 : tie.Need-same-length-4 Inv-loop μ-loop
-same-length-4 c = search needs
+read-number-requires : tie.Need-read-number-requires Inv-loop μ-loop
+read-number-requires c κs = search needs
 
 returns : tie.Need-returns Inv-loop μ-loop
 returns c = search needs
+
+run-case-requires : tie.Need-run-case-requires Inv-loop μ-loop
+run-case-requires c κs = search needs
+
+add-requires : tie.Need-add-requires Inv-loop μ-loop
+add-requires c κs = search needs
 
 add-k : tie.Need-add-k Inv-loop μ-loop
 add-k c = search needs
@@ -47,18 +34,6 @@ loop-less c = search needs
 
 loop-again : tie.Need-loop-again Inv-loop μ-loop
 loop-again c = search needs
-
-same-length-5 : tie.Need-same-length-5 Inv-loop μ-loop
-same-length-5 c = search needs
-
-same-length-6 : tie.Need-same-length-6 Inv-loop μ-loop
-same-length-6 c = search needs
-
-same-length-7 : tie.Need-same-length-7 Inv-loop μ-loop
-same-length-7 c = search needs
-
-same-length-8 : tie.Need-same-length-8 Inv-loop μ-loop
-same-length-8 c = search needs
 
 returns-2 : tie.Need-returns-2 Inv-loop μ-loop
 returns-2 c = search needs
@@ -70,17 +45,11 @@ run-cases-spec =
     Inv-loop
     μ-loop
     loop-holds
-    run-case-requires
-    same-length
-    same-length-2
-    same-length-3
-    same-length-4
+    read-number-requires
     returns
+    run-case-requires
+    add-requires
     add-k
     loop-less
     loop-again
-    same-length-5
-    same-length-6
-    same-length-7
-    same-length-8
     returns-2)

@@ -1,0 +1,49 @@
+-- `sources::put_times` is safe and ends: each turn keeps the length of the buffer.
+-- Assumes nothing.
+use Prim.Native.Nat.{_-_, _≤_}
+use mathlib.Core.Path.{_≡_}
+use lib.ListN.{length}
+use borrow.Author.Needs.{needs}
+use Rattle.limits.proofs.sources.put_times.Statement.{statement}
+use Rattle.limits.proofs.sources.put_times.Tie as tie
+
+abbrev Inv-loop : tie.InvT-loop
+Inv-loop src₀ at text times end₀ k₀ src end k = (k ≤ times) × (length src ≡ length src₀)
+
+abbrev μ-loop : tie.MeasureT-loop
+μ-loop src₀ at text times end₀ k₀ src end k = times - k
+
+loop-holds : tie.Need-loop-holds Inv-loop μ-loop
+loop-holds c = search needs
+
+put-requires : tie.Need-put-requires Inv-loop μ-loop
+put-requires c κs = search needs
+
+add-k : tie.Need-add-k Inv-loop μ-loop
+add-k c = search needs
+
+loop-less : tie.Need-loop-less Inv-loop μ-loop
+loop-less c = search needs
+
+loop-again : tie.Need-loop-again Inv-loop μ-loop
+loop-again c = search needs
+
+same-length : tie.Need-same-length Inv-loop μ-loop
+same-length c = search needs
+
+returns : tie.Need-returns Inv-loop μ-loop
+returns c = search needs
+
+pub put-times-spec : {M : Type 1} → statement M
+put-times-spec =
+    tie.close
+    (tie.spec
+    Inv-loop
+    μ-loop
+    loop-holds
+    put-requires
+    add-k
+    loop-less
+    loop-again
+    same-length
+    returns)

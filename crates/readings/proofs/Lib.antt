@@ -1,0 +1,2 @@
+-- The laws of unpacking.
+mod UnpackLaws

@@ -1,0 +1,53 @@
+-- `compare::is_answer` meets its contract: each of the four values is the same.
+-- Assumes nothing.
+use mathlib.Core.Path.{refl}
+use mathlib.Core.Bool.{and-eq-true-iff}
+use borrow.Author.Needs.{needs}
+use Rattle.specimen.proofs.compare.is_answer.Statement.{statement}
+use Rattle.specimen.proofs.compare.is_answer.Tie as tie
+
+slice-aggregate-is-same : tie.Need-slice-aggregate-is-same
+slice-aggregate-is-same c = search needs
+
+is-same-requires : tie.Need-is-same-requires
+is-same-requires c κs = search needs
+
+slice-aggregate-is-same-2 : tie.Need-slice-aggregate-is-same-2
+slice-aggregate-is-same-2 c = search needs
+
+is-same-requires-2 : tie.Need-is-same-requires-2
+is-same-requires-2 c κs = search needs
+
+slice-aggregate-is-same-3 : tie.Need-slice-aggregate-is-same-3
+slice-aggregate-is-same-3 c = search needs
+
+is-same-requires-3 : tie.Need-is-same-requires-3
+is-same-requires-3 c κs = search needs
+
+slice-aggregate-is-same-4 : tie.Need-slice-aggregate-is-same-4
+slice-aggregate-is-same-4 c = search needs
+
+is-same-requires-4 : tie.Need-is-same-requires-4
+is-same-requires-4 c κs = search needs
+
+returns : tie.Need-returns
+returns c =
+    λ e.
+    let three = and-eq-true-iff _ _ .0 e in
+    let two = and-eq-true-iff _ _ .0 (three .0) in
+    let one = and-eq-true-iff _ _ .0 (two .0) in
+    rw (c .before .before .before .before .before .before .is-same .ensures (one .0), c .before .before .before .before .is-same2 .ensures (one .1), c .before .before .is-same3 .ensures (two .1), c .is-same4 .ensures (three .1)) refl
+
+pub is-answer-spec : {M : Type 1} → statement M
+is-answer-spec =
+    tie.close
+    (tie.spec
+    slice-aggregate-is-same
+    is-same-requires
+    slice-aggregate-is-same-2
+    is-same-requires-2
+    slice-aggregate-is-same-3
+    is-same-requires-3
+    slice-aggregate-is-same-4
+    is-same-requires-4
+    returns)

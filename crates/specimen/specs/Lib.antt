@@ -1,0 +1,2 @@
+-- What the contracts of `specimen` cite.
+pub mod Agreement

@@ -9,7 +9,7 @@ mod tables;
 use list::PAIRS;
 use list::listed;
 use list::specimen_of;
-use specimen::NUMBERS;
+use rows::columns::ROW;
 use specimen::counts;
 use specimen::counts::Counts;
 use trials::tally::Tally;
@@ -18,6 +18,9 @@ ghost use Prim.Native.Nat.{_<_};
 
 // More bytes than the longest source that is made.
 const LONGEST: usize = 65538;
+
+// More numbers than the largest table that is made.
+const LARGEST: usize = 520 * ROW;
 
 // A pair's line.
 fn print_pair(pair: usize, agreed: Tally) {
@@ -33,7 +36,7 @@ fn print_pair(pair: usize, agreed: Tally) {
 // Makes and runs specimen k of the list, and counts it.
 fn run_made(k: usize, counts: Counts) -> Counts {
     let mut src = [0u8; LONGEST];
-    let mut cells = [0u64; NUMBERS];
+    let mut cells = [0u64; LARGEST];
     let m = listed(k);
     let n = sources::put_source(m.0, m.1, &mut src);
     tables::put_rows(m.0, m.1, &mut cells);

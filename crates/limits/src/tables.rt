@@ -10,7 +10,7 @@ use crate::sources::START;
 use rows::columns;
 use rows::columns::ROW;
 use rows::put_row;
-ghost use Prim.Native.Nat.{_≤_, _<_};
+ghost use Prim.Native.Nat.{_≤_};
 
 // Codes of document 01.
 const FORM_SET: u64 = 0x0E;

@@ -11,6 +11,7 @@ use trials::tally::sum;
 // The refusal numbers, and 0.
 const NUMBERS: usize = 13;
 
+// Of the group that is run, of all groups, and how many that agreed met each number.
 pub struct Counts {
     pub group: Tally,
     pub all: Ran,

@@ -1,5 +1,6 @@
 // How many cases agree, are resolved and are refused.
 use crate::Ran;
+use std::num::wrapping_sub_u64;
 use trials::tally::NONE;
 use trials::tally::Tally;
 use trials::tally::one;
@@ -7,17 +8,15 @@ use trials::tally::print_number;
 use trials::tally::print_text;
 use trials::tally::sum;
 
-// Of all cases: those that agree, those that are resolved, and those that are refused.
+// Of all cases, those that agree and those that are resolved; the others are refused.
 pub struct Counts {
     pub agreed: Tally,
     pub resolved: Tally,
-    pub refused: Tally,
 }
 
 pub const START: Counts = Counts {
     agreed: NONE,
     resolved: NONE,
-    refused: NONE,
 };
 
 fn print_difference(index: u64) {
@@ -33,12 +32,7 @@ pub fn add(counts: Counts, index: u64, ran: Ran) -> Counts {
     }
     let agreed = sum(counts.agreed, one(ran.agreed));
     let resolved = sum(counts.resolved, one(ran.resolved));
-    let refused = sum(counts.refused, one(!ran.resolved));
-    Counts {
-        agreed,
-        resolved,
-        refused,
-    }
+    Counts { agreed, resolved }
 }
 
 pub fn print_all(counts: Counts) {
@@ -48,6 +42,6 @@ pub fn print_all(counts: Counts) {
     print_text(b" agree\n");
     print_number(counts.resolved.agreed);
     print_text(b" resolved, ");
-    print_number(counts.refused.agreed);
+    print_number(wrapping_sub_u64(counts.resolved.all, counts.resolved.agreed));
     print_text(b" refused\n");
 }

@@ -7,6 +7,7 @@ pub const UNCLEARED_NUMBER: u64 = 0xA5A5A5A5A5A5A5A5;
 
 pub const UNCLEARED_BYTE: u8 = 0xA5;
 
+// Sets all numbers to a value.
 pub fn fill_numbers(numbers: &mut [u64], value: u64)
     ensures { λ _. ⌜ now (numbers .exit) ≡ replicate (length (now (numbers .entry))) value ⌝ }
 {
@@ -15,6 +16,7 @@ pub fn fill_numbers(numbers: &mut [u64], value: u64)
     }
 }
 
+// Sets all bytes to a value.
 pub fn fill_bytes(bytes: &mut [u8], value: u8)
     ensures { λ _. ⌜ now (bytes .exit) ≡ replicate (length (now (bytes .entry))) value ⌝ }
 {

@@ -11,9 +11,10 @@ const NUMBER: usize = 4;
 // The number where the input ends, or stops within a number.
 pub const END: u64 = 0xFFFFFFFF;
 
-// What a value is reduced to before a byte is put behind it.
+// 2^56: a number below it has room for one more byte.
 const TOP: u64 = 72057594037927936;
 
+// A byte as a number.
 pub fn wide(b: u8) -> u64
     ensures { λ r. ⌜ (r ≡ b) × (r < 256) ⌝ }
 {
@@ -31,7 +32,7 @@ pub fn value(bytes: &[u8]) -> u64
     n
 }
 
-// The next number of the input.
+// The next number of the input, or END.
 pub fn read_number() -> u64 {
     let mut bytes = [0u8; NUMBER];
     let n = io::read_full(STDIN_FILENO, &mut bytes);

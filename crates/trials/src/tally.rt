@@ -5,6 +5,7 @@ ghost use mathlib.Core.Path.{_≡_};
 ghost use mathlib.Core.Bool.{cond};
 ghost use Prim.Native.Nat.{_+_, _%_, _^_};
 
+// How many agreed, and how many there are.
 pub struct Tally {
     pub agreed: u64,
     pub all: u64,
@@ -12,6 +13,7 @@ pub struct Tally {
 
 pub const NONE: Tally = Tally { agreed: 0, all: 0 };
 
+// The tally of one, which agreed or not.
 pub fn one(agreed: bool) -> Tally
     ensures { λ r. ⌜ (r .agreed ≡ cond agreed 1 0) × (r .all ≡ 1) ⌝ }
 {

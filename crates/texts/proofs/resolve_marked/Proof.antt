@@ -22,7 +22,11 @@ same-length-2 : tie.Need-same-length-2
 same-length-2 c = search needs
 
 returns : tie.Need-returns
-returns c = (c .before .before .before .before .resolve .ensures .0 ∙ resolution-as (c .before .before .before .before .before .before .before .before .before .before .before .before .before .before .before .before .before .before .args .src .now) (search needs) (search needs), c .before .before .before .before .resolve .ensures .1 .1 ∙ output-as (c .before .before .before .before .before .before .before .before .before .before .before .before .before .before .before .before .before .before .args .src .now) (search needs) (search needs))
+returns c =
+    let far = c .before .before .before .before .before .before .before .before .before .before in
+    let s = far .before .before .before .before .before .before .before .before .args .src .now in
+    let r = c .before .before .before .before .resolve .ensures in
+    (r .0 ∙ resolution-as s (search needs) (search needs), r .1 .1 ∙ output-as s (search needs) (search needs))
 
 pub resolve-marked-spec : {M : Type 1} → statement M
 resolve-marked-spec =

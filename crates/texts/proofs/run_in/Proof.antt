@@ -20,7 +20,9 @@ same-length-2 : tie.Need-same-length-2
 same-length-2 c = search needs
 
 returns : tie.Need-returns
-returns c = λ e. record { answer = c .before .before .before .before .before .before .before .before .resolve-marked .result; is = c .before .before .before .before .before .before .before .before .resolve-marked .ensures .0; agrees = rw (← c .before .before .before .before .before .before .before .before .resolve-marked .ensures .1) (c .before .agrees .ensures e) }
+returns c e =
+    let r = c .before .before .before .before .before .before .before .before .resolve-marked in
+    record { answer = r .result; is = r .ensures .0; agrees = rw (← r .ensures .1) (c .before .agrees .ensures e) }
 
 pub run-in-spec : {M : Type 1} → statement M
 run-in-spec =

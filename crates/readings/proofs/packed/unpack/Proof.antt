@@ -11,7 +11,8 @@ use Rattle.readings.proofs.packed.unpack.Statement.{statement}
 use Rattle.readings.proofs.packed.unpack.Tie as tie
 
 abbrev Inv-loop : tie.InvT-loop
-Inv-loop packed cells₀ at₀ k₀ k-end cells at k = (at ≤ length packed) × (k ≤ k-end) × (length cells ≡ length cells₀) × (left packed cells at k ≡ unpacked packed cells₀)
+Inv-loop packed cells₀ at₀ k₀ k-end cells at k =
+    (at ≤ length packed) × (k ≤ k-end) × (length cells ≡ length cells₀) × (left packed cells at k ≡ unpacked packed cells₀)
 
 abbrev μ-loop : tie.MeasureT-loop
 μ-loop packed cells₀ at₀ k₀ k-end cells at k = k-end - k
@@ -23,7 +24,10 @@ same-length : tie.Need-same-length Inv-loop μ-loop
 same-length c = search needs
 
 returns : tie.Need-returns Inv-loop μ-loop
-returns c = sym (left-nothing (c .before .before .before .before .before .args .packed .now) (c .before .before .loop .cells) (c .before .before .loop .at) (c .before .before .loop .k) (omega arith)) ∙ c .before .before .loop .inv .3
+returns c =
+    let p = c .before .before .before .before .before .args .packed .now in
+    let l = c .before .before .loop in
+    sym (left-nothing p (l .cells) (l .at) (l .k) (omega arith)) ∙ l .inv .3
 
 shared-slice-read-wide : tie.Need-shared-slice-read-wide Inv-loop μ-loop
 shared-slice-read-wide c = search needs
@@ -42,8 +46,10 @@ same-length-2 c = search needs
 
 returns-2 : tie.Need-returns-2 Inv-loop μ-loop
 returns-2 c =
+    let p = c .before .before .before .before .before .before .before .before .args .packed .now in
     let l = c .before .before .before .before .before .loop in
-    sym (left-short (c .before .before .before .before .before .before .before .before .args .packed .now) (l .cells) (l .at) (l .k) (c .before .wide .result) (omega arith) (sym (c .before .wide .ensures .0)) (omega arith)) ∙ l .inv .3
+    let w = c .before .wide in
+    sym (left-short p (l .cells) (l .at) (l .k) (w .result) (omega arith) (sym (w .ensures .0)) (omega arith)) ∙ l .inv .3
 
 add-end : tie.Need-add-end Inv-loop μ-loop
 add-end c = search needs
@@ -74,20 +80,23 @@ loop-less c = search needs
 
 loop-again : tie.Need-loop-again Inv-loop μ-loop
 loop-again c =
+    let far = c .before .before .before .before .before .before .before .before .before .before in
+    let p = far .args .packed .now in
     let l = c .before .before .before .before .before .before .before .loop in
-    let size = c .before .before .before .wide .result in
-    let same : l .at + 1 + size - (l .at + 1) ≡ size = omega arith in (
-      omega arith,
-      omega arith,
-      simp length-set (l .inv .2),
-      left-next (c .before .before .before .before .before .before .before .before .before .before .args .packed .now) (l .cells) (l .at) (l .k) (c .before .before .before .wide .result) (omega arith) (sym (c .before .before .before .wide .ensures .0)) (c .value .result) (omega arith) (omega arith) (rw same at (c .value .ensures)) ∙ l .inv .3,
-    )
+    let w = c .before .before .before .wide in
+    let same : l .at + 1 + w .result - (l .at + 1) ≡ w .result = omega arith in
+    let is-value = rw same at (c .value .ensures) in
+    let next = left-next p (l .cells) (l .at) (l .k) (w .result) (omega arith) (sym (w .ensures .0)) (c .value .result) (omega arith) (omega arith) is-value in
+    (omega arith, omega arith, simp length-set (l .inv .2), next ∙ l .inv .3)
 
 same-length-3 : tie.Need-same-length-3 Inv-loop μ-loop
 same-length-3 c = search needs
 
 returns-3 : tie.Need-returns-3 Inv-loop μ-loop
-returns-3 c = sym (left-full (c .before .before .before .before .args .packed .now) (c .before .loop .cells) (c .before .loop .at) (c .before .loop .k) (omega arith)) ∙ c .before .loop .inv .3
+returns-3 c =
+    let p = c .before .before .before .before .args .packed .now in
+    let l = c .before .loop in
+    sym (left-full p (l .cells) (l .at) (l .k) (omega arith)) ∙ l .inv .3
 
 pub unpack-spec : {M : Type 1} → statement M
 unpack-spec =

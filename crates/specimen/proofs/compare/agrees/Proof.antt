@@ -16,7 +16,7 @@ is-read-in-requires : tie.Need-is-read-in-requires
 is-read-in-requires c κs = search needs
 
 returns : tie.Need-returns
-returns c = λ e. agrees-as refl (c .before .before .before .expected-cells .ensures) (c .before .is-read-in .ensures e)
+returns c e = agrees-as refl (c .before .before .before .expected-cells .ensures) (c .before .is-read-in .ensures e)
 
 pub agrees-spec : {M : Type 1} → statement M
 agrees-spec =

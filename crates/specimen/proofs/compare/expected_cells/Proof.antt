@@ -1,11 +1,12 @@
 -- `compare::expected_cells` meets its contract: where there are fewer cells than the rows have, it is all of them.
 -- Assumes nothing.
-use mathlib.Core.Path.{refl, sym, _∙_}
 use Prim.Native.Nat.{_*_}
+use mathlib.Core.Path.{refl}
 use native.Mathlib.Nat.{sub-zero}
 use native.Mathlib.Omega.{arith}
 use borrow.Author.Tests.{eq-eqb, ne-eqb}
 use lib.Seq.{take-all}
+use Rattle.rows.specs.Columns.{ROW}
 use borrow.Author.Needs.{needs}
 use Rattle.specimen.proofs.compare.expected_cells.Statement.{statement}
 use Rattle.specimen.proofs.compare.expected_cells.Tie as tie
@@ -23,7 +24,9 @@ returns : tie.Need-returns
 returns c = rw (ne-eqb _ _ (c .before .if1 .taken)) refl
 
 returns-2 : tie.Need-returns-2
-returns-2 c = rw (eq-eqb _ _ (c .before .if1 .left), take-all (c .before .before .before .args .expected .rows * 12) (c .before .before .before .args .cells .now) (omega arith)) refl
+returns-2 c =
+    let a = c .before .before .before .args in
+    rw (eq-eqb _ _ (c .before .if1 .left), take-all (a .expected .rows * ROW) (a .cells .now) (omega arith)) refl
 
 mul-n : tie.Need-mul-n
 mul-n c = search needs

@@ -31,12 +31,13 @@ is-same-requires-4 : tie.Need-is-same-requires-4
 is-same-requires-4 c κs = search needs
 
 returns : tie.Need-returns
-returns c =
-    λ e.
+returns c e =
     let three = and-eq-true-iff _ _ .0 e in
     let two = and-eq-true-iff _ _ .0 (three .0) in
     let one = and-eq-true-iff _ _ .0 (two .0) in
-    rw (c .before .before .before .before .before .before .is-same .ensures (one .0), c .before .before .before .before .is-same2 .ensures (one .1), c .before .before .is-same3 .ensures (two .1), c .is-same4 .ensures (three .1)) refl
+    let number = c .before .before .before .before .before .before .is-same .ensures (one .0) in
+    let place = c .before .before .before .before .is-same2 .ensures (one .1) in
+    rw (number, place, c .before .before .is-same3 .ensures (two .1), c .is-same4 .ensures (three .1)) refl
 
 pub is-answer-spec : {M : Type 1} → statement M
 is-answer-spec =

@@ -18,7 +18,7 @@ is-same-requires : tie.Need-is-same-requires
 is-same-requires c κs = search needs
 
 returns : tie.Need-returns
-returns c = λ e. sym (c .before .before .quick-check .ensures) ∙ c .is-same .ensures e ∙ c .before .quick .ensures
+returns c e = sym (c .before .before .quick-check .ensures) ∙ c .is-same .ensures e ∙ c .before .quick .ensures
 
 pub is-quick-spec : {M : Type 1} → statement M
 is-quick-spec =

@@ -1,9 +1,7 @@
 -- `compare::is_read` meets its contract: what reading answers and leaves in the table is what its definitions say.
 -- Assumes nothing.
-use mathlib.Core.Path.{_≡_}
 use mathlib.Core.Bool.{and-eq-true-iff}
-use native.Mathlib.Omega.{arith}
-use lib.ListN.{length, length-replicate}
+use lib.ListN.{length}
 use Rattle.specimen.proofs.AgreementLaws.{agreement}
 use borrow.Author.Needs.{needs}
 use Rattle.specimen.proofs.compare.is_read.Statement.{statement}
@@ -31,12 +29,15 @@ same-length : tie.Need-same-length
 same-length c = search needs
 
 returns : tie.Need-returns
-returns c =
-    λ e.
+returns c e =
+    let far = c .before .before .before .before .before .before .before .before .before .before in
     let two = and-eq-true-iff _ _ .0 e in
     let one = and-eq-true-iff _ _ .0 (two .0) in
-    agreement (length (c .before .before .before .before .before .before .before .before .before .before .before .before .before .before .before .before .args .table .now)) (search needs) (search needs) (c .before .before .before .before .before .before .before .read .ensures .0) (c .before .before .before .before .before .before .before .read .ensures .1) (c .before .before .before .before .values .ensures)
-    (c .before .before .before .is-answer .ensures (one .0)) (c .before .is-table .ensures (one .1)) (c .is-quick .ensures (two .1))
+    let lent = length (far .before .before .before .before .before .before .args .table .now) in
+    let r = c .before .before .before .before .before .before .before .read .ensures in
+    let values = c .before .before .before .before .values .ensures in
+    let same = c .before .before .before .is-answer .ensures (one .0) in
+    agreement lent (search needs) (search needs) (r .0) (r .1) values same (c .before .is-table .ensures (one .1)) (c .is-quick .ensures (two .1))
 
 pub is-read-spec : {M : Type 1} → statement M
 is-read-spec =

@@ -8,7 +8,7 @@ use Rattle.specimen.proofs.compare.is_read_in.Statement.{statement}
 use Rattle.specimen.proofs.compare.is_read_in.Tie as tie
 
 returns : tie.Need-returns
-returns c = λ e. absurd (false≢true e)
+returns c e = absurd (false≢true e)
 
 sub-is-read : tie.Need-sub-is-read
 sub-is-read c = search needs
@@ -26,7 +26,7 @@ same-length : tie.Need-same-length
 same-length c = search needs
 
 returns-2 : tie.Need-returns-2
-returns-2 c = λ e. agrees-as (search needs) refl (c .before .before .is-read .ensures e)
+returns-2 c e = agrees-as (search needs) refl (c .before .before .is-read .ensures e)
 
 pub is-read-in-spec : {M : Type 1} → statement M
 is-read-in-spec =

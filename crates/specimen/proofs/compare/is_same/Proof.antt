@@ -18,7 +18,7 @@ print-values-requires : tie.Need-print-values-requires
 print-values-requires c κs = search needs
 
 returns-2 : tie.Need-returns-2
-returns-2 c = λ e. absurd (false≢true e)
+returns-2 c e = absurd (false≢true e)
 
 pub is-same-spec : {M : Type 1} → statement M
 is-same-spec =

@@ -14,7 +14,7 @@ is-same-requires : tie.Need-is-same-requires
 is-same-requires c κs = search needs
 
 returns : tie.Need-returns
-returns c = λ e. absurd (omega (arith, c .is-same .ensures e))
+returns c e = absurd (omega (arith, c .is-same .ensures e))
 
 first-number-requires : tie.Need-first-number-requires
 first-number-requires c κs = search needs
@@ -32,10 +32,13 @@ print-cell-requires : tie.Need-print-cell-requires
 print-cell-requires c κs = search needs
 
 returns-2 : tie.Need-returns-2
-returns-2 c = λ e. absurd (false≢true e)
+returns-2 c e = absurd (false≢true e)
 
 returns-3 : tie.Need-returns-3
-returns-3 c = λ e. no-difference (c .before .before .before .before .before .args .table .now) (c .before .before .before .before .before .args .cells .now) (c .before .first-number .result) (c .before .first-number .ensures) (omega arith) (omega arith)
+returns-3 c e =
+    let a = c .before .before .before .before .before .args in
+    let f = c .before .first-number in
+    no-difference (a .table .now) (a .cells .now) (f .result) (f .ensures) (omega arith) (omega arith)
 
 pub is-table-spec : {M : Type 1} → statement M
 is-table-spec =

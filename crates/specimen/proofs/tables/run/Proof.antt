@@ -1,4 +1,4 @@
--- `tables::run` meets its contract.
+-- `tables::run` meets its contract: what counts as one that agreed did agree.
 -- Assumes nothing.
 use Rattle.specimen.proofs.AgreementLaws.{one-agreed}
 use borrow.Author.Needs.{needs}
@@ -24,7 +24,10 @@ run-bare-requires : tie.Need-run-bare-requires
 run-bare-requires c κs = search needs
 
 returns : tie.Need-returns
-returns c = λ h. c .before .before .before .before .agrees .ensures (one-agreed (c .before .before .before .before .agrees .result) (c .before .before .before .one .result .agreed) (c .before .before .before .one .ensures .0) h)
+returns c h =
+    let a = c .before .before .before .before .agrees in
+    let o = c .before .before .before .one in
+    a .ensures (one-agreed (a .result) (o .result .agreed) (o .ensures .0) h)
 
 pub run-spec : {M : Type 1} → statement M
 run-spec =

@@ -29,16 +29,16 @@ is-refusal-requires-3 : tie.Need-is-refusal-requires-3
 is-refusal-requires-3 c κs = search needs
 
 returns : tie.Need-returns
-returns c = λ e. rw (c .before .before .answer .given .1) (c .is-text .ensures e)
+returns c e = rw (c .before .before .answer .given .1) (c .is-text .ensures e)
 
 returns-2 : tie.Need-returns-2
-returns-2 c = λ e. rw (c .before .before .answer2 .given .1) (c .is-refusal .ensures e)
+returns-2 c e = rw (c .before .before .answer2 .given .1) (c .is-refusal .ensures e)
 
 returns-3 : tie.Need-returns-3
-returns-3 c = λ e. rw (c .before .before .answer3 .given .1) (c .is-refusal2 .ensures e)
+returns-3 c e = rw (c .before .before .answer3 .given .1) (c .is-refusal2 .ensures e)
 
 returns-4 : tie.Need-returns-4
-returns-4 c = λ e. rw (c .before .before .answer4 .given .1) (c .is-refusal3 .ensures e)
+returns-4 c e = rw (c .before .before .answer4 .given .1) (c .is-refusal3 .ensures e)
 
 pub agrees-spec : {M : Type 1} → statement M
 agrees-spec =

@@ -24,7 +24,7 @@ same-requires : tie.Need-same-requires
 same-requires c κs = search needs
 
 returns : tie.Need-returns
-returns c = λ e. rw (← c .same .ensures .0 e, sub-zero) (c .before .before .before .before .put-refusal .ensures .1 (search needs))
+returns c e = rw (← c .same .ensures .0 e, sub-zero) (c .before .before .before .before .put-refusal .ensures .1 (search needs))
 
 pub is-line-spec : {M : Type 1} → statement M
 is-line-spec =

@@ -12,7 +12,7 @@ is-cleared-requires : tie.Need-is-cleared-requires
 is-cleared-requires c κs = search needs
 
 returns : tie.Need-returns
-returns c = λ e. c .before .is-line .ensures (and-eq-true-iff _ _ .0 e .0)
+returns c e = c .before .is-line .ensures (and-eq-true-iff _ _ .0 e .0)
 
 pub is-refusal-spec : {M : Type 1} → statement M
 is-refusal-spec = tie.close (tie.spec is-line-requires is-cleared-requires returns)

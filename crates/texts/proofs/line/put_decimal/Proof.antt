@@ -25,7 +25,12 @@ returns : tie.Need-returns
 returns c =
     let d = c .before .before .before .before .before .decimal in
     let few = few-digits (c .before .before .before .before .before .before .before .before .args .n) (d .result) (omega arith) (d .ensures .1 .0) in
-    record { text = _; decimal = record { many = d .result; fewest = d .ensures .1 .0; is = d .ensures .1 .1 }; few = omega arith; puts = c .before .before .put .ensures }
+    record {
+      text = _;
+      decimal = record { many = d .result; fewest = d .ensures .1 .0; is = d .ensures .1 .1 };
+      few = omega arith;
+      puts = c .before .before .put .ensures;
+    }
 
 pub put-decimal-spec : {M : Type 1} → statement M
 put-decimal-spec =

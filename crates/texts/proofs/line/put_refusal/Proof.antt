@@ -33,7 +33,14 @@ same-length : tie.Need-same-length
 same-length c = search needs
 
 returns : tie.Need-returns
-returns c = (search needs, λ h. line-put h (search needs) (search needs) (search needs) (search needs) (c .before .before .before .before .before .before .before .before .before .before .before .before .before .before .before .before .before .before .before .before .put .ensures) (c .before .before .before .before .before .before .before .before .before .before .before .before .before .before .before .before .put-decimal .ensures) (c .before .before .before .before .before .before .before .before .before .before .before .put2 .ensures) (c .before .before .before .before .before .before .before .put-decimal2 .ensures) (c .before .before .put3 .ensures))
+returns c =
+    let far = c .before .before .before .before .before .before .before .before .before .before in
+    let word = far .before .before .before .before .before .before .before .before .before .before .put .ensures in
+    let number = far .before .before .before .before .before .before .put-decimal .ensures in
+    let preposition = far .before .put2 .ensures in
+    let place = c .before .before .before .before .before .before .before .put-decimal2 .ensures in
+    let end = c .before .before .put3 .ensures in
+    (search needs, λ h. line-put h (search needs) (search needs) (search needs) (search needs) word number preposition place end)
 
 pub put-refusal-spec : {M : Type 1} → statement M
 put-refusal-spec =

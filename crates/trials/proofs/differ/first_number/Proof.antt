@@ -27,7 +27,9 @@ number-at-requires : tie.Need-number-at-requires Inv-loop μ-loop
 number-at-requires c κs = search needs
 
 returns : tie.Need-returns Inv-loop μ-loop
-returns c = record { within = omega arith; same = c .before .before .before .before .loop .inv; apart = λ h e. c .if1 .taken (e ∙ sym (c .before .number-at .ensures)) }
+returns c =
+    let l = c .before .before .before .before .loop in
+    record { within = omega arith; same = l .inv; apart = λ h e. c .if1 .taken (e ∙ sym (c .before .number-at .ensures)) }
 
 add-k : tie.Need-add-k Inv-loop μ-loop
 add-k c = search needs
@@ -38,8 +40,8 @@ loop-less c = search needs
 loop-again : tie.Need-loop-again Inv-loop μ-loop
 loop-again c =
     let a = c .before .before .before .before .before .before .before .args in
-    same-next (a .table .now) (a .expected .now) (c .before .before .before .before .loop .k) (c .before .before .before .before .loop .inv)
-    (c .if1 .left ∙ c .before .number-at .ensures)
+    let l = c .before .before .before .before .loop in
+    same-next (a .table .now) (a .expected .now) (l .k) (l .inv) (c .if1 .left ∙ c .before .number-at .ensures)
 
 returns-2 : tie.Need-returns-2 Inv-loop μ-loop
 returns-2 c = record { within = omega arith; same = λ i h. c .before .loop .inv i (omega arith); apart = λ h. absurd (omega arith) }

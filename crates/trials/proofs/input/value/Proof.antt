@@ -1,9 +1,9 @@
 -- `input::value` meets its contract: a remainder by 2^56 leaves room for a byte, and loses nothing of the low 64 bits.
 -- Assumes nothing.
 use Prim.Native.Nat.{_+_, _-_, _≤_, _%_}
-use mathlib.Core.Path.{_≡_, refl, sym, _∙_}
+use mathlib.Core.Path.{_≡_, refl, _∙_}
 use native.Mathlib.Omega.{arith}
-use lib.ListN.{length, take, getD}
+use lib.ListN.{take}
 use lib.Seq.{take-all}
 use Rattle.trials.specs.Values.{valueAfter, bigEndian}
 use Rattle.trials.proofs.ValueLaws.{value-next, low-next}

@@ -47,7 +47,8 @@ loop-again : tie.Need-loop-again Inv-loop μ-loop
 loop-again c =
     let a = c .before .before .before .before .before .args in
     let l = c .before .before .loop in
-    (omega arith, simp length-set (l .inv .1), rw (l .inv .2, add-one, paste-suc (a .out .now) (a .at) (a .text .now) (l .k) 0 (omega arith) (omega arith)) refl)
+    let next = paste-suc (a .out .now) (a .at) (a .text .now) (l .k) 0 (omega arith) (omega arith) in
+    (omega arith, simp length-set (l .inv .1), rw (l .inv .2, add-one, next) refl)
 
 add-result : tie.Need-add-result Inv-loop μ-loop
 add-result c = search needs

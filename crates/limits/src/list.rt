@@ -35,6 +35,7 @@ pub fn listed(k: usize) -> Made
     ensures { λ r. ⌜ (r .1 ≤ 100000) × (r .2 ≤ 1000) ⌝ }
 {
     match k {
+        // kind, size, rows lent; number, place, row count, free count
         0 => Made(PARENTHESES, 32, 8, 0, 0, 4, FREE),
         1 => Made(PARENTHESES, 33, 8, 4, PARENTHESIS_33, 0, 0),
         2 => Made(CONDITIONS, 16, 64, 0, 0, 34, FREE),

@@ -39,57 +39,35 @@ struct Statement {
     number: u64,
 }
 
-// A rule whose number stands in so many parentheses.
-fn rule_with(depth: u64) -> Statement
-    requires { ⌜ depth ≤ 100000 ⌝ }
-{
-    Statement {
-        code: RULE_CODE,
-        parent: 1,
-        own: 1,
-        place: START,
-        name: START + 6,
-        number: START + RULE_OPENING + depth,
-    }
-}
-
-// Condition k, which stands in the one before.
-fn condition(k: u64) -> Statement
-    requires { ⌜ k ≤ 100000 ⌝ }
-{
-    let place = START + CONDITION * k;
-    Statement {
-        code: SUPPRESSIF,
-        parent: if k == 0 { 1 } else { 2 * k },
-        own: 0,
-        place,
-        name: 0,
-        number: place + 11,
-    }
-}
-
-fn rule(k: u64) -> Statement
-    requires { ⌜ k ≤ 100000 ⌝ }
-{
-    let place = START + RULE * k;
-    Statement {
-        code: RULE_CODE,
-        parent: 1,
-        own: k + 1,
-        place,
-        name: place + 6,
-        number: place + 10,
-    }
-}
-
-// Statement k of a source.
-fn statement_of(kind: u64, size: usize, k: usize) -> Statement
+// Statement k of a source: a rule whose number stands in parentheses, a condition in the one before, or a rule.
+fn statement_of(kind: u64, size: u64, k: u64) -> Statement
     requires { ⌜ (size ≤ 100000) × (k ≤ 100000) ⌝ }
 {
     match kind {
-        PARENTHESES => rule_with(size as u64),
-        CONDITIONS => condition(k as u64),
-        _ => rule(k as u64),
+        PARENTHESES => Statement {
+            code: RULE_CODE,
+            parent: 1,
+            own: 1,
+            place: START,
+            name: START + 6,
+            number: START + RULE_OPENING + size,
+        },
+        CONDITIONS => Statement {
+            code: SUPPRESSIF,
+            parent: if k == 0 { 1 } else { 2 * k },
+            own: 0,
+            place: START + CONDITION * k,
+            name: 0,
+            number: START + CONDITION * k + 11,
+        },
+        _ => Statement {
+            code: RULE_CODE,
+            parent: 1,
+            own: k + 1,
+            place: START + RULE * k,
+            name: START + RULE * k + 6,
+            number: START + RULE * k + 10,
+        },
     }
 }
 
@@ -122,7 +100,11 @@ fn put_frame(cells: &mut [u64]) {
     put_row(cells, 1, form);
 }
 
-fn put_statement(cells: &mut [u64], at: usize, s: Statement) {
+// Writes the rows of a statement that has so many before it, and of its number.
+fn put_statement(cells: &mut [u64], k: usize, s: Statement)
+    requires { ⌜ k ≤ 100000 ⌝ }
+{
+    let at = 2 + 2 * k;
     let mut row = [0u64; ROW];
     row[columns::CODE] = s.code;
     row[columns::PARENT] = s.parent;
@@ -130,24 +112,12 @@ fn put_statement(cells: &mut [u64], at: usize, s: Statement) {
     row[columns::NAME] = s.name;
     row[columns::PLACE] = s.place;
     put_row(cells, at, row);
-}
-
-// The number 1 in the statement of a row.
-fn put_number(cells: &mut [u64], at: usize, statement: usize, place: u64) {
-    let mut row = [0u64; ROW];
-    row[columns::CODE] = NUMBER;
-    row[columns::PARENT] = statement as u64;
-    row[columns::A] = 1;
-    row[columns::PLACE] = place;
-    put_row(cells, at, row);
-}
-
-fn put_both(cells: &mut [u64], k: usize, s: Statement)
-    requires { ⌜ k ≤ 100000 ⌝ }
-{
-    let at = 2 + 2 * k;
-    put_statement(cells, at, s);
-    put_number(cells, at + 1, at, s.number);
+    let mut number = [0u64; ROW];
+    number[columns::CODE] = NUMBER;
+    number[columns::PARENT] = at as u64;
+    number[columns::A] = 1;
+    number[columns::PLACE] = s.number;
+    put_row(cells, at + 1, number);
 }
 
 // Writes the rows of a source.
@@ -156,6 +126,6 @@ pub fn put_rows(kind: u64, size: usize, cells: &mut [u64])
 {
     put_frame(cells);
     for k in 0..count(kind, size) {
-        put_both(cells, k, statement_of(kind, size, k));
+        put_statement(cells, k, statement_of(kind, size as u64, k as u64));
     }
 }

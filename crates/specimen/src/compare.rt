@@ -128,7 +128,12 @@ fn is_table(s: Specimen, table: &[u64], cells: &[u64]) -> bool
     ensures { λ r. ⌜ (r ≡ true → now (table .entry) ≡ padded (now (cells .entry)) (length (now (table .entry)))) ⌝ }
 {
     if table.len() < cells.len() {
-        return is_same(s, b"numbers lent", table.len() as u64, cells.len() as u64);
+        return is_same(
+            s,
+            b"numbers of the table",
+            table.len() as u64,
+            cells.len() as u64,
+        );
     }
     let k = first_number(table, cells);
     if k < table.len() {
@@ -157,13 +162,13 @@ fn is_read(s: Specimen, src: &[u8], table: &mut [u64], cells: &[u64]) -> bool
     is_told & is_laid & is_checked
 }
 
-// The same, with so many numbers of the space for the table.
+// The same, with as many numbers of the space for the table as are to be lent.
 fn is_read_in(s: Specimen, src: &[u8], space: &mut [u64], cells: &[u64]) -> bool
     ensures { λ r. ⌜ (r ≡ true → Agrees (now (src .entry)) (s .lent) (s .expected) (now (cells .entry))) ⌝ }
 {
     let n = s.lent;
     if space.len() < n {
-        return false;
+        return is_same(s, b"numbers to lend", space.len() as u64, n as u64);
     }
     is_read(s, src, &mut space[0..n], cells)
 }

@@ -25,8 +25,8 @@ loop-holds c = search needs
 statement-of-requires : tie.Need-statement-of-requires Inv-loop μ-loop
 statement-of-requires c κs = search needs
 
-put-both-requires : tie.Need-put-both-requires Inv-loop μ-loop
-put-both-requires c κs = search needs
+put-statement-requires : tie.Need-put-statement-requires Inv-loop μ-loop
+put-statement-requires c κs = search needs
 
 add-k : tie.Need-add-k Inv-loop μ-loop
 add-k c = search needs
@@ -53,7 +53,7 @@ put-rows-spec =
     count-requires
     loop-holds
     statement-of-requires
-    put-both-requires
+    put-statement-requires
     add-k
     loop-less
     loop-again

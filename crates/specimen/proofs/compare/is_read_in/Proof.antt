@@ -1,14 +1,20 @@
 -- `compare::is_read_in` meets its contract: the part that is lent has as many numbers.
 -- Assumes nothing.
 use mathlib.Core.Path.{refl}
-use mathlib.Core.Bool.{false≢true}
+use native.Mathlib.Omega.{arith}
 use Rattle.specimen.proofs.AgreementLaws.{agrees-as}
 use borrow.Author.Needs.{needs}
 use Rattle.specimen.proofs.compare.is_read_in.Statement.{statement}
 use Rattle.specimen.proofs.compare.is_read_in.Tie as tie
 
+slice-aggregate-is-same : tie.Need-slice-aggregate-is-same
+slice-aggregate-is-same c = search needs
+
+is-same-requires : tie.Need-is-same-requires
+is-same-requires c κs = search needs
+
 returns : tie.Need-returns
-returns c e = absurd (false≢true e)
+returns c e = absurd (omega (arith, c .is-same .ensures e))
 
 sub-is-read : tie.Need-sub-is-read
 sub-is-read c = search needs
@@ -32,6 +38,8 @@ pub is-read-in-spec : {M : Type 1} → statement M
 is-read-in-spec =
     tie.close
     (tie.spec
+    slice-aggregate-is-same
+    is-same-requires
     returns
     sub-is-read
     part-is-read-start

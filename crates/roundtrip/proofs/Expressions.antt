@@ -6,11 +6,12 @@ use mathlib.Core.Bool.{Bool, true, false, _||_}
 use Prim.Native.Nat.{ℕ, _-_}
 use native.Mathlib.Omega.{arith}
 use lib.Dec.{eqb}
-use lib.ListN.{getD, take, drop}
+use lib.ListN.{getD, drop}
 use Rattle.lexemes.specs.Words as words
 use Rattle.rows.specs.Codes as code
 use Rattle.rows.specs.Codes.{member, questions, isQuestion}
 use Rattle.rows.specs.Columns as column
+use Rattle.rows.specs.Cells.{withoutPlaces}
 use Rattle.ll1.proofs.Basics.{clash}
 use Rattle.grammar.specs.Source.{numberAt}
 use Rattle.answers.specs.Expression.{Operator, or, and, bit-or, bit-and, equal, not-equal, less, less-equal, greater, greater-equal, shift-left, shift-right, add, subtract, multiply, divide, modulo, operatorCode}
@@ -89,8 +90,8 @@ module _ (t : List ℕ) (look : ℕ → List ℕ) (source : ℕ → ℕ) (at : �
       let e : look p ≡ columns k at 0 0 0 0 (s .a) 0 0 0 0 p = s .is-row ∙ (λ j. columns k at (s .own-same (d .asks-not) j) 0 0 0 (s .a) 0 0 0 0 p) in
       let n : final t (operand N at k a′ p′ 0) ≡ columns k at 0 0 0 0 a′ 0 0 0 0 p′ = rw (d .no-rule-ref) in
       record {
-        twelve = refl;
-        same = ap (take 10) n ∙ (λ j. take 10 (columns k at 0 0 0 0 (h j) 0 0 0 0 0)) ∙ subst (λ r. take 10 (columns k at 0 0 0 0 (getD r column.A 0) 0 0 0 0 0) ≡ take 10 r) (sym e) refl;
+        whole = refl;
+        same = ap withoutPlaces n ∙ (λ j. withoutPlaces (columns k at 0 0 0 0 (h j) 0 0 0 0 0)) ∙ subst (λ r. withoutPlaces (columns k at 0 0 0 0 (getD r column.A 0) 0 0 0 0 0) ≡ withoutPlaces r) (sym e) refl;
         code-same = refl;
         default = refl;
         question = false-true (isQuestion k) (d .asks-not);
@@ -109,8 +110,8 @@ module _ (t : List ℕ) (look : ℕ → List ℕ) (source : ℕ → ℕ) (at : �
   question-match a p q′ p′ q s h =
       let e : look p ≡ columns code.QUESTION-REF at 0 0 0 0 (s .a) 0 0 0 0 p = s .is-row ∙ (λ j. columns code.QUESTION-REF at (s .own-same refl j) 0 0 0 (s .a) 0 0 0 0 p) in
       record {
-        twelve = refl;
-        same = (λ j. take 10 (columns code.QUESTION-REF at 0 0 0 0 (h j) 0 0 0 0 0)) ∙ subst (λ r. take 10 (columns code.QUESTION-REF at 0 0 0 0 (getD r column.A 0) 0 0 0 0 0) ≡ take 10 r) (sym e) refl;
+        whole = refl;
+        same = (λ j. withoutPlaces (columns code.QUESTION-REF at 0 0 0 0 (h j) 0 0 0 0 0)) ∙ subst (λ r. withoutPlaces (columns code.QUESTION-REF at 0 0 0 0 (getD r column.A 0) 0 0 0 0 0) ≡ withoutPlaces r) (sym e) refl;
         code-same = refl;
         default = refl;
         question = false-true false refl;
@@ -126,8 +127,8 @@ module _ (t : List ℕ) (look : ℕ → List ℕ) (source : ℕ → ℕ) (at : �
   rule-ref-match p q′ p′ q s h w =
       let e : look p ≡ columns code.RULE-REF at 0 0 0 0 (s .a) 0 0 0 0 p = s .is-row ∙ (λ j. columns code.RULE-REF at (s .own-same refl j) 0 0 0 (s .a) 0 0 0 0 p) in
       record {
-        twelve = refl;
-        same = (λ j. take 10 (columns code.RULE-REF at 0 0 0 0 (N (back q′ j)) 0 0 0 0 0)) ∙ (λ j. take 10 (columns code.RULE-REF at 0 0 0 0 (h j) 0 0 0 0 0)) ∙ subst (λ r. take 10 (columns code.RULE-REF at 0 0 0 0 (getD r column.A 0) 0 0 0 0 0) ≡ take 10 r) (sym e) refl;
+        whole = refl;
+        same = (λ j. withoutPlaces (columns code.RULE-REF at 0 0 0 0 (N (back q′ j)) 0 0 0 0 0)) ∙ (λ j. withoutPlaces (columns code.RULE-REF at 0 0 0 0 (h j) 0 0 0 0 0)) ∙ subst (λ r. withoutPlaces (columns code.RULE-REF at 0 0 0 0 (getD r column.A 0) 0 0 0 0 0) ≡ withoutPlaces r) (sym e) refl;
         code-same = refl;
         default = refl;
         question = false-true false refl;

@@ -6,11 +6,12 @@ use mathlib.Core.Bool.{Bool, true, false}
 use Prim.Native.Nat.{ℕ, suc, _+_, _-_, _/_, _%_, _^_, _<_}
 use native.Mathlib.Omega.{arith}
 use lib.Dec.{eqb, ltb}
-use lib.ListN.{take, drop}
+use lib.ListN.{drop}
 use Rattle.lexemes.specs.Words as words
 use Rattle.rows.specs.Codes as code
 use Rattle.rows.specs.Codes.{member, questions, isQuestion}
 use Rattle.rows.specs.Columns as column
+use Rattle.rows.specs.Cells.{withoutPlaces}
 use Rattle.rows.specs.Flags as flag
 use Rattle.ll1.specs.Trees.{Trees}
 use Rattle.ll1.proofs.Basics.{clash}
@@ -122,8 +123,8 @@ module _ (t : List ℕ) (look : ℕ → List ℕ) (source : ℕ → ℕ) (parent
   subtitle-match s o =
       let e : r ≡ columns code.SUBTITLE parent 0 (string source 3 c) 0 0 0 0 0 0 0 (placeAt 0 c) = s .is-row ∙ (λ j. columns code.SUBTITLE parent (s .own-same refl j) (string source 3 c) 0 0 (s .a-same refl j) 0 0 0 0 (placeAt 0 c)) in
       record {
-        twelve = refl;
-        same = ap (take 10) (subtitle-is t r parent o) ∙ subst (λ q. take 10 (columns code.SUBTITLE parent 0 (cell column.FIRST q) 0 0 0 0 0 0 0 0) ≡ take 10 q) (sym e) refl;
+        whole = refl;
+        same = ap withoutPlaces (subtitle-is t r parent o) ∙ subst (λ q. withoutPlaces (columns code.SUBTITLE parent 0 (cell column.FIRST q) 0 0 0 0 0 0 0 0) ≡ withoutPlaces q) (sym e) refl;
         code-same = refl;
         default = refl;
         question = never;
@@ -136,8 +137,8 @@ module _ (t : List ℕ) (look : ℕ → List ℕ) (source : ℕ → ℕ) (parent
   text-match s o =
       let e : r ≡ columns code.TEXT parent 0 (string source 7 c) (string source 3 c) 0 0 0 0 0 0 (placeAt 0 c) = s .is-row ∙ (λ j. columns code.TEXT parent (s .own-same refl j) (string source 7 c) (string source 3 c) 0 (s .a-same refl j) 0 0 0 0 (placeAt 0 c)) in
       record {
-        twelve = refl;
-        same = ap (take 10) (text-is t r parent o) ∙ subst (λ q. take 10 (columns code.TEXT parent 0 (cell column.FIRST q) (cell column.SECOND q) 0 0 0 0 0 0 0) ≡ take 10 q) (sym e) refl;
+        whole = refl;
+        same = ap withoutPlaces (text-is t r parent o) ∙ subst (λ q. withoutPlaces (columns code.TEXT parent 0 (cell column.FIRST q) (cell column.SECOND q) 0 0 0 0 0 0 0) ≡ withoutPlaces q) (sym e) refl;
         code-same = refl;
         default = refl;
         question = never;
@@ -150,8 +151,8 @@ module _ (t : List ℕ) (look : ℕ → List ℕ) (source : ℕ → ℕ) (parent
   label-match s o =
       let e : r ≡ columns code.LABEL parent (s .own) 0 0 0 0 0 0 0 0 (placeAt 0 c) = s .is-row ∙ (λ j. columns code.LABEL parent (s .own) 0 0 0 (s .a-same refl j) 0 0 0 0 (placeAt 0 c)) in
       record {
-        twelve = refl;
-        same = ap (take 10) (label-is t r parent o) ∙ subst (λ q. take 10 (columns code.LABEL parent (cell column.OWN q) 0 0 0 0 0 0 0 0 0) ≡ take 10 q) (sym e) refl;
+        whole = refl;
+        same = ap withoutPlaces (label-is t r parent o) ∙ subst (λ q. withoutPlaces (columns code.LABEL parent (cell column.OWN q) 0 0 0 0 0 0 0 0 0) ≡ withoutPlaces q) (sym e) refl;
         code-same = refl;
         default = refl;
         question = never;
@@ -163,19 +164,19 @@ module _ (t : List ℕ) (look : ℕ → List ℕ) (source : ℕ → ℕ) (parent
   unfolding isQuestion member questions
   suppress-match s =
       let e : r ≡ columns code.SUPPRESS-IF parent 0 0 0 0 0 0 0 0 0 (placeAt 0 c) = s .is-row ∙ (λ j. columns code.SUPPRESS-IF parent (s .own-same refl j) 0 0 0 (s .a-same refl j) 0 0 0 0 (placeAt 0 c)) in
-      record { twelve = refl; same = subst (λ q. take 10 (columns code.SUPPRESS-IF parent 0 0 0 0 0 0 0 0 0 0) ≡ take 10 q) (sym e) refl; code-same = refl; default = refl; question = never; rule = never; reference = never }
+      record { whole = refl; same = subst (λ q. withoutPlaces (columns code.SUPPRESS-IF parent 0 0 0 0 0 0 0 0 0 0) ≡ withoutPlaces q) (sym e) refl; code-same = refl; default = refl; question = never; rule = never; reference = never }
 
   pub gray-out-match : Settled look (item source parent 8 c) → Match t look (item N parent 8 T) (item source parent 8 c)
   unfolding isQuestion member questions
   gray-out-match s =
       let e : r ≡ columns code.GRAY-OUT-IF parent 0 0 0 0 0 0 0 0 0 (placeAt 0 c) = s .is-row ∙ (λ j. columns code.GRAY-OUT-IF parent (s .own-same refl j) 0 0 0 (s .a-same refl j) 0 0 0 0 (placeAt 0 c)) in
-      record { twelve = refl; same = subst (λ q. take 10 (columns code.GRAY-OUT-IF parent 0 0 0 0 0 0 0 0 0 0) ≡ take 10 q) (sym e) refl; code-same = refl; default = refl; question = never; rule = never; reference = never }
+      record { whole = refl; same = subst (λ q. withoutPlaces (columns code.GRAY-OUT-IF parent 0 0 0 0 0 0 0 0 0 0) ≡ withoutPlaces q) (sym e) refl; code-same = refl; default = refl; question = never; rule = never; reference = never }
 
   pub disable-match : Settled look (item source parent 9 c) → Match t look (item N parent 9 T) (item source parent 9 c)
   unfolding isQuestion member questions
   disable-match s =
       let e : r ≡ columns code.DISABLE-IF parent 0 0 0 0 0 0 0 0 0 (placeAt 0 c) = s .is-row ∙ (λ j. columns code.DISABLE-IF parent (s .own-same refl j) 0 0 0 (s .a-same refl j) 0 0 0 0 (placeAt 0 c)) in
-      record { twelve = refl; same = subst (λ q. take 10 (columns code.DISABLE-IF parent 0 0 0 0 0 0 0 0 0 0) ≡ take 10 q) (sym e) refl; code-same = refl; default = refl; question = never; rule = never; reference = never }
+      record { whole = refl; same = subst (λ q. withoutPlaces (columns code.DISABLE-IF parent 0 0 0 0 0 0 0 0 0 0) ≡ withoutPlaces q) (sym e) refl; code-same = refl; default = refl; question = never; rule = never; reference = never }
 
   -- ---- questions
 
@@ -188,11 +189,11 @@ module _ (t : List ℕ) (look : ℕ → List ℕ) (source : ℕ → ℕ) (parent
       let e : r ≡ columns code.GOTO parent (s .own) (string source 4 h) (string source 8 h) (flags F) (s .a) 0 0 0 (nameMark source h) (placeAt 0 c) = s .is-row in
       let fl = flags-again (Flags.hasFlag 0 F) (Flags.hasFlag 1 F) (Flags.hasFlag 2 F) in
       record {
-        twelve = refl;
+        whole = refl;
         same =
-            ap (take 10) (q .row)
-            ∙ subst (λ x. take 10 (columns code.GOTO parent (cell column.OWN x) (cell column.FIRST x) (cell column.SECOND x) (again (cell column.FLAGS x)) (cell column.A x) 0 0 0 0 0) ≡ take 10 x) (sym e)
-            (λ j. take 10 (columns code.GOTO parent (s .own) (string source 4 h) (string source 8 h) (fl j) (s .a) 0 0 0 0 0));
+            ap withoutPlaces (q .row)
+            ∙ subst (λ x. withoutPlaces (columns code.GOTO parent (cell column.OWN x) (cell column.FIRST x) (cell column.SECOND x) (again (cell column.FLAGS x)) (cell column.A x) 0 0 0 0 0) ≡ withoutPlaces x) (sym e)
+            (λ j. withoutPlaces (columns code.GOTO parent (s .own) (string source 4 h) (string source 8 h) (fl j) (s .a) 0 0 0 0 0));
         code-same = refl;
         default = refl;
         question = λ z. (q .written, ap (cell column.NAME) (q .row));
@@ -209,11 +210,11 @@ module _ (t : List ℕ) (look : ℕ → List ℕ) (source : ℕ → ℕ) (parent
       let e : r ≡ columns code.ONE-OF parent (s .own) (string source 4 h) (string source 8 h) (flags F) 0 0 0 0 (nameMark source h) (placeAt 0 c) = s .is-row ∙ (λ j. columns code.ONE-OF parent (s .own) (string source 4 h) (string source 8 h) (flags F) (s .a-same refl j) 0 0 0 (nameMark source h) (placeAt 0 c)) in
       let fl = flags-again (Flags.hasFlag 0 F) (Flags.hasFlag 1 F) (Flags.hasFlag 2 F) in
       record {
-        twelve = refl;
+        whole = refl;
         same =
-            ap (take 10) (q .row)
-            ∙ subst (λ x. take 10 (columns code.ONE-OF parent (cell column.OWN x) (cell column.FIRST x) (cell column.SECOND x) (again (cell column.FLAGS x)) 0 0 0 0 0 0) ≡ take 10 x) (sym e)
-            (λ j. take 10 (columns code.ONE-OF parent (s .own) (string source 4 h) (string source 8 h) (fl j) 0 0 0 0 0 0));
+            ap withoutPlaces (q .row)
+            ∙ subst (λ x. withoutPlaces (columns code.ONE-OF parent (cell column.OWN x) (cell column.FIRST x) (cell column.SECOND x) (again (cell column.FLAGS x)) 0 0 0 0 0 0) ≡ withoutPlaces x) (sym e)
+            (λ j. withoutPlaces (columns code.ONE-OF parent (s .own) (string source 4 h) (string source 8 h) (fl j) 0 0 0 0 0 0));
         code-same = refl;
         default = refl;
         question = λ z. (q .written, ap (cell column.NAME) (q .row));
@@ -238,11 +239,11 @@ module _ (t : List ℕ) (look : ℕ → List ℕ) (source : ℕ → ℕ) (parent
       let fl : again x + when (bit flag.HAS-DEFAULT x) flag.HAS-DEFAULT ≡ x = ap (λ z. again x + when z flag.HAS-DEFAULT) de ∙ flags-default-again b₁ b₂ b₃ d in
       let dv : when (bit flag.HAS-DEFAULT x) (when (eqb (when d (when v 1)) 1) 1) ≡ when d (when v 1) = ap (λ z. when z (when (eqb (when d (when v 1)) 1) 1)) de ∙ truth-again d v in
       record {
-        twelve = refl;
+        whole = refl;
         same =
-            ap (take 10) (q .row)
-            ∙ subst (λ y. take 10 (columns code.CHECKBOX parent (cell column.OWN y) (cell column.FIRST y) (cell column.SECOND y) (again (cell column.FLAGS y) + when (bit flag.HAS-DEFAULT (cell column.FLAGS y)) flag.HAS-DEFAULT) 0 0 0 (when (bit flag.HAS-DEFAULT (cell column.FLAGS y)) (when (eqb (cell column.D y) 1) 1)) 0 0) ≡ take 10 y) (sym e)
-            (λ j. take 10 (columns code.CHECKBOX parent (s .own) (string source 4 h) (string source 8 h) (fl j) 0 0 0 (dv j) 0 0));
+            ap withoutPlaces (q .row)
+            ∙ subst (λ y. withoutPlaces (columns code.CHECKBOX parent (cell column.OWN y) (cell column.FIRST y) (cell column.SECOND y) (again (cell column.FLAGS y) + when (bit flag.HAS-DEFAULT (cell column.FLAGS y)) flag.HAS-DEFAULT) 0 0 0 (when (bit flag.HAS-DEFAULT (cell column.FLAGS y)) (when (eqb (cell column.D y) 1) 1)) 0 0) ≡ withoutPlaces y) (sym e)
+            (λ j. withoutPlaces (columns code.CHECKBOX parent (s .own) (string source 4 h) (string source 8 h) (fl j) 0 0 0 (dv j) 0 0));
         code-same = refl;
         default = refl;
         question = λ z. (q .written, ap (cell column.NAME) (q .row));
@@ -270,11 +271,11 @@ module _ (t : List ℕ) (look : ℕ → List ℕ) (source : ℕ → ℕ) (parent
       let dv : when (bit flag.HAS-DEFAULT x) (when d v) ≡ when d v = ap (λ z. when z (when d v)) de ∙ when-again d v in
       let default-bit : hasFlag flag.HAS-DEFAULT r ≡ d = ap (λ y. bit flag.HAS-DEFAULT (cell column.FLAGS y)) e ∙ de in
       record {
-        twelve = refl;
+        whole = refl;
         same =
-            ap (take 10) (q .row)
-            ∙ subst (λ y. take 10 (columns code.NUMERIC parent (cell column.OWN y) (cell column.FIRST y) (cell column.SECOND y) (again (cell column.FLAGS y) + when (bit flag.HAS-DEFAULT (cell column.FLAGS y)) flag.HAS-DEFAULT) (cell column.A y) (cell column.B y) (cell column.C y) (when (bit flag.HAS-DEFAULT (cell column.FLAGS y)) (cell column.D y)) 0 0) ≡ take 10 y) (sym e)
-            (λ j. take 10 (columns code.NUMERIC parent (s .own) (string source 4 h) (string source 8 h) (fl j) (s .a) (value source 10 c) st (dv j) 0 0));
+            ap withoutPlaces (q .row)
+            ∙ subst (λ y. withoutPlaces (columns code.NUMERIC parent (cell column.OWN y) (cell column.FIRST y) (cell column.SECOND y) (again (cell column.FLAGS y) + when (bit flag.HAS-DEFAULT (cell column.FLAGS y)) flag.HAS-DEFAULT) (cell column.A y) (cell column.B y) (cell column.C y) (when (bit flag.HAS-DEFAULT (cell column.FLAGS y)) (cell column.D y)) 0 0) ≡ withoutPlaces y) (sym e)
+            (λ j. withoutPlaces (columns code.NUMERIC parent (s .own) (string source 4 h) (string source 8 h) (fl j) (s .a) (value source 10 c) st (dv j) 0 0));
         code-same = refl;
         default = m .1 ∙ default-bit ∙ when-mark d (placeAt 0 (child 2 (child 13 c)));
         question = λ z. (q .written, ap (cell column.NAME) (q .row));
@@ -292,11 +293,11 @@ module _ (t : List ℕ) (look : ℕ → List ℕ) (source : ℕ → ℕ) (parent
       let e : r ≡ columns code.OPTION parent 0 (string source 3 c) 0 (when d flag.OPTION-DEFAULT) (s .a) 0 0 0 0 (placeAt 0 c) = s .is-row ∙ (λ j. columns code.OPTION parent (s .own-same refl j) (string source 3 c) 0 (when d flag.OPTION-DEFAULT) (s .a) 0 0 0 0 (placeAt 0 c)) in
       let de = option-again d in
       record {
-        twelve = refl;
+        whole = refl;
         same =
-            ap (take 10) (q .0)
-            ∙ subst (λ y. take 10 (columns code.OPTION parent 0 (cell column.FIRST y) 0 (when (bit flag.OPTION-DEFAULT (cell column.FLAGS y)) flag.OPTION-DEFAULT) (cell column.A y) 0 0 0 0 0) ≡ take 10 y) (sym e)
-            (λ j. take 10 (columns code.OPTION parent 0 (string source 3 c) 0 (when (de j) flag.OPTION-DEFAULT) (s .a) 0 0 0 0 0));
+            ap withoutPlaces (q .0)
+            ∙ subst (λ y. withoutPlaces (columns code.OPTION parent 0 (cell column.FIRST y) 0 (when (bit flag.OPTION-DEFAULT (cell column.FLAGS y)) flag.OPTION-DEFAULT) (cell column.A y) 0 0 0 0 0) ≡ withoutPlaces y) (sym e)
+            (λ j. withoutPlaces (columns code.OPTION parent 0 (string source 3 c) 0 (when (de j) flag.OPTION-DEFAULT) (s .a) 0 0 0 0 0));
         code-same = refl;
         default = q .1 ∙ ap (λ y. bit flag.OPTION-DEFAULT (cell column.FLAGS y)) e ∙ de ∙ when-mark d (placeAt 0 (child 11 c));
         question = never;
@@ -309,8 +310,8 @@ module _ (t : List ℕ) (look : ℕ → List ℕ) (source : ℕ → ℕ) (parent
   form-match x s o =
       let e : r ≡ columns code.FORM parent (s .own) (string source 7 c) 0 0 0 0 0 0 0 (placeAt 0 c) = s .is-row ∙ (λ j. columns code.FORM parent (s .own) (string source 7 c) 0 0 (s .a-same refl j) 0 0 0 0 (placeAt 0 c)) in
       record {
-        twelve = refl;
-        same = ap (take 10) (form-is t r x parent o) ∙ subst (λ y. take 10 (columns code.FORM parent (cell column.OWN y) (cell column.FIRST y) 0 0 0 0 0 0 0 0) ≡ take 10 y) (sym e) refl;
+        whole = refl;
+        same = ap withoutPlaces (form-is t r x parent o) ∙ subst (λ y. withoutPlaces (columns code.FORM parent (cell column.OWN y) (cell column.FIRST y) 0 0 0 0 0 0 0 0) ≡ withoutPlaces y) (sym e) refl;
         code-same = refl;
         default = refl;
         question = never;
@@ -324,8 +325,8 @@ module _ (t : List ℕ) (look : ℕ → List ℕ) (source : ℕ → ℕ) (parent
       let e : r ≡ columns code.RULE parent (suc n) 0 0 0 0 0 0 0 (mark (placeAt 1 c)) (placeAt 0 c) = s .is-row ∙ (λ j. columns code.RULE parent (s .own-same refl j) 0 0 0 (s .a-same refl j) 0 0 0 (mark (placeAt 1 c)) (placeAt 0 c)) in
       let back : mark (placeAt 1 T) - 1 ≡ placeAt 1 T = omega arith in
       record {
-        twelve = refl;
-        same = subst (λ y. take 10 (columns code.RULE parent (suc n) 0 0 0 0 0 0 0 0 0) ≡ take 10 y) (sym e) refl;
+        whole = refl;
+        same = subst (λ y. withoutPlaces (columns code.RULE parent (suc n) 0 0 0 0 0 0 0 0 0) ≡ withoutPlaces y) (sym e) refl;
         code-same = refl;
         default = refl;
         question = never;
@@ -341,11 +342,11 @@ module _ (t : List ℕ) (look : ℕ → List ℕ) (source : ℕ → ℕ) (parent
       let e : r ≡ columns code.FORM-SET 0 0 (string source 7 c) (string source 11 c) 0 hi lo 0 0 0 (placeAt 0 c) = s .is-row ∙ (λ j. columns code.FORM-SET 0 (s .own-same refl j) (string source 7 c) (string source 11 c) 0 (s .a-same refl j) lo 0 0 0 (placeAt 0 c)) in
       let he = high-again hi hb in
       record {
-        twelve = refl;
+        whole = refl;
         same =
-            ap (take 10) (form-set-is t r x o)
-            ∙ subst (λ y. take 10 (columns code.FORM-SET 0 0 (cell column.FIRST y) (cell column.SECOND y) 0 (highOf t (cell column.A y)) (lowOf t (cell column.B y)) 0 0 0 0) ≡ take 10 y) (sym e)
-            (λ j. take 10 (columns code.FORM-SET 0 0 (string source 7 c) (string source 11 c) 0 (he j) (lb j) 0 0 0 0));
+            ap withoutPlaces (form-set-is t r x o)
+            ∙ subst (λ y. withoutPlaces (columns code.FORM-SET 0 0 (cell column.FIRST y) (cell column.SECOND y) 0 (highOf t (cell column.A y)) (lowOf t (cell column.B y)) 0 0 0 0) ≡ withoutPlaces y) (sym e)
+            (λ j. withoutPlaces (columns code.FORM-SET 0 0 (string source 7 c) (string source 11 c) 0 (he j) (lb j) 0 0 0 0));
         code-same = refl;
         default = refl;
         question = never;

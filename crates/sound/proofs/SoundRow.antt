@@ -26,7 +26,7 @@ use Rattle.sound.proofs.Lists.{apart}
 
 -- the sizes of its numbers
 pub record Sized (d : Draft) : Type 0 where
-  pub twelve : length (d .row) ≡ column.ROW
+  pub whole : length (d .row) ≡ column.ROW
   pub first : cell column.FIRST d < HALF
   pub second : cell column.SECOND d < HALF
   pub flags : cell column.FLAGS d < HALF
@@ -48,7 +48,7 @@ pub sound-row :
     → Sound d
 sound-row sized form question limited reference rule-name name =
     record {
-      twelve = sized .twelve;
+      whole = sized .whole;
       first = sized .first;
       second = sized .second;
       flags = sized .flags;

@@ -71,11 +71,15 @@ module _ (look : ℕ → List ℕ) {d : Draft} (v : Settled look d) where
   draft-cell c n m =
       ap (λ r. getD r c 0) (v .is-row) ∙ getD-set-other (set (d .row) column.OWN (v .own)) column.A c (v .a) 0 m ∙ getD-set-other (d .row) column.OWN c (v .own) 0 n
 
-  -- what neither asks nor refers stays as it is
+  -- what refers to nothing keeps all but its own number
+  pub numbered-row : is code.QUESTION-REF d || is code.RULE-REF d ≡ false → look (cell column.PLACE d) ≡ set (d .row) column.OWN (v .own)
+  numbered-row r =
+      let q = set (d .row) column.OWN (v .own) in
+      v .is-row ∙ ap (set q column.A) (v .a-same r ∙ sym (getD-set-other (d .row) column.OWN column.A (v .own) 0 (λ e. omega arith))) ∙ set-getD q column.A 0
+
+  -- and this too where it asks nothing
   pub draft-row : asks d ≡ false → is code.QUESTION-REF d || is code.RULE-REF d ≡ false → look (cell column.PLACE d) ≡ d .row
-  draft-row q r =
-      v .is-row ∙ (λ j. set (set (d .row) column.OWN (v .own-same q j)) column.A (v .a-same r j))
-      ∙ ap (λ x. set x column.A (cell column.A d)) (set-getD (d .row) column.OWN 0) ∙ set-getD (d .row) column.A 0
+  draft-row q r = numbered-row r ∙ ap (set (d .row) column.OWN) (v .own-same q) ∙ set-getD (d .row) column.OWN 0
 
 pub like : (t : List ℕ) (look : ℕ → List ℕ) {d′ d : Draft} → Match t look d′ d → Settled look d → Like d′ d
 like t look {d′} {d} m v =

@@ -1,20 +1,21 @@
 -- The text's draft rows are like the source's, cell by cell: what stages 7, 10 and 12 go by is the same.
 -- Assumes nothing.
-use mathlib.Core.Path.{_≡_, ap, sym, _∙_}
+use mathlib.Core.Path.{_≡_, refl, ap, sym, _∙_}
 use mathlib.Core.List.{List}
 use mathlib.Core.Bool.{true, false, _||_}
-use Prim.Native.Nat.{ℕ, _<_}
+use Prim.Native.Nat.{ℕ}
 use native.Mathlib.Omega.{arith}
 use lib.Dec.{eqb, ltb}
-use lib.ListN.{getD}
-use lib.Seq.{getD-take, getD-set-same, getD-set-other}
+use lib.ListN.{getD, set, length-set}
+use lib.Seq.{getD-set-same, getD-set-other, set-getD}
 use Rattle.lexemes.proofs.Lists.{either}
 use Rattle.numbers.proofs.Ranges.{or-no}
 use Rattle.rows.specs.Codes as code
 use Rattle.rows.specs.Codes.{isQuestion}
 use Rattle.rows.specs.Columns as column
+use Rattle.rows.proofs.ColumnLaws.{isPlace, same-besides}
 use Rattle.grammar.specs.Source.{numberAt}
-use Rattle.answers.specs.Rows.{Draft, columns}
+use Rattle.answers.specs.Rows.{Draft}
 use Rattle.answers.specs.Stages.{cell, is, asks, placeOf}
 use Rattle.drafts.proofs.RowTests.{other-code}
 use Rattle.again.specs.Matches.{Settled, final, Match}
@@ -23,22 +24,22 @@ use Rattle.again.proofs.NumberedDrafts.{other-asks}
 -- ---- cells
 
 module _ (t : List ℕ) (look : ℕ → List ℕ) {d′ d : Draft} (m : Match t look d′ d) where
-  -- of the first ten columns
-  final-cell : (c : ℕ) → c < 10 → getD (final t d′) c 0 ≡ getD (look (cell column.PLACE d)) c 0
-  final-cell c h = sym (getD-take 10 (final t d′) c 0 h) ∙ ap (λ r. getD r c 0) (m .same) ∙ getD-take 10 (look (cell column.PLACE d)) c 0 h
+  -- but the places
+  final-cell : (c : ℕ) → isPlace c ≡ false → getD (final t d′) c 0 ≡ getD (look (cell column.PLACE d)) c 0
+  final-cell c h = same-besides (final t d′) (look (cell column.PLACE d)) (m .same) c h
 
-  -- but a ruleref's number
-  pub same-cell : (c : ℕ) → c < 10 → (c ≡ column.A → ⊥) → cell c d′ ≡ getD (look (cell column.PLACE d)) c 0
+  -- nor a ruleref's number
+  pub same-cell : (c : ℕ) → isPlace c ≡ false → (c ≡ column.A → ⊥) → cell c d′ ≡ getD (look (cell column.PLACE d)) c 0
   same-cell c h n =
       either (is code.RULE-REF d′)
       (λ e. sym (getD-set-other (d′ .row) column.A c (numberAt t (placeOf (d′ .ownAt))) 0 n) ∙ (rw e at (final-cell c h)))
       (λ e. rw e at (final-cell c h))
 
   pub same-number : is code.RULE-REF d′ ≡ false → cell column.A d′ ≡ getD (look (cell column.PLACE d)) column.A 0
-  same-number e = rw e at (final-cell column.A (omega arith))
+  same-number e = rw e at (final-cell column.A refl)
 
   pub rule-number : is code.RULE-REF d′ ≡ true → numberAt t (placeOf (d′ .ownAt)) ≡ getD (look (cell column.PLACE d)) column.A 0
-  rule-number e = sym (getD-set-same (d′ .row) column.A (numberAt t (placeOf (d′ .ownAt))) 0 (omega (arith, m .twelve))) ∙ (rw e at (final-cell column.A (omega arith)))
+  rule-number e = sym (getD-set-same (d′ .row) column.A (numberAt t (placeOf (d′ .ownAt))) 0 (omega (arith, m .whole))) ∙ (rw e at (final-cell column.A refl))
 
 -- the rows agree in what is neither a question's number nor what a reference has found
 pub record Like (d′ d : Draft) : Type 0 where
@@ -50,21 +51,45 @@ pub record Like (d′ d : Draft) : Type 0 where
   pub d-same : cell column.D d′ ≡ cell column.D d
   pub default-same : ltb 0 (d′ .defaultAt) ≡ ltb 0 (d .defaultAt)
 
--- the cells of a finished row
-in-row :
-    (look : ℕ → List ℕ) {d : Draft} (v : Settled look d) (c : ℕ) → getD (look (cell column.PLACE d)) c 0
-    ≡ getD (columns (cell column.CODE d) (cell column.PARENT d) (v .own) (cell column.FIRST d) (cell column.SECOND d) (cell column.FLAGS d) (v .a) (cell column.B d) (cell column.C d) (cell column.D d) (cell column.NAME d) (cell column.PLACE d)) c 0
-in-row look v c = ap (λ r. getD r c 0) (v .is-row)
+-- ---- a finished row
+
+module _ (look : ℕ → List ℕ) {d : Draft} (v : Settled look d) where
+  -- the number that it has got
+  pub own-cell : getD (look (cell column.PLACE d)) column.OWN 0 ≡ v .own
+  own-cell =
+      ap (λ r. getD r column.OWN 0) (v .is-row) ∙ getD-set-other (set (d .row) column.OWN (v .own)) column.A column.OWN (v .a) 0 (λ e. omega arith)
+      ∙ getD-set-same (d .row) column.OWN (v .own) 0 (omega (arith, v .whole))
+
+  -- the number that it has found
+  a-cell : getD (look (cell column.PLACE d)) column.A 0 ≡ v .a
+  a-cell =
+      ap (λ r. getD r column.A 0) (v .is-row)
+      ∙ getD-set-same (set (d .row) column.OWN (v .own)) column.A (v .a) 0 (omega (arith, length-set (d .row) column.OWN (v .own), v .whole))
+
+  -- the other cells are the draft's
+  draft-cell : (c : ℕ) → (c ≡ column.OWN → ⊥) → (c ≡ column.A → ⊥) → getD (look (cell column.PLACE d)) c 0 ≡ cell c d
+  draft-cell c n m =
+      ap (λ r. getD r c 0) (v .is-row) ∙ getD-set-other (set (d .row) column.OWN (v .own)) column.A c (v .a) 0 m ∙ getD-set-other (d .row) column.OWN c (v .own) 0 n
+
+  -- what refers to nothing keeps all but its own number
+  pub numbered-row : is code.QUESTION-REF d || is code.RULE-REF d ≡ false → look (cell column.PLACE d) ≡ set (d .row) column.OWN (v .own)
+  numbered-row r =
+      let q = set (d .row) column.OWN (v .own) in
+      v .is-row ∙ ap (set q column.A) (v .a-same r ∙ sym (getD-set-other (d .row) column.OWN column.A (v .own) 0 (λ e. omega arith))) ∙ set-getD q column.A 0
+
+  -- and this too where it asks nothing
+  pub draft-row : asks d ≡ false → is code.QUESTION-REF d || is code.RULE-REF d ≡ false → look (cell column.PLACE d) ≡ d .row
+  draft-row q r = numbered-row r ∙ ap (set (d .row) column.OWN) (v .own-same q) ∙ set-getD (d .row) column.OWN 0
 
 pub like : (t : List ℕ) (look : ℕ → List ℕ) {d′ d : Draft} → Match t look d′ d → Settled look d → Like d′ d
 like t look {d′} {d} m v =
     record {
       code-same = m .code-same;
-      parent-same = same-cell t look m column.PARENT (omega arith) (λ e. omega arith) ∙ in-row look v column.PARENT;
-      own-same = λ q. same-cell t look m column.OWN (omega arith) (λ e. omega arith) ∙ in-row look v column.OWN ∙ v .own-same q;
-      a-same = λ r. same-number t look m (rw (m .code-same) (or-no (is code.QUESTION-REF d) (is code.RULE-REF d) r .1)) ∙ in-row look v column.A ∙ v .a-same r;
-      b-same = same-cell t look m column.B (omega arith) (λ e. omega arith) ∙ in-row look v column.B;
-      d-same = same-cell t look m column.D (omega arith) (λ e. omega arith) ∙ in-row look v column.D;
+      parent-same = same-cell t look m column.PARENT refl (λ e. omega arith) ∙ draft-cell look v column.PARENT (λ e. omega arith) (λ e. omega arith);
+      own-same = λ q. same-cell t look m column.OWN refl (λ e. omega arith) ∙ own-cell look v ∙ v .own-same q;
+      a-same = λ r. same-number t look m (rw (m .code-same) (or-no (is code.QUESTION-REF d) (is code.RULE-REF d) r .1)) ∙ a-cell look v ∙ v .a-same r;
+      b-same = same-cell t look m column.B refl (λ e. omega arith) ∙ draft-cell look v column.B (λ e. omega arith) (λ e. omega arith);
+      d-same = same-cell t look m column.D refl (λ e. omega arith) ∙ draft-cell look v column.D (λ e. omega arith) (λ e. omega arith);
       default-same = m .default;
     }
 

@@ -95,7 +95,7 @@ gives-numbers : {ns : List ℕ} {ds es : List Draft} → All Sound ds → Gives 
 unfolding ownNumbers
 gives-numbers none gives-none = refl
 gives-numbers (more u r) (to-question {v = v} {d = d} e n g) =
-    rw (other-column d v column.CODE (λ q. omega arith), e, gives-numbers r g, getD-set-same (d .row) column.OWN v 0 (omega (arith, u .twelve)))
+    rw (other-column d v column.CODE (λ q. omega arith), e, gives-numbers r g, getD-set-same (d .row) column.OWN v 0 (omega (arith, u .whole)))
 gives-numbers (more u r) (past-other e g) = rw (e, gives-numbers r g)
 
 -- ---- what references find

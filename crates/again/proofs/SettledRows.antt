@@ -7,7 +7,7 @@ use Prim.Native.Nat.{ℕ, _≤_, _<_}
 use native.Mathlib.Omega.{arith}
 use lib.Dec.{eqb, ltb}
 use lib.ListN.{length, getD, set}
-use lib.Seq.{getD-set-same}
+use lib.Seq.{getD-set-same, set-getD}
 use borrow.Author.Tests.{ltb-false}
 use Rattle.lexemes.proofs.Lists.{either}
 use Rattle.numbers.specs.Numbers.{isNumber, mem, numbered}
@@ -16,7 +16,7 @@ use Rattle.numbers.proofs.Numbering.{Own}
 use Rattle.rows.specs.Codes as code
 use Rattle.rows.specs.Columns as column
 use Rattle.ll1.specs.Trees.{Trees}
-use Rattle.answers.specs.Rows.{Draft, columns}
+use Rattle.answers.specs.Rows.{Draft}
 use Rattle.grammar.specs.Parts.{mark}
 use Rattle.answers.specs.Stages.{cell, is, asks, any, faultIf, rulesOverLimit, unfound, ownNumbers, withCell, numberedRows, finds, refers, ownOfFirst, finished}
 use Rattle.answers.specs.Answer.{LIMIT, drafts}
@@ -36,24 +36,6 @@ use Rattle.again.proofs.RuleNumbers.{from-above, rules-count}
 use Rattle.again.proofs.Questions.{own-numbers}
 use Rattle.again.proofs.NumberedDrafts.{asks-other, question-ref-not, rule-ref-not, Bears, got, kept, ws, all-bear, finds-question, finds-rule}
 
--- a row of twelve is its twelve cells
-twelve : (r : List ℕ) → length r ≡ column.ROW → r
-    ≡ columns (getD r 0 0) (getD r 1 0) (getD r 2 0) (getD r 3 0) (getD r 4 0) (getD r 5 0) (getD r 6 0) (getD r 7 0) (getD r 8 0) (getD r 9 0) (getD r 10 0) (getD r 11 0)
-twelve (a ∷ b ∷ c ∷ d ∷ e ∷ f ∷ g ∷ h ∷ i ∷ j ∷ k ∷ l ∷ []) z = refl
-twelve [] z = absurd (omega arith)
-twelve (a ∷ []) z = absurd (omega arith)
-twelve (a ∷ b ∷ []) z = absurd (omega arith)
-twelve (a ∷ b ∷ c ∷ []) z = absurd (omega arith)
-twelve (a ∷ b ∷ c ∷ d ∷ []) z = absurd (omega arith)
-twelve (a ∷ b ∷ c ∷ d ∷ e ∷ []) z = absurd (omega arith)
-twelve (a ∷ b ∷ c ∷ d ∷ e ∷ f ∷ []) z = absurd (omega arith)
-twelve (a ∷ b ∷ c ∷ d ∷ e ∷ f ∷ g ∷ []) z = absurd (omega arith)
-twelve (a ∷ b ∷ c ∷ d ∷ e ∷ f ∷ g ∷ h ∷ []) z = absurd (omega arith)
-twelve (a ∷ b ∷ c ∷ d ∷ e ∷ f ∷ g ∷ h ∷ i ∷ []) z = absurd (omega arith)
-twelve (a ∷ b ∷ c ∷ d ∷ e ∷ f ∷ g ∷ h ∷ i ∷ j ∷ []) z = absurd (omega arith)
-twelve (a ∷ b ∷ c ∷ d ∷ e ∷ f ∷ g ∷ h ∷ i ∷ j ∷ k ∷ []) z = absurd (omega arith)
-twelve (a ∷ b ∷ c ∷ d ∷ e ∷ f ∷ g ∷ h ∷ i ∷ j ∷ k ∷ l ∷ m ∷ n) z = absurd (omega arith)
-
 -- ---- one row
 
 -- a question is no reference
@@ -71,13 +53,18 @@ module _ (s : List ℕ) (look : ℕ → List ℕ) {d : Draft} (u : Sound d) wher
       let none : refers s (withCell column.OWN v d) ≡ false = no-reference s (withCell column.OWN v d) (rw code-same q) in
       record {
         own = v;
-        a = cell column.A d;
-        is-row = e ∙ rw none (ap (λ r. set r column.OWN v) (twelve (d .row) (u .twelve)));
+        a = cell column.A (withCell column.OWN v d);
+        is-row = e ∙ rw none (sym (set-getD (set (d .row) column.OWN v) column.A 0));
+        whole = u .whole;
         own-same = λ z. absurd (true≢false (sym q ∙ z));
         own-range = λ z. number-range v h;
-        a-same = λ z. refl;
+        a-same = λ z. other-column d v column.A (λ z. omega arith);
         a-range = λ z. absurd (true≢false (sym z ∙ no-reference s d q));
       }
+
+  -- a row that keeps its own number
+  own-kept : d .row ≡ set (d .row) column.OWN (cell column.OWN d)
+  own-kept = sym (set-getD (d .row) column.OWN 0)
 
   settled-other : (n : ℕ) → asks d ≡ false → (refers s d ≡ true → (0 < n) × (n < 65536)) → look (cell column.PLACE d) ≡ finish s d n → Settled look d
   settled-other n q h e =
@@ -86,7 +73,8 @@ module _ (s : List ℕ) (look : ℕ → List ℕ) {d : Draft} (u : Sound d) wher
       record {
         own = cell column.OWN d;
         a = n;
-        is-row = e ∙ rw r (ap (λ r. set r column.A n) (twelve (d .row) (u .twelve)));
+        is-row = e ∙ rw r (ap (λ q. set q column.A n) own-kept);
+        whole = u .whole;
         own-same = λ z. refl;
         own-range = λ z. absurd (true≢false (sym z ∙ q));
         a-same = λ z. absurd (true≢false (sym r ∙ z));
@@ -96,7 +84,8 @@ module _ (s : List ℕ) (look : ℕ → List ℕ) {d : Draft} (u : Sound d) wher
       record {
         own = cell column.OWN d;
         a = cell column.A d;
-        is-row = e ∙ rw r (twelve (d .row) (u .twelve));
+        is-row = e ∙ rw r (sym (set-getD (d .row) column.A 0) ∙ ap (λ q. set q column.A (cell column.A d)) own-kept);
+        whole = u .whole;
         own-same = λ z. refl;
         own-range = λ z. absurd (true≢false (sym z ∙ q));
         a-same = λ z. refl;
@@ -176,7 +165,7 @@ module _ (s : List ℕ) (tree : Trees) (sound : Demand3.Sound s tree) (short : l
 
     -- what is found at a reference's place
     held : refers s d ≡ true → look (cell column.PLACE d) ≡ finish s d (number d) → getD (look (cell column.PLACE d)) column.A 0 ≡ number d
-    held r h = ap (λ x. getD x column.A 0) h ∙ rw r (getD-set-same (d .row) column.A (number d) 0 (omega (arith, u .twelve)))
+    held r h = ap (λ x. getD x column.A 0) h ∙ rw r (getD-set-same (d .row) column.A (number d) 0 (omega (arith, u .whole)))
 
     row-resolved : (e : Draft) → Bears d e → look (cell column.PLACE d) ≡ finish s e (number e) → Resolved look ds d
     row-resolved e (got v q n) h =

@@ -35,7 +35,7 @@ pub finished-numbers : (t : List ℕ) (look : ℕ → List ℕ) {ds′ ds : List
 unfolding ownNumbers questionNumbers
 finished-numbers t look no-pairs = refl
 finished-numbers t look (pair {a = d′} {b = d} m r) =
-    rw (← same-cell t look m column.CODE (omega arith) (λ e. omega arith), ← same-cell t look m column.OWN (omega arith) (λ e. omega arith), finished-numbers t look r)
+    rw (← same-cell t look m column.CODE refl (λ e. omega arith), ← same-cell t look m column.OWN refl (λ e. omega arith), finished-numbers t look r)
 
 -- and so are the rules'
 pub rules-same : {ds′ ds : List Draft} → Pairs Like ds′ ds → ruleNumbers ds′ ≡ ruleNumbers ds

@@ -5,11 +5,12 @@ use mathlib.Core.Path.{_≡_, ap, sym, _∙_}
 use mathlib.Core.Bool.{true}
 use mathlib.Core.List.{List, [], map}
 use Prim.Native.Nat.{ℕ, _≤_, _<_}
-use lib.ListN.{length, take}
+use lib.ListN.{length}
 use Rattle.numbers.specs.Numbers.{numbered, freeCount}
 use Rattle.numbers.proofs.Numbering.{Own}
 use Rattle.rows.specs.Codes as code
 use Rattle.rows.specs.Columns as column
+use Rattle.rows.specs.Cells.{withoutPlaces}
 use Rattle.ll1.specs.Trees.{Trees}
 use Rattle.grammar.specs.Derivation.{Derives, NowhereTooDeep}
 use Rattle.grammar.specs.Source.{sourceTokens}
@@ -110,15 +111,15 @@ module _ (s : List ℕ) (tree : Trees) (sound : Sound s tree) (short : length s 
     pub finished-again : finished t ds′ ≡ map (final t) ds′
     finished-again = finished-as-is t told kept
 
-    -- they have the first ten columns of the source's
-    pub columns-again : map (take 10) (finished t ds′) ≡ map (take 10) (finished s ds)
-    columns-again =
+    -- but for their places they are the source's
+    pub rows-again : map withoutPlaces (finished t ds′) ≡ map withoutPlaces (finished s ds)
+    rows-again =
         let places : Draft → List ℕ = λ d. look (cell column.PLACE d) in
         rw finished-again
-        (sym (map-map (take 10) (final t) ds′)
-        ∙ alike-pairs (λ d. take 10 (final t d)) (λ d. take 10 (places d)) (λ d′ d m. m .same) matches
-        ∙ map-map (take 10) places ds
-        ∙ ap (map (take 10)) (rows-by-place s tree (sound .derives)))
+        (sym (map-map withoutPlaces (final t) ds′)
+        ∙ alike-pairs (λ d. withoutPlaces (final t d)) (λ d. withoutPlaces (places d)) (λ d′ d m. m .same) matches
+        ∙ map-map withoutPlaces places ds
+        ∙ ap (map withoutPlaces) (rows-by-place s tree (sound .derives)))
 
   -- ---- the derivation of a text
 

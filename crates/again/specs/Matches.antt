@@ -5,12 +5,13 @@ use mathlib.Core.List.{List, [], _∷_}
 use mathlib.Core.Bool.{true, false, cond, _||_}
 use Prim.Native.Nat.{ℕ, _<_}
 use lib.Dec.{ltb}
-use lib.ListN.{length, set, take, drop}
+use lib.ListN.{length, set, drop}
 use Rattle.lexemes.specs.Words as words
 use Rattle.rows.specs.Codes as code
 use Rattle.rows.specs.Columns as column
+use Rattle.rows.specs.Cells.{withoutPlaces}
 use Rattle.grammar.specs.Source.{numberAt}
-use Rattle.answers.specs.Rows.{Draft, columns}
+use Rattle.answers.specs.Rows.{Draft}
 use Rattle.answers.specs.Stages.{cell, is, asks, placeOf}
 use Rattle.printing.specs.Spelling.{nameWord}
 
@@ -24,7 +25,8 @@ pub data Pairs {A B : Type 0} (P : A → B → Type 0) : List A → List B → T
 pub record Settled (look : ℕ → List ℕ) (d : Draft) : Type 0 where
   pub own : ℕ
   pub a : ℕ
-  pub is-row : look (cell column.PLACE d) ≡ columns (cell column.CODE d) (cell column.PARENT d) own (cell column.FIRST d) (cell column.SECOND d) (cell column.FLAGS d) a (cell column.B d) (cell column.C d) (cell column.D d) (cell column.NAME d) (cell column.PLACE d)
+  pub is-row : look (cell column.PLACE d) ≡ set (set (d .row) column.OWN own) column.A a
+  pub whole : length (d .row) ≡ column.ROW
   pub own-same : asks d ≡ false → own ≡ cell column.OWN d
   pub own-range : asks d ≡ true → (0 < own) × (own < 65536)
   pub a-same : is code.QUESTION-REF d || is code.RULE-REF d ≡ false → a ≡ cell column.A d
@@ -38,8 +40,8 @@ module _ (t : List ℕ) where
   final d = cond (is code.RULE-REF d) (set (d .row) column.A (numberAt t (placeOf (d .ownAt)))) (d .row)
 
   pub record Match (look : ℕ → List ℕ) (d′ d : Draft) : Type 0 where
-    pub twelve : length (d′ .row) ≡ column.ROW
-    pub same : take 10 (final d′) ≡ take 10 (look (cell column.PLACE d))
+    pub whole : length (d′ .row) ≡ column.ROW
+    pub same : withoutPlaces (final d′) ≡ withoutPlaces (look (cell column.PLACE d))
     pub code-same : cell column.CODE d′ ≡ cell column.CODE d
     pub default : ltb 0 (d′ .defaultAt) ≡ ltb 0 (d .defaultAt)
     -- a question writes its number and no name

@@ -95,8 +95,8 @@ module _ (s : List ℕ) where
     wide = rows-wide (numberAt s) (derives .fits) 0 0 0
 
     -- "A row is twelve 64-bit numbers"
-    pub rows-of-twelve : AreRows (finished s (drafts s tree))
-    rows-of-twelve = finished-wide s wide
+    pub rows-whole : AreRows (finished s (drafts s tree))
+    rows-whole = finished-wide s wide
 
     -- the numbers of the questions' rows, in order
     pub numbers-exactly : questionNumbers (finished s (drafts s tree)) ≡ numbered (ownNumbers (drafts s tree))

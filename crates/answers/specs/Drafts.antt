@@ -8,7 +8,7 @@ use Rattle.rows.specs.Draft.{lowOf, markOf, withMark}
 use Rattle.rows.specs.Table.{rowAt}
 use Rattle.answers.specs.Rows.{Draft}
 
--- the twelve cells of a row with its marks
+-- the cells of a row with its marks
 unfoldable pub encoded : Draft → List ℕ
 encoded d =
     let r = d .row in

@@ -10,6 +10,7 @@ use Rattle.rows.specs.Codes as code
 use Rattle.ll1.specs.Trees.{Token, token, Trees, nil, leaf, node}
 use Rattle.grammar.specs.Rules.{<atom>}
 use Rattle.grammar.specs.Parts.{child, chosen, placeAt}
+use Rattle.grammar.specs.Positions.{questionref·target, ruleref·name}
 
 -- ---- operators and constants
 
@@ -129,7 +130,9 @@ joined (operator o p) left right = binary o p left right
 
 -- NAME or N
 abbrev pub asked : ℕ → Trees → Expression
-asked p c = elim (eqb (chosen 2 c) 0) [ true ↦ question-named p (placeAt 0 (child 2 c)) | false ↦ question-numbered p (placeAt 0 (child 0 (child 2 c))) ]
+asked p c =
+    let target = child questionref·target c in
+    elim (eqb (chosen questionref·target c) 0) [ true ↦ question-named p (placeAt 0 target) | false ↦ question-numbered p (placeAt 0 (child 0 target)) ]
 
 -- the atom of the alternative i over the trees c; `inner` is what c spells
 abbrev pub atom : ℕ → Trees → Expression → Expression
@@ -152,7 +155,7 @@ atom i c inner =
     -- questionref ( NAME or N )
     ∷ asked p c
     -- ruleref ( NAME )
-    ∷ rule-named p (placeAt 2 c)
+    ∷ rule-named p (placeAt ruleref·name c)
     ∷ [])
     i inner
 

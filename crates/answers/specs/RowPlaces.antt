@@ -8,6 +8,7 @@ use Rattle.rows.specs.Columns as column
 use Rattle.ll1.specs.Trees.{Trees, nil, leaf, node}
 use Rattle.grammar.specs.Rules.{<rule>, <item>, <option>, <form>, <source>}
 use Rattle.grammar.specs.Parts.{child, placeAt}
+use Rattle.grammar.specs.Positions.{condition·expression, rule·expression}
 use Rattle.answers.specs.Rows.{Draft}
 use Rattle.answers.specs.Stages.{cell}
 use Rattle.answers.specs.Expression.{Expression, number, constant, question-named, question-numbered, rule-named, negation, binary, expression}
@@ -30,9 +31,9 @@ expressionPlaces (binary o p l r) = expressionPlaces l ++ (expressionPlaces r ++
 unfoldable pub ownPlaces : ℕ → ℕ → Trees → List ℕ
 ownPlaces A i c =
     let first = placeAt 0 c in
-    cond (eqb A <item>) (first ∷ cond (ltb 6 i) (expressionPlaces (expression (child 1 c))) [])
+    cond (eqb A <item>) (first ∷ cond (ltb 6 i) (expressionPlaces (expression (child condition·expression c))) [])
     (cond (eqb A <option>) (first ∷ [])
-    (cond (eqb A <rule>) (first ∷ expressionPlaces (expression (child 3 c)))
+    (cond (eqb A <rule>) (first ∷ expressionPlaces (expression (child rule·expression c)))
     (cond (eqb A <form>) (first ∷ [])
     (cond (eqb A <source>) (first ∷ []) []))))
 

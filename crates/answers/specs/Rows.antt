@@ -6,10 +6,15 @@ use mathlib.Core.List.{List, [], _∷_, _++_}
 use lib.Dec.{eqb, ltb}
 use lib.ListN.{length, getD}
 use Rattle.rows.specs.Codes as code
+use Rattle.rows.specs.Columns as column
+use Rattle.rows.specs.Cells.{Entry, _≔_, filled}
 use Rattle.rows.specs.Flags as flag
 use Rattle.ll1.specs.Trees.{Trees, nil, leaf, node}
 use Rattle.grammar.specs.Rules.{<rule>, <item>, <option>, <form>, <source>}
-use Rattle.grammar.specs.Parts.{mark, when, child, chosen, placeAt}
+use Rattle.grammar.specs.Parts.{mark, when, child, chosen, written, placeAt}
+use Rattle.grammar.specs.Positions.{formset·guid, formset·title, formset·help, guid·first, guid·second, guid·third, guid·end, guid-end·braced, guid-end·bare, eight·byte, str·number, form·number, form·title, rule·name, rule·expression}
+use Rattle.grammar.specs.Positions.{subtitle·text, text·help, text·text, label·number, goto·form, goto·head, goto·flags, checkbox·head, checkbox·flags, checkbox·default, numeric·head, numeric·flags, numeric·minimum, numeric·maximum, numeric·step, numeric·default, oneof·head, oneof·flags, condition·expression}
+use Rattle.grammar.specs.Positions.{default·value, step·value, option·text, option·value, option·flags, head·name, head·number, head·prompt, head·help, name·word, questionid·number}
 use Rattle.grammar.specs.Flags.{flags}
 use Rattle.answers.specs.Expression.{Expression, number, constant, question-named, question-numbered, rule-named, negation, binary, constantCode, operatorCode, expression}
 
@@ -23,9 +28,9 @@ pub record Draft : Type 0 where
   pub limitAt : ℕ
   pub defaultAt : ℕ
 
--- the twelve columns
-abbrev pub columns : ℕ → ℕ → ℕ → ℕ → ℕ → ℕ → ℕ → ℕ → ℕ → ℕ → ℕ → ℕ → List ℕ
-columns code parent own first second flags a b c d name place = code ∷ parent ∷ own ∷ first ∷ second ∷ flags ∷ a ∷ b ∷ c ∷ d ∷ name ∷ place ∷ []
+-- a row of a code under its parent, its first token at a place, with what else it holds: "Unnamed fields are 0"
+abbrev pub rowWith : ℕ → ℕ → ℕ → List Entry → List ℕ
+rowWith code parent place entries = filled (column.CODE ≔ code ∷ column.PARENT ≔ parent ∷ column.PLACE ≔ place ∷ entries)
 
 -- a row that names nothing
 abbrev pub plain : List ℕ → Draft
@@ -50,24 +55,30 @@ module _ (number-at : ℕ → ℕ) where
 
   -- the n-th tree is a STR: STRING_TOKEN ( N )
   abbrev pub string : ℕ → Trees → ℕ
-  string n f = value 2 (child n f)
+  string n f = value str·number (child n f)
 
   -- ---- HEAD: [name = NAME ,] [questionid = N ,] prompt = STR , help = STR
 
   abbrev pub nameMark : Trees → ℕ
-  nameMark h = when (eqb (chosen 0 h) 1) (mark (placeAt 2 (child 0 h)))
+  nameMark h = when (written head·name h) (mark (placeAt name·word (child head·name h)))
 
   abbrev pub writtenNumber : Trees → ℕ
-  writtenNumber h = when (eqb (chosen 1 h) 1) (value 2 (child 1 h))
+  writtenNumber h = when (written head·number h) (value questionid·number (child head·number h))
 
   abbrev pub writtenMark : Trees → ℕ
-  writtenMark h = when (eqb (chosen 1 h) 1) (mark (numeralAt 2 (child 1 h)))
+  writtenMark h = when (written head·number h) (mark (numeralAt questionid·number (child head·number h)))
 
-  -- a question: its code, parent, HEAD, flags, a to d, and the marks of its limit and default
-  abbrev pub question : ℕ → ℕ → Trees → ℕ → ℕ → ℕ → ℕ → ℕ → ℕ → ℕ → ℕ → Draft
-  question code parent h flags a b c d place limit default =
+  -- a question: its code, parent, place and HEAD, what else its row holds, and the marks of its limit and default
+  abbrev pub question : ℕ → ℕ → ℕ → Trees → List Entry → ℕ → ℕ → Draft
+  question code parent place h entries limit default =
       record {
-        row = columns code parent (writtenNumber h) (string 4 h) (string 8 h) flags a b c d (nameMark h) place;
+        row =
+            rowWith code parent place (
+            column.OWN ≔ writtenNumber h
+            ∷ column.FIRST ≔ string head·prompt h
+            ∷ column.SECOND ≔ string head·help h
+            ∷ column.NAME ≔ nameMark h
+            ∷ entries);
         ownAt = writtenMark h;
         limitAt = limit;
         defaultAt = default;
@@ -80,48 +91,72 @@ module _ (number-at : ℕ → ℕ) where
       let p = placeAt 0 c in
       getD (
       -- subtitle text = STR ;
-      plain (columns code.SUBTITLE parent 0 (string 3 c) 0 0 0 0 0 0 0 p)
+      plain (rowWith code.SUBTITLE parent p (column.FIRST ≔ string subtitle·text c ∷ []))
       -- text help = STR , text = STR ;
-      ∷ plain (columns code.TEXT parent 0 (string 7 c) (string 3 c) 0 0 0 0 0 0 p)
+      ∷ plain (rowWith code.TEXT parent p (column.FIRST ≔ string text·text c ∷ column.SECOND ≔ string text·help c ∷ []))
       -- label N ;
-      ∷ plain (columns code.LABEL parent (value 1 c) 0 0 0 0 0 0 0 0 p)
+      ∷ plain (rowWith code.LABEL parent p (column.OWN ≔ value label·number c ∷ []))
       -- goto N , HEAD [, flags = FL] ;
-      ∷ question code.GOTO parent (child 3 c) (flags (child 4 c)) (value 1 c) 0 0 0 p (mark (numeralAt 1 c)) 0
+      ∷ question code.GOTO parent p (child goto·head c)
+      (column.FLAGS ≔ flags (child goto·flags c)
+      ∷ column.A ≔ value goto·form c
+      ∷ [])
+      (mark (numeralAt goto·form c)) 0
       -- checkbox HEAD , [flags = FL ,] [default = TRUE or FALSE ,] endcheckbox ;
-      ∷ (let default = eqb (chosen 4 c) 1 in
-      question code.CHECKBOX parent (child 1 c) (flags (child 3 c) + when default flag.HAS-DEFAULT) 0 0 0 (when default (when (eqb (chosen 2 (child 4 c)) 0) 1)) p 0 0)
+      ∷ (let default = written checkbox·default c in
+      question code.CHECKBOX parent p (child checkbox·head c)
+      (column.FLAGS ≔ (flags (child checkbox·flags c) + when default flag.HAS-DEFAULT)
+      ∷ column.D ≔ when default (when (eqb (chosen default·value (child checkbox·default c)) 0) 1)
+      ∷ [])
+      0 0)
       -- numeric HEAD , [flags = FL ,] minimum = N , maximum = N , [step = N ,] [default = N ,] endnumeric ;
-      ∷ (let step = when (eqb (chosen 12 c) 1) (value 2 (child 12 c)) in
-      let default = eqb (chosen 13 c) 1 in
-      question code.NUMERIC parent (child 1 c) (flags (child 3 c) + when default flag.HAS-DEFAULT) (value 6 c) (value 10 c) step (when default (value 2 (child 13 c))) p (mark (numeralAt 10 c)) (when default (mark (numeralAt 2 (child 13 c)))))
+      ∷ (let default = written numeric·default c in
+      question code.NUMERIC parent p (child numeric·head c)
+      (column.FLAGS ≔ (flags (child numeric·flags c) + when default flag.HAS-DEFAULT)
+      ∷ column.A ≔ value numeric·minimum c
+      ∷ column.B ≔ value numeric·maximum c
+      ∷ column.C ≔ when (written numeric·step c) (value step·value (child numeric·step c))
+      ∷ column.D ≔ when default (value default·value (child numeric·default c))
+      ∷ [])
+      (mark (numeralAt numeric·maximum c)) (when default (mark (numeralAt default·value (child numeric·default c)))))
       -- oneof HEAD , [flags = FL ,] option+ endoneof ;
-      ∷ question code.ONE-OF parent (child 1 c) (flags (child 3 c)) 0 0 0 0 p 0 0
+      ∷ question code.ONE-OF parent p (child oneof·head c) (column.FLAGS ≔ flags (child oneof·flags c) ∷ []) 0 0
       -- suppressif, grayoutif or disableif, expression ; item* endif ;
-      ∷ plain (columns code.SUPPRESS-IF parent 0 0 0 0 0 0 0 0 0 p)
-      ∷ plain (columns code.GRAY-OUT-IF parent 0 0 0 0 0 0 0 0 0 p)
-      ∷ plain (columns code.DISABLE-IF parent 0 0 0 0 0 0 0 0 0 p)
+      ∷ plain (rowWith code.SUPPRESS-IF parent p [])
+      ∷ plain (rowWith code.GRAY-OUT-IF parent p [])
+      ∷ plain (rowWith code.DISABLE-IF parent p [])
       ∷ [])
       i (plain [])
 
   -- option text = STR , value = N , flags = (N or DEFAULT) ;
   abbrev pub option : ℕ → Trees → Draft
   option parent c =
-      let default = eqb (chosen 11 c) 1 in
+      let default = eqb (chosen option·flags c) 1 in
       record {
-        row = columns code.OPTION parent 0 (string 3 c) 0 (when default flag.OPTION-DEFAULT) (value 7 c) 0 0 0 0 (placeAt 0 c);
+        row =
+            rowWith code.OPTION parent (placeAt 0 c) (
+            column.FIRST ≔ string option·text c
+            ∷ column.FLAGS ≔ when default flag.OPTION-DEFAULT
+            ∷ column.A ≔ value option·value c
+            ∷ []);
         ownAt = 0;
-        limitAt = mark (numeralAt 7 c);
-        defaultAt = when default (mark (placeAt 0 (child 11 c)));
+        limitAt = mark (numeralAt option·value c);
+        defaultAt = when default (mark (placeAt 0 (child option·flags c)));
       }
 
   -- rule NAME , expression endrule ; with n rules before it
   abbrev pub ruleDraft : ℕ → ℕ → Trees → Draft
-  ruleDraft parent n c = plain (columns code.RULE parent (suc n) 0 0 0 0 0 0 0 (mark (placeAt 1 c)) (placeAt 0 c))
+  ruleDraft parent n c = plain (rowWith code.RULE parent (placeAt 0 c) (column.OWN ≔ suc n ∷ column.NAME ≔ mark (placeAt rule·name c) ∷ []))
 
   -- form formid = N , title = STR ; (item or rule)* endform ;
   abbrev pub form : ℕ → Trees → Draft
   form parent c =
-      record { row = columns code.FORM parent (value 3 c) (string 7 c) 0 0 0 0 0 0 0 (placeAt 0 c); ownAt = mark (numeralAt 3 c); limitAt = 0; defaultAt = 0 }
+      record {
+        row = rowWith code.FORM parent (placeAt 0 c) (column.OWN ≔ value form·number c ∷ column.FIRST ≔ string form·title c ∷ []);
+        ownAt = mark (numeralAt form·number c);
+        limitAt = 0;
+        defaultAt = 0;
+      }
 
   -- the lowest bits of the n-th tree's value
   abbrev pub bits : ℕ → ℕ → Trees → ℕ
@@ -129,25 +164,32 @@ module _ (number-at : ℕ → ℕ) where
 
   -- GUID: { H8 , H4 , H4 , { eight H2 with commas between } }, or the same without the inner braces. Its 32, 16 and 16 bits, first highest
   abbrev pub guidHigh : Trees → ℕ
-  guidHigh g = bits 32 1 g * 2 ^ 32 + bits 16 3 g * 2 ^ 16 + bits 16 5 g
+  guidHigh g = bits 32 guid·first g * 2 ^ 32 + bits 16 guid·second g * 2 ^ 16 + bits 16 guid·third g
 
   abbrev pub guidBytes : Trees → Trees
-  guidBytes g = elim (eqb (chosen 7 g) 0) [ true ↦ child 1 (child 7 g) | false ↦ child 0 (child 7 g) ]
+  guidBytes g = let end = child guid·end g in elim (eqb (chosen guid·end g) 0) [ true ↦ child guid-end·braced end | false ↦ child guid-end·bare end ]
 
   -- its eight bytes, first highest
   abbrev pub guidLow : Trees → ℕ
   guidLow e =
-      bits 8 0 e * 2 ^ 56 + bits 8 2 e * 2 ^ 48 + bits 8 4 e * 2 ^ 40 + bits 8 6 e * 2 ^ 32 + bits 8 8 e * 2 ^ 24 + bits 8 10 e * 2 ^ 16 + bits 8 12 e * 2 ^ 8 + bits 8 14 e
+      bits 8 (eight·byte 0) e * 2 ^ 56 + bits 8 (eight·byte 1) e * 2 ^ 48 + bits 8 (eight·byte 2) e * 2 ^ 40 + bits 8 (eight·byte 3) e * 2 ^ 32
+      + bits 8 (eight·byte 4) e * 2 ^ 24 + bits 8 (eight·byte 5) e * 2 ^ 16 + bits 8 (eight·byte 6) e * 2 ^ 8 + bits 8 (eight·byte 7) e
 
   -- formset guid = GUID , title = STR , help = STR , form+ endformset ;
   abbrev pub formSet : Trees → Draft
   formSet c =
-      plain (columns code.FORM-SET 0 0 (string 7 c) (string 11 c) 0 (guidHigh (child 3 c)) (guidLow (guidBytes (child 3 c))) 0 0 0 (placeAt 0 c))
+      let guid = child formset·guid c in
+      plain (rowWith code.FORM-SET 0 (placeAt 0 c) (
+      column.FIRST ≔ string formset·title c
+      ∷ column.SECOND ≔ string formset·help c
+      ∷ column.A ≔ guidHigh guid
+      ∷ column.B ≔ guidLow (guidBytes guid)
+      ∷ []))
 
   -- ---- expressions: operands before operator; a reference's number is found later, a written one stands already
 
   abbrev pub operand : ℕ → ℕ → ℕ → ℕ → ℕ → Draft
-  operand parent code a place at = record { row = columns code parent 0 0 0 0 a 0 0 0 0 place; ownAt = at; limitAt = 0; defaultAt = 0 }
+  operand parent code a place at = record { row = rowWith code parent place (column.A ≔ a ∷ []); ownAt = at; limitAt = 0; defaultAt = 0 }
 
   abbrev pub expressionRows : ℕ → Expression → List Draft
   expressionRows parent (number p) = operand parent code.NUMBER (number-at p) p 0 ∷ []
@@ -169,14 +211,14 @@ module _ (number-at : ℕ → ℕ) where
 
   -- suppressif, grayoutif and disableif, the last three alternatives of an item, have an expression
   abbrev pub condition : ℕ → ℕ → Trees → List Draft
-  condition at i c = elim (ltb 6 i) [ true ↦ expressionRows at (expression (child 1 c)) | false ↦ [] ]
+  condition at i c = elim (ltb 6 i) [ true ↦ expressionRows at (expression (child condition·expression c)) | false ↦ [] ]
 
   -- a tree's own rows, a condition's and a rule's with their expression: the parent, the row's number, the rules before
   abbrev pub ownRows : ℕ → ℕ → ℕ → ℕ → Own
   ownRows parent at n A =
       otherwise A <item> (λ i c. item parent i c ∷ condition at i c)
       (otherwise A <option> (λ i c. option parent c ∷ [])
-      (otherwise A <rule> (λ i c. ruleDraft parent n c ∷ expressionRows at (expression (child 3 c)))
+      (otherwise A <rule> (λ i c. ruleDraft parent n c ∷ expressionRows at (expression (child rule·expression c)))
       (otherwise A <form> (λ i c. form parent c ∷ [])
       (otherwise A <source> (λ i c. formSet c ∷ [])
       (λ i c. [])))))

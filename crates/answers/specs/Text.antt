@@ -14,6 +14,7 @@ use Rattle.rows.specs.Flags as flag
 use Rattle.ll1.specs.Trees.{Trees, nil, leaf, node}
 use Rattle.grammar.specs.Rules.{<rule>, <item>, <option>, <form>, <source>}
 use Rattle.grammar.specs.Parts.{child, placeAt}
+use Rattle.grammar.specs.Positions.{condition·expression, rule·expression}
 use Rattle.answers.specs.Expression.{Expression, number, constant, question-named, question-numbered, rule-named, negation, binary, level, operatorClass, constantClass, expression}
 
 -- ---- words
@@ -235,7 +236,7 @@ module _ (rowAt : ℕ → List ℕ) where
   rest i c within =
       elim (ltb i 6) [
         | true ↦ []
-        | false ↦ elim (eqb i 6) [ true ↦ within ++ words "endoneof ;" | false ↦ inner 1 c ++ words ";" ++ within ++ words "endif ;" ]
+        | false ↦ elim (eqb i 6) [ true ↦ within ++ words "endoneof ;" | false ↦ inner condition·expression c ++ words ";" ++ within ++ words "endif ;" ]
       ]
 
   -- the words of a tree of the rule A and the alternative i, of which `within` are those of the trees c under it
@@ -249,7 +250,7 @@ module _ (rowAt : ℕ → List ℕ) where
   around A =
       otherwise A <source> (λ i c within. start c ++ within ++ words "endformset ;")
       (otherwise A <form> (λ i c within. start c ++ within ++ words "endform ;")
-      (otherwise A <rule> (λ i c within. start c ++ inner 3 c ++ words "endrule ;")
+      (otherwise A <rule> (λ i c within. start c ++ inner rule·expression c ++ words "endrule ;")
       (otherwise A <item> (λ i c within. start c ++ rest i c within)
       (otherwise A <option> (λ i c within. start c)
       (λ i c within. within)))))

@@ -73,7 +73,7 @@ module _ {d : Draft} (v : Fits d) where
   unfolding encoded decoded
   decoded-encoded =
       let r = d .row in
-      let long : column.FLAGS < length r = omega (arith, v .twelve) in
+      let long : column.FLAGS < length r = omega (arith, v .whole) in
       let a = withMark (cell column.FIRST d) (d .ownAt) in
       let b = withMark (cell column.SECOND d) (d .limitAt) in
       let c = withMark (cell column.FLAGS d) (d .defaultAt) in
@@ -93,7 +93,7 @@ module _ {d : Draft} (v : Fits d) where
 
   pub length-encoded : length (encoded d) ≡ column.ROW
   unfolding encoded
-  length-encoded = simp length-set (v .twelve)
+  length-encoded = simp length-set (v .whole)
 
   -- a cell without a mark stands as it is
   pub cell-encoded : (c : ℕ) → unmarked c ≡ true → getD (encoded d) c 0 ≡ cell c d
@@ -128,7 +128,7 @@ set-decoded r c v u = rw (first-beside r c v u, second-beside r c v u, flags-bes
 pub sound-fits : {d : Draft} → Sound d → Fits d
 sound-fits s =
     record {
-      twelve = s .twelve;
+      whole = s .whole;
       first = s .first;
       second = s .second;
       flags = s .flags;

@@ -8,9 +8,9 @@ use Rattle.rows.specs.Draft.{HALF}
 use Rattle.answers.specs.Rows.{Draft}
 use Rattle.answers.specs.Stages.{cell}
 
--- it has twelve columns; what shares a cell with a mark, and the marks, fit half a cell
+-- it has all columns of a row; what shares a cell with a mark, and the marks, fit half a cell
 pub record Fits (d : Draft) : Type 0 where
-  pub twelve : length (d .row) ≡ column.ROW
+  pub whole : length (d .row) ≡ column.ROW
   pub first : cell column.FIRST d < HALF
   pub second : cell column.SECOND d < HALF
   pub flags : cell column.FLAGS d < HALF

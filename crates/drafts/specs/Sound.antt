@@ -18,8 +18,8 @@ MARKS = 131072
 
 -- a row of which every number is in its place
 pub record Sound (d : Draft) : Type 0 where
-  -- it has twelve columns; those that hold a mark too, and the marks, fit half a cell
-  pub twelve : length (d .row) ≡ column.ROW
+  -- it has all columns of a row; those that hold a mark too, and the marks, fit half a cell
+  pub whole : length (d .row) ≡ column.ROW
   pub first : cell column.FIRST d < HALF
   pub second : cell column.SECOND d < HALF
   pub flags : cell column.FLAGS d < HALF

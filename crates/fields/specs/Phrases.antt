@@ -7,8 +7,10 @@ use lib.Dec.{eqb}
 use lib.ListN.{getD}
 use Rattle.lexemes.specs.Classes as class
 use Rattle.rows.specs.Codes as code
+use Rattle.rows.specs.Columns as column
+use Rattle.rows.specs.Cells.{Entry, _≔_}
 use Rattle.rows.specs.Flags as flag
-use Rattle.answers.specs.Rows.{Draft, plain, columns, operand}
+use Rattle.answers.specs.Rows.{Draft, plain, rowWith, operand}
 
 -- the entries by their number, from 0 on; one that there is not is 0
 abbrev pub kept : List ℕ → ℕ → ℕ
@@ -20,11 +22,11 @@ setIf entry bit = cond (eqb entry 0) 0 bit
 
 -- rule NAME , expression endrule ; with its own number and the mark of its name
 abbrev pub ruleDraft : ℕ → ℕ → ℕ → ℕ → Draft
-ruleDraft parent place own name = plain (columns code.RULE parent own 0 0 0 0 0 0 0 name place)
+ruleDraft parent place own name = plain (rowWith code.RULE parent place (column.OWN ≔ own ∷ column.NAME ≔ name ∷ []))
 
 -- ruleref ( NAME )
 abbrev pub ruleRefDraft : ℕ → ℕ → (ℕ → ℕ) → Draft
-ruleRefDraft parent place k = record { row = columns code.RULE-REF parent 0 0 0 0 0 0 0 0 0 place; ownAt = k 0; limitAt = 0; defaultAt = 0 }
+ruleRefDraft parent place k = record { row = rowWith code.RULE-REF parent place []; ownAt = k 0; limitAt = 0; defaultAt = 0 }
 
 -- the draft of a phrase from its parent, its place and its entries
 abbrev pub Drafting : Type 0
@@ -50,49 +52,82 @@ module _ (number-at : ℕ → ℕ) where
   -- form formid = N , title = STR ;
   abbrev pub formDraft : ℕ → ℕ → (ℕ → ℕ) → Draft
   formDraft parent place k =
-      record { row = columns code.FORM parent (markedValue (k 0)) (markedValue (k 1)) 0 0 0 0 0 0 0 place; ownAt = k 0; limitAt = 0; defaultAt = 0 }
+      record {
+        row = rowWith code.FORM parent place (column.OWN ≔ markedValue (k 0) ∷ column.FIRST ≔ markedValue (k 1) ∷ []);
+        ownAt = k 0;
+        limitAt = 0;
+        defaultAt = 0;
+      }
 
   -- subtitle text = STR ;
   abbrev pub subtitleDraft : ℕ → ℕ → (ℕ → ℕ) → Draft
-  subtitleDraft parent place k = plain (columns code.SUBTITLE parent 0 (markedValue (k 0)) 0 0 0 0 0 0 0 place)
+  subtitleDraft parent place k = plain (rowWith code.SUBTITLE parent place (column.FIRST ≔ markedValue (k 0) ∷ []))
 
   -- text help = STR , text = STR ;
   abbrev pub textDraft : ℕ → ℕ → (ℕ → ℕ) → Draft
-  textDraft parent place k = plain (columns code.TEXT parent 0 (markedValue (k 1)) (markedValue (k 0)) 0 0 0 0 0 0 place)
+  textDraft parent place k = plain (rowWith code.TEXT parent place (column.FIRST ≔ markedValue (k 1) ∷ column.SECOND ≔ markedValue (k 0) ∷ []))
 
   -- label N ;
   abbrev pub labelDraft : ℕ → ℕ → (ℕ → ℕ) → Draft
-  labelDraft parent place k = plain (columns code.LABEL parent (markedValue (k 0)) 0 0 0 0 0 0 0 0 place)
+  labelDraft parent place k = plain (rowWith code.LABEL parent place (column.OWN ≔ markedValue (k 0) ∷ []))
 
-  -- HEAD, from its four entries
-  abbrev pub questionDraft : ℕ → ℕ → ℕ → ℕ → ℕ → ℕ → ℕ → ℕ → ℕ → ℕ → ℕ → ℕ → ℕ → ℕ → Draft
-  questionDraft code parent place name id prompt help flags a b c d limit default =
-      record { row = columns code parent (markedValue id) (markedValue prompt) (markedValue help) flags a b c d name place; ownAt = id; limitAt = limit; defaultAt = default }
+  -- the row of a question from the four entries of its HEAD, with what else it holds
+  abbrev pub questionRow : ℕ → ℕ → ℕ → ℕ → ℕ → ℕ → ℕ → List Entry → List ℕ
+  questionRow code parent place name id prompt help entries =
+      rowWith code parent place (
+      column.OWN ≔ markedValue id
+      ∷ column.FIRST ≔ markedValue prompt
+      ∷ column.SECOND ≔ markedValue help
+      ∷ column.NAME ≔ name
+      ∷ entries)
+
+  abbrev pub questionDraft : List ℕ → ℕ → ℕ → ℕ → Draft
+  questionDraft row id limit default = record { row = row; ownAt = id; limitAt = limit; defaultAt = default }
 
   -- goto N , HEAD [, flags = FL] ;
   abbrev pub gotoDraft : ℕ → ℕ → (ℕ → ℕ) → Draft
   gotoDraft parent place k =
-      questionDraft code.GOTO parent place (k 1) (k 2) (k 3) (k 4) (k 5) (markedValue (k 0)) 0 0 0 (k 0) 0
+      questionDraft
+      (questionRow code.GOTO parent place (k 1) (k 2) (k 3) (k 4) (column.FLAGS ≔ k 5 ∷ column.A ≔ markedValue (k 0) ∷ []))
+      (k 2) (k 0) 0
 
   -- checkbox HEAD , [flags = FL ,] [default = TRUE or FALSE ,] endcheckbox ; the default keeps 2 for TRUE and 1 for FALSE
   abbrev pub checkboxDraft : ℕ → ℕ → (ℕ → ℕ) → Draft
   checkboxDraft parent place k =
-      questionDraft code.CHECKBOX parent place (k 0) (k 1) (k 2) (k 3) (k 4 % 256 + setIf (k 5) flag.HAS-DEFAULT) 0 0 0 (k 5 / 2) 0 0
+      questionDraft
+      (questionRow code.CHECKBOX parent place (k 0) (k 1) (k 2) (k 3) (
+      column.FLAGS ≔ (k 4 % 256 + setIf (k 5) flag.HAS-DEFAULT)
+      ∷ column.D ≔ (k 5 / 2)
+      ∷ []))
+      (k 1) 0 0
 
   -- numeric HEAD , [flags = FL ,] minimum = N , maximum = N , [step = N ,] [default = N ,] endnumeric ;
   abbrev pub numericDraft : ℕ → ℕ → (ℕ → ℕ) → Draft
   numericDraft parent place k =
-      questionDraft code.NUMERIC parent place (k 0) (k 1) (k 2) (k 3) (k 4 % 256 + setIf (k 8) flag.HAS-DEFAULT) (markedValue (k 5)) (markedValue (k 6)) (markedValue (k 7)) (markedValue (k 8)) (k 6) (k 8)
+      questionDraft
+      (questionRow code.NUMERIC parent place (k 0) (k 1) (k 2) (k 3) (
+      column.FLAGS ≔ (k 4 % 256 + setIf (k 8) flag.HAS-DEFAULT)
+      ∷ column.A ≔ markedValue (k 5)
+      ∷ column.B ≔ markedValue (k 6)
+      ∷ column.C ≔ markedValue (k 7)
+      ∷ column.D ≔ markedValue (k 8)
+      ∷ []))
+      (k 1) (k 6) (k 8)
 
   -- oneof HEAD , [flags = FL ,]
   abbrev pub oneOfDraft : ℕ → ℕ → (ℕ → ℕ) → Draft
-  oneOfDraft parent place k = questionDraft code.ONE-OF parent place (k 0) (k 1) (k 2) (k 3) (k 4) 0 0 0 0 0 0
+  oneOfDraft parent place k = questionDraft (questionRow code.ONE-OF parent place (k 0) (k 1) (k 2) (k 3) (column.FLAGS ≔ k 4 ∷ [])) (k 1) 0 0
 
   -- option text = STR , value = N , flags = (N or DEFAULT) ;
   abbrev pub optionDraft : ℕ → ℕ → (ℕ → ℕ) → Draft
   optionDraft parent place k =
       record {
-        row = columns code.OPTION parent 0 (markedValue (k 0)) 0 (setIf (k 2) flag.OPTION-DEFAULT) (markedValue (k 1)) 0 0 0 0 place;
+        row =
+            rowWith code.OPTION parent place (
+            column.FIRST ≔ markedValue (k 0)
+            ∷ column.FLAGS ≔ setIf (k 2) flag.OPTION-DEFAULT
+            ∷ column.A ≔ markedValue (k 1)
+            ∷ []);
         ownAt = 0;
         limitAt = k 1;
         defaultAt = k 2;
@@ -139,4 +174,10 @@ module _ (number-at : ℕ → ℕ) where
       bitsOf 8 (k 0) * 2 ^ 56 + bitsOf 8 (k 1) * 2 ^ 48 + bitsOf 8 (k 2) * 2 ^ 40 + bitsOf 8 (k 3) * 2 ^ 32 + bitsOf 8 (k 4) * 2 ^ 24 + bitsOf 8 (k 5) * 2 ^ 16 + bitsOf 8 (k 6) * 2 ^ 8 + bitsOf 8 (k 7)
 
   abbrev pub formSetDraft : ℕ → (ℕ → ℕ) → (ℕ → ℕ) → Draft
-  formSetDraft place high low = plain (columns code.FORM-SET 0 0 (markedValue (low 8)) (markedValue (low 9)) 0 (highOf high) (lowOf low) 0 0 0 place)
+  formSetDraft place high low =
+      plain (rowWith code.FORM-SET 0 place (
+      column.FIRST ≔ markedValue (low 8)
+      ∷ column.SECOND ≔ markedValue (low 9)
+      ∷ column.A ≔ highOf high
+      ∷ column.B ≔ lowOf low
+      ∷ []))

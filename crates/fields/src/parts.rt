@@ -9,8 +9,9 @@ use rows::columns::SECOND;
 use rows::draft::with_mark;
 use values::Value;
 ghost use mathlib.Core.Path.{_≡_};
+ghost use mathlib.Core.List.{[]};
 ghost use Rattle.grammar.specs.Source.{numberAt};
-ghost use Rattle.answers.specs.Rows.{columns};
+ghost use Rattle.answers.specs.Rows.{rowWith};
 ghost use Rattle.answers.specs.Drafts.{encoded};
 ghost use Rattle.fields.specs.Phrases.{markedValue, setIf};
 
@@ -30,7 +31,7 @@ pub fn value(src: &[u8], mark: u64) -> u64
 
 // A row of no more than its code, parent and place.
 pub fn plain_row(code: u64, parent: usize, place: usize) -> [u64; ROW]
-    ensures { λ r. ⌜ r ≡ columns code parent 0 0 0 0 0 0 0 0 0 place ⌝ }
+    ensures { λ r. ⌜ r ≡ rowWith code parent place [] ⌝ }
 {
     let mut r = [0; ROW];
     r[CODE] = code;

@@ -17,10 +17,10 @@ use rows::columns::ROW;
 use rows::columns::SECOND;
 use rows::flags::HAS_DEFAULT;
 ghost use mathlib.Core.Path.{_≡_};
+ghost use mathlib.Core.List.{[]};
 ghost use Rattle.grammar.specs.Source.{numberAt};
-ghost use Rattle.answers.specs.Rows.{columns};
 ghost use Rattle.answers.specs.Drafts.{encoded};
-ghost use Rattle.fields.specs.Phrases.{kept, markedValue, gotoDraft, checkboxDraft, numericDraft, oneOfDraft};
+ghost use Rattle.fields.specs.Phrases.{kept, questionRow, gotoDraft, checkboxDraft, numericDraft, oneOfDraft};
 
 // The row of a question with its HEAD.
 fn question_row(
@@ -33,7 +33,7 @@ fn question_row(
     prompt: u64,
     help: u64,
 ) -> [u64; ROW]
-    ensures { λ r. ⌜ r ≡ columns code parent (markedValue (numberAt (now (src .entry))) id) (markedValue (numberAt (now (src .entry))) prompt) (markedValue (numberAt (now (src .entry))) help) 0 0 0 0 0 name place ⌝ }
+    ensures { λ r. ⌜ r ≡ questionRow (numberAt (now (src .entry))) code parent place name id prompt help [] ⌝ }
 {
     let mut r = plain_row(code, parent, place);
     r[OWN] = value(src, id);

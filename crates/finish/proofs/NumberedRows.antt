@@ -52,7 +52,7 @@ module _ (d : Draft) (v : ℕ) where
   pub fits-with : Fits d → Fits (withCell column.OWN v d)
   fits-with f =
       record {
-        twelve = length-set (d .row) column.OWN v ∙ f .twelve;
+        whole = length-set (d .row) column.OWN v ∙ f .whole;
         first = rw (other-column column.FIRST (λ e. omega arith)) (f .first);
         second = rw (other-column column.SECOND (λ e. omega arith)) (f .second);
         flags = rw (other-column column.FLAGS (λ e. omega arith)) (f .flags);

@@ -3,6 +3,8 @@ pub mod Theorems
 -- Small texts of the grammar, and numbers in their places, by computation.
 pub mod Examples
 pub mod RangeExamples
+-- The parts of statements stand where their names say.
+mod Positions
 -- Laws for whoever walks by the grammar: the machine's equations, the levels of expressions, the alternatives, which rules are statements.
 pub mod Equations
 pub mod Levels

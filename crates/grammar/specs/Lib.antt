@@ -8,8 +8,9 @@ pub mod Source
 pub mod Derivation
 pub mod Lookahead
 pub mod Reading
--- Parts of a derivation: places, flags, numbers and their ranges.
+-- Parts of a derivation: where they stand, places, flags, numbers and their ranges.
 pub mod Parts
+pub mod Positions
 pub mod Places
 pub mod Flags
 pub mod Ranges

@@ -2,6 +2,7 @@
 -- Assumes nothing.
 use Prim.Native.Nat.{ℕ, zero, suc}
 use mathlib.Core.Bool.{Bool, true, false}
+use lib.Dec.{eqb}
 use Rattle.ll1.specs.Trees.{token, Trees, nil, leaf, node}
 
 -- the trees under the n-th tree
@@ -19,6 +20,10 @@ chosen zero (leaf t f) = 0
 chosen (suc n) (leaf t f) = chosen n f
 chosen zero (node A i c f) = i
 chosen (suc n) (node A i c f) = chosen n f
+
+-- the n-th tree is of a part in square brackets, and the part is there
+abbrev pub written : ℕ → Trees → Bool
+written n f = eqb (chosen n f) 1
 
 -- the place of the n-th tree, a leaf
 abbrev pub placeAt : ℕ → Trees → ℕ

@@ -21,7 +21,7 @@ use Rattle.answers.specs.Rows.{Draft}
 use Rattle.answers.specs.Stages.{cell, asks, refers, finds, ownOfFirst, ownNumbers, withNumbers, numberedRows, finished}
 use Rattle.answers.specs.Answer.{drafts}
 use Rattle.answers.specs.Text.{rowFirstAt}
-use Rattle.answers.proofs.Demand3.{rows-of-twelve}
+use Rattle.answers.proofs.Demand3.{rows-whole}
 use Rattle.answers.proofs.RowPlaces.{rows-by-place}
 use Rattle.answers.proofs.FoundRows.{finished-count}
 use Rattle.laid.proofs.Held.{RowHeld, Held, held-none, held-more}
@@ -86,7 +86,7 @@ module _ (s : List ℕ) (n : ℕ) (tree : Trees) where
   unfolding laid
   drafts-held derives =
       let ds = drafts s tree in
-      let all : rowsFrom table 0 (length (finished s ds)) ≡ finished s ds = rows-flat (rows-of-twelve s tree derives) _ in
+      let all : rowsFrom table 0 (length (finished s ds)) ≡ finished s ds = rows-flat (rows-whole s tree derives) _ in
       let rows : rowsFrom table 0 (length ds) ≡ finished s ds = rw (finished-count s ds) at all in
       all-held table found ds 0
       (ap (across column.CODE) rows ∙ finished-column column.CODE (λ q. omega arith) (λ q. omega arith) s ds)

@@ -52,7 +52,7 @@ module _ (s : List ℕ) (n : ℕ) (r : Answer) (t′ : List ℕ) (answer : told 
 
       pub rows-in-table : rowsFrom t′ 0 (length (finished s (drafts s tree))) ≡ finished s (drafts s tree)
       unfolding laid
-      rows-in-table = rw rows-exactly (rows-flat (Demand3.rows-of-twelve s tree (sound .derives)) _)
+      rows-in-table = rw rows-exactly (rows-flat (Demand3.rows-whole s tree (sound .derives)) _)
 
       -- "The i-th question without a written number gets the i-th smallest number, from 1 up, that no question writes, later lines included"
       pub numbers-in-table : Numbering (ownNumbers (drafts s tree)) (questionNumbers (rowsFrom t′ 0 (length (finished s (drafts s tree)))))

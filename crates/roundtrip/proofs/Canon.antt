@@ -1,14 +1,15 @@
 -- The shape of a derivation's resolved text: each statement made anew from its finished row, the lists of statements kept.
 -- Assumes nothing.
-use mathlib.Core.Path.{_≡_, refl, ap}
+use mathlib.Core.Path.{_≡_, refl, ap, sym, subst}
 use mathlib.Core.List.{List, [], _∷_, _++_}
 use mathlib.Core.Bool.{true, false}
 use Prim.Native.Nat.{ℕ, suc}
-use native.Mathlib.Omega.{arith}
 use lib.Dec.{eqb}
-use lib.ListN.{length, getD, take}
+use lib.ListN.{length, getD}
 use Rattle.lexemes.specs.Classes as class
 use Rattle.rows.specs.Columns as column
+use Rattle.rows.specs.Cells.{withoutPlaces}
+use Rattle.rows.proofs.ColumnLaws.{row-cells}
 use Rattle.rows.specs.Flags as flag
 use Rattle.ll1.specs.Trees.{token, Trees, nil, leaf, node}
 use Rattle.grammar.specs.Rules.{<source>, <form>*, <form>, <item-or-rule>*, <rule>, <item>, <option>*, <item>*, <option>}
@@ -106,20 +107,7 @@ module _ {A B : Type 0} {P : A → B → Type 0} where
   pairs-length no-pairs = refl
   pairs-length (pair h p) = ap suc (pairs-length p)
 
--- ---- a phrase is told by the first ten cells
+-- ---- a phrase is told without the places
 
-pub opening-ten : (r : List ℕ) → length r ≡ column.ROW → opening r ≡ opening (take 10 r)
-opening-ten (a ∷ b ∷ c ∷ d ∷ e ∷ f ∷ g ∷ h ∷ i ∷ j ∷ k ∷ l ∷ []) z = refl
-opening-ten [] z = absurd (omega arith)
-opening-ten (a ∷ []) z = absurd (omega arith)
-opening-ten (a ∷ b ∷ []) z = absurd (omega arith)
-opening-ten (a ∷ b ∷ c ∷ []) z = absurd (omega arith)
-opening-ten (a ∷ b ∷ c ∷ d ∷ []) z = absurd (omega arith)
-opening-ten (a ∷ b ∷ c ∷ d ∷ e ∷ []) z = absurd (omega arith)
-opening-ten (a ∷ b ∷ c ∷ d ∷ e ∷ f ∷ []) z = absurd (omega arith)
-opening-ten (a ∷ b ∷ c ∷ d ∷ e ∷ f ∷ g ∷ []) z = absurd (omega arith)
-opening-ten (a ∷ b ∷ c ∷ d ∷ e ∷ f ∷ g ∷ h ∷ []) z = absurd (omega arith)
-opening-ten (a ∷ b ∷ c ∷ d ∷ e ∷ f ∷ g ∷ h ∷ i ∷ []) z = absurd (omega arith)
-opening-ten (a ∷ b ∷ c ∷ d ∷ e ∷ f ∷ g ∷ h ∷ i ∷ j ∷ []) z = absurd (omega arith)
-opening-ten (a ∷ b ∷ c ∷ d ∷ e ∷ f ∷ g ∷ h ∷ i ∷ j ∷ k ∷ []) z = absurd (omega arith)
-opening-ten (a ∷ b ∷ c ∷ d ∷ e ∷ f ∷ g ∷ h ∷ i ∷ j ∷ k ∷ l ∷ m ∷ n) z = absurd (omega arith)
+pub opening-besides : (r : List ℕ) → length r ≡ column.ROW → opening r ≡ opening (withoutPlaces r)
+opening-besides r z = subst (λ q. opening q ≡ opening (withoutPlaces q)) (sym (row-cells r z)) refl

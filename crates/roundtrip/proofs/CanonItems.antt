@@ -5,6 +5,7 @@ use mathlib.Core.List.{List, [], _∷_, _++_, append-nil}
 use mathlib.Core.Bool.{false}
 use Prim.Native.Nat.{ℕ, _+_}
 use lib.Dec.{eqb}
+use lib.ListN.{set}
 use Rattle.rows.specs.Columns as column
 use Rattle.rows.specs.Flags as flag
 use Rattle.ll1.specs.Trees.{Trees, nil, Depth}
@@ -12,8 +13,7 @@ use Rattle.grammar.specs.Rules.{<item>, <option>}
 use Rattle.grammar.specs.Source.{numberAt}
 use Rattle.grammar.specs.Derivation.{tooDeep}
 use Rattle.grammar.specs.Parts.{placeAt}
-use Rattle.answers.specs.Rows.{Draft, columns}
-use Rattle.answers.specs.Stages as draft
+use Rattle.answers.specs.Rows.{Draft}
 use Rattle.answers.specs.Text.{opening, hasFlag}
 use Rattle.sound.proofs.Lists.{All, more}
 use Rattle.formulas.specs.Shapes.{spelling}
@@ -35,7 +35,7 @@ module _ {P : Draft → Type 0} where
 
 -- the row that is found
 abbrev pub rowOf : {look : ℕ → List ℕ} {d : Draft} → Settled look d → List ℕ
-rowOf {look} {d} s = columns (draft.cell column.CODE d) (draft.cell column.PARENT d) (s .own) (draft.cell column.FIRST d) (draft.cell column.SECOND d) (draft.cell column.FLAGS d) (s .a) (draft.cell column.B d) (draft.cell column.C d) (draft.cell column.D d) (draft.cell column.NAME d) (draft.cell column.PLACE d)
+rowOf {d = d} s = set (set (d .row) column.OWN (s .own)) column.A (s .a)
 
 module _ (t : List ℕ) (look look′ : ℕ → List ℕ) (source : ℕ → ℕ) where
   -- no statement under it
@@ -58,7 +58,7 @@ module _ (t : List ℕ) (look look′ : ℕ → List ℕ) (source : ℕ → ℕ)
               record {
                 rows = pair m (k .rows);
                 count = ap (λ x. 0 + x + 0) (k .count);
-                again = λ h. ap (λ ws. ws ++ []) (open-again t look look′ source m (head-of h) s);
+                again = λ h. ap (λ ws. ws ++ []) (open-again t look look′ source m (head-of h));
               };
         }
 
@@ -74,7 +74,7 @@ module _ (t : List ℕ) (look look′ : ℕ → List ℕ) (source : ℕ → ℕ)
               record {
                 rows = pair m (k .rows);
                 count = ap (λ x. 0 + x + 0) (k .count);
-                again = λ h. ap (λ ws. ws ++ []) (open-again t look look′ source m (head-of h) s);
+                again = λ h. ap (λ ws. ws ++ []) (open-again t look look′ source m (head-of h));
               };
         }
 
@@ -90,7 +90,7 @@ module _ (t : List ℕ) (look look′ : ℕ → List ℕ) (source : ℕ → ℕ)
               record {
                 rows = pair m (k .rows);
                 count = ap (λ x. 0 + x + 0) (k .count);
-                again = λ h. ap (λ ws. ws ++ []) (open-again t look look′ source m (head-of h) s);
+                again = λ h. ap (λ ws. ws ++ []) (open-again t look look′ source m (head-of h));
               };
         }
 
@@ -106,7 +106,7 @@ module _ (t : List ℕ) (look look′ : ℕ → List ℕ) (source : ℕ → ℕ)
               record {
                 rows = pair m (k .rows);
                 count = ap (λ x. 0 + x + 0) (k .count);
-                again = λ h. ap (λ ws. ws ++ []) (open-again t look look′ source m (head-of h) s);
+                again = λ h. ap (λ ws. ws ++ []) (open-again t look look′ source m (head-of h));
               };
         }
 
@@ -122,7 +122,7 @@ module _ (t : List ℕ) (look look′ : ℕ → List ℕ) (source : ℕ → ℕ)
               record {
                 rows = pair m (k .rows);
                 count = ap (λ x. 0 + x + 0) (k .count);
-                again = λ h. ap (λ ws. ws ++ []) (open-again t look look′ source m (head-of h) s);
+                again = λ h. ap (λ ws. ws ++ []) (open-again t look look′ source m (head-of h));
               };
         }
 
@@ -138,7 +138,7 @@ module _ (t : List ℕ) (look look′ : ℕ → List ℕ) (source : ℕ → ℕ)
               record {
                 rows = pair m (k .rows);
                 count = ap (λ x. 0 + x + 0) (k .count);
-                again = λ h. ap (λ ws. ws ++ []) (open-again t look look′ source m (head-of h) s);
+                again = λ h. ap (λ ws. ws ++ []) (open-again t look look′ source m (head-of h));
               };
         }
 
@@ -154,6 +154,6 @@ module _ (t : List ℕ) (look look′ : ℕ → List ℕ) (source : ℕ → ℕ)
               record {
                 rows = pair m (k .rows);
                 count = ap (λ x. 0 + x + 0) (k .count);
-                again = λ h. open-again t look look′ source m (head-of h) s;
+                again = λ h. open-again t look look′ source m (head-of h);
               };
         }

@@ -9,6 +9,7 @@ use lib.Dec.{eqb}
 use lib.ListN.{length, length-set}
 use Rattle.rows.specs.Codes as code
 use Rattle.rows.specs.Columns as column
+use Rattle.rows.proofs.ColumnLaws.{length-without-places}
 use Rattle.ll1.specs.Trees.{Trees, nil, node, Symbol, nonterminal, Depth, Fits, fits-node}
 use Rattle.lexemes.proofs.Lists.{either}
 use Rattle.grammar.specs.Rules.{<rule>}
@@ -25,8 +26,8 @@ use Rattle.formulas.proofs.Fitted.{to-fits, over-fitted}
 use Rattle.grammar.proofs.Statements.{states}
 use Rattle.roundtrip.proofs.Core.{core, within, Told, told}
 use Rattle.roundtrip.proofs.Expressions.{all-parts}
-use Rattle.again.specs.Matches.{Settled, final, Match, Pairs, no-pairs}
-use Rattle.roundtrip.proofs.Canon.{under, canon, Found, pairs-append, pairs-length, opening-ten}
+use Rattle.again.specs.Matches.{final, Match, Pairs, no-pairs}
+use Rattle.roundtrip.proofs.Canon.{under, canon, Found, pairs-append, pairs-length, opening-besides}
 
 -- ---- words
 
@@ -62,10 +63,13 @@ module _ (t : List ℕ) (look look′ : ℕ → List ℕ) (source : ℕ → ℕ)
   final-length : (d : Draft) → length (d .row) ≡ column.ROW → length (final t d) ≡ column.ROW
   final-length d h = either (is code.RULE-REF d) (λ e. rw e (length-set (d .row) column.A (numberAt t (placeOf (d .ownAt))) ∙ h)) (λ e. rw e h)
 
-  pub open-again : {d′ d : Draft} → Match t look d′ d → Found t look′ d′ → Settled look d → opening (look′ (cell column.PLACE d′)) ≡ opening (look (cell column.PLACE d))
-  open-again {d′} {d} m f s =
-      ap opening f ∙ opening-ten (final t d′) (final-length d′ (m .twelve)) ∙ ap opening (m .same)
-      ∙ sym (opening-ten (look (cell column.PLACE d)) (ap length (s .is-row)))
+  pub open-again : {d′ d : Draft} → Match t look d′ d → Found t look′ d′ → opening (look′ (cell column.PLACE d′)) ≡ opening (look (cell column.PLACE d))
+  open-again {d′} {d} m f =
+      let r = final t d′ in
+      let q = look (cell column.PLACE d) in
+      let whole = final-length d′ (m .whole) in
+      let whole′ = sym (length-without-places q) ∙ sym (ap length (m .same)) ∙ length-without-places r ∙ whole in
+      ap opening f ∙ opening-besides r whole ∙ ap opening (m .same) ∙ sym (opening-besides q whole′)
 
   -- ---- trees T of the text beside one another, and trees f of the source
 

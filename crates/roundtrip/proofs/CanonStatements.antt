@@ -143,7 +143,7 @@ module _ (t : List ℕ) (look look′ : ℕ → List ℕ) (source : ℕ → ℕ)
               record {
                 rows = pair m (k .rows);
                 count = ap (λ z. 0 + z + 0) (k .count);
-                again = λ h. ap₂ (λ a b. a ++ (b ++ words "endoneof ;")) (open-again t look look′ source m (head-of h) s) (k .again (tail-of h));
+                again = λ h. ap₂ (λ a b. a ++ (b ++ words "endoneof ;")) (open-again t look look′ source m (head-of h)) (k .again (tail-of h));
               };
         }
       where
@@ -213,7 +213,7 @@ module _ (t : List ℕ) (look look′ : ℕ → List ℕ) (source : ℕ → ℕ)
           again = λ h.
               let v = own-found T at n pm h in
               let p = printed-again at (expression (child 1 T)) (expression (child 1 c)) rel (tail-of (v .0)) in
-              λ j. open-again t look look′ source m (head-of (v .0)) s j ++ (p j ++ words ";" ++ z .again (v .1) j ++ words "endif ;");
+              λ j. open-again t look look′ source m (head-of (v .0)) j ++ (p j ++ words ";" ++ z .again (v .1) j ++ words "endif ;");
         }
 
   module _ (q g : ℕ) (l : suc q ≤ 16) (c : Trees) (b : g + nest 9 (formula look (expression (child 1 c))) ≤ 32) (parent at n : ℕ) where
@@ -349,7 +349,7 @@ module _ (t : List ℕ) (look look′ : ℕ → List ℕ) (source : ℕ → ℕ)
                 again = λ h.
                     let v = own-found T at n pm h in
                     let p = printed-again at (expression (child 3 T)) (expression (child 3 c)) rel (tail-of (v .0)) in
-                    λ j. open-again t look look′ source m (head-of (v .0)) s j ++ p j ++ words "endrule ;";
+                    λ j. open-again t look look′ source m (head-of (v .0)) j ++ p j ++ words "endrule ;";
               };
         }
       where
@@ -383,7 +383,7 @@ module _ (t : List ℕ) (look look′ : ℕ → List ℕ) (source : ℕ → ℕ)
               record {
                 rows = pair m (k .rows);
                 count = ap (λ z. 0 + z + 0) (k .count);
-                again = λ h. ap₂ (λ a b. a ++ b ++ words "endform ;") (open-again t look look′ source m (head-of h) s) (k .again (tail-of h));
+                again = λ h. ap₂ (λ a b. a ++ b ++ words "endform ;") (open-again t look look′ source m (head-of h)) (k .again (tail-of h));
               };
         }
       where
@@ -423,7 +423,7 @@ module _ (t : List ℕ) (look look′ : ℕ → List ℕ) (source : ℕ → ℕ)
               record {
                 rows = pair m (k .rows);
                 count = ap (λ z. 0 + z + 0) (k .count);
-                again = λ h. ap₂ (λ a b. a ++ b ++ words "endformset ;") (open-again t look look′ source m (head-of h) s) (k .again (tail-of h));
+                again = λ h. ap₂ (λ a b. a ++ b ++ words "endformset ;") (open-again t look look′ source m (head-of h)) (k .again (tail-of h));
               };
         }
       where

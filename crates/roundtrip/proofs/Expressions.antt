@@ -6,17 +6,18 @@ use mathlib.Core.Bool.{Bool, true, false, _||_}
 use Prim.Native.Nat.{ℕ, _-_}
 use native.Mathlib.Omega.{arith}
 use lib.Dec.{eqb}
-use lib.ListN.{getD, take, drop}
+use lib.ListN.{getD, drop}
 use Rattle.lexemes.specs.Words as words
 use Rattle.rows.specs.Codes as code
 use Rattle.rows.specs.Codes.{member, questions, isQuestion}
 use Rattle.rows.specs.Columns as column
+use Rattle.rows.specs.Cells.{_≔_, withoutPlaces}
 use Rattle.ll1.proofs.Basics.{clash}
 use Rattle.grammar.specs.Source.{numberAt}
 use Rattle.answers.specs.Expression.{Operator, or, and, bit-or, bit-and, equal, not-equal, less, less-equal, greater, greater-equal, shift-left, shift-right, add, subtract, multiply, divide, modulo, operatorCode}
 use Rattle.answers.specs.Expression.{Constant, true′, false′, zero′, one′, ones′, undefined′, constantCode}
 use Rattle.answers.specs.Expression.{Expression, number, constant, question-named, question-numbered, rule-named, negation, binary}
-use Rattle.answers.specs.Rows.{Draft, columns, operand, expressionRows}
+use Rattle.answers.specs.Rows.{Draft, rowWith, operand, expressionRows}
 use Rattle.grammar.specs.Parts.{mark}
 use Rattle.answers.specs.Text.{held}
 use Rattle.sound.proofs.Lists.{All, none, more}
@@ -86,11 +87,11 @@ module _ (t : List ℕ) (look : ℕ → List ℕ) (source : ℕ → ℕ) (at : �
   -- a row that names nothing
   dull-match : (k a′ a p′ p : ℕ) → Dull k → Settled look (operand source at k a p 0) → a′ ≡ held look p → Match t look (operand N at k a′ p′ 0) (operand source at k a p 0)
   dull-match k a′ a p′ p d s h =
-      let e : look p ≡ columns k at 0 0 0 0 (s .a) 0 0 0 0 p = s .is-row ∙ (λ j. columns k at (s .own-same (d .asks-not) j) 0 0 0 (s .a) 0 0 0 0 p) in
-      let n : final t (operand N at k a′ p′ 0) ≡ columns k at 0 0 0 0 a′ 0 0 0 0 p′ = rw (d .no-rule-ref) in
+      let e : look p ≡ rowWith k at p (column.A ≔ s .a ∷ []) = s .is-row ∙ (λ j. rowWith k at p (column.OWN ≔ s .own-same (d .asks-not) j ∷ column.A ≔ s .a ∷ [])) in
+      let n : final t (operand N at k a′ p′ 0) ≡ rowWith k at p′ (column.A ≔ a′ ∷ []) = rw (d .no-rule-ref) in
       record {
-        twelve = refl;
-        same = ap (take 10) n ∙ (λ j. take 10 (columns k at 0 0 0 0 (h j) 0 0 0 0 0)) ∙ subst (λ r. take 10 (columns k at 0 0 0 0 (getD r column.A 0) 0 0 0 0 0) ≡ take 10 r) (sym e) refl;
+        whole = refl;
+        same = ap withoutPlaces n ∙ (λ j. withoutPlaces (rowWith k at 0 (column.A ≔ h j ∷ []))) ∙ subst (λ r. withoutPlaces (rowWith k at 0 (column.A ≔ getD r column.A 0 ∷ [])) ≡ withoutPlaces r) (sym e) refl;
         code-same = refl;
         default = refl;
         question = false-true (isQuestion k) (d .asks-not);
@@ -107,10 +108,10 @@ module _ (t : List ℕ) (look : ℕ → List ℕ) (source : ℕ → ℕ) (at : �
   question-match : (a p q′ p′ q : ℕ) → Settled look (operand source at code.QUESTION-REF a p (mark q)) → N q′ ≡ held look p → Match t look (operand N at code.QUESTION-REF (N q′) p′ (mark q′)) (operand source at code.QUESTION-REF a p (mark q))
   unfolding isQuestion member questions
   question-match a p q′ p′ q s h =
-      let e : look p ≡ columns code.QUESTION-REF at 0 0 0 0 (s .a) 0 0 0 0 p = s .is-row ∙ (λ j. columns code.QUESTION-REF at (s .own-same refl j) 0 0 0 (s .a) 0 0 0 0 p) in
+      let e : look p ≡ rowWith code.QUESTION-REF at p (column.A ≔ s .a ∷ []) = s .is-row ∙ (λ j. rowWith code.QUESTION-REF at p (column.OWN ≔ s .own-same refl j ∷ column.A ≔ s .a ∷ [])) in
       record {
-        twelve = refl;
-        same = (λ j. take 10 (columns code.QUESTION-REF at 0 0 0 0 (h j) 0 0 0 0 0)) ∙ subst (λ r. take 10 (columns code.QUESTION-REF at 0 0 0 0 (getD r column.A 0) 0 0 0 0 0) ≡ take 10 r) (sym e) refl;
+        whole = refl;
+        same = (λ j. withoutPlaces (rowWith code.QUESTION-REF at 0 (column.A ≔ h j ∷ []))) ∙ subst (λ r. withoutPlaces (rowWith code.QUESTION-REF at 0 (column.A ≔ getD r column.A 0 ∷ [])) ≡ withoutPlaces r) (sym e) refl;
         code-same = refl;
         default = refl;
         question = false-true false refl;
@@ -124,10 +125,10 @@ module _ (t : List ℕ) (look : ℕ → List ℕ) (source : ℕ → ℕ) (at : �
   rule-ref-match : (p q′ p′ q : ℕ) → Settled look (operand source at code.RULE-REF 0 p (mark q)) → N q′ ≡ held look p → words.word (drop q′ t) ≡ ruleWord (N q′) → Match t look (operand N at code.RULE-REF 0 p′ (mark q′)) (operand source at code.RULE-REF 0 p (mark q))
   unfolding isQuestion member questions
   rule-ref-match p q′ p′ q s h w =
-      let e : look p ≡ columns code.RULE-REF at 0 0 0 0 (s .a) 0 0 0 0 p = s .is-row ∙ (λ j. columns code.RULE-REF at (s .own-same refl j) 0 0 0 (s .a) 0 0 0 0 p) in
+      let e : look p ≡ rowWith code.RULE-REF at p (column.A ≔ s .a ∷ []) = s .is-row ∙ (λ j. rowWith code.RULE-REF at p (column.OWN ≔ s .own-same refl j ∷ column.A ≔ s .a ∷ [])) in
       record {
-        twelve = refl;
-        same = (λ j. take 10 (columns code.RULE-REF at 0 0 0 0 (N (back q′ j)) 0 0 0 0 0)) ∙ (λ j. take 10 (columns code.RULE-REF at 0 0 0 0 (h j) 0 0 0 0 0)) ∙ subst (λ r. take 10 (columns code.RULE-REF at 0 0 0 0 (getD r column.A 0) 0 0 0 0 0) ≡ take 10 r) (sym e) refl;
+        whole = refl;
+        same = (λ j. withoutPlaces (rowWith code.RULE-REF at 0 (column.A ≔ N (back q′ j) ∷ []))) ∙ (λ j. withoutPlaces (rowWith code.RULE-REF at 0 (column.A ≔ h j ∷ []))) ∙ subst (λ r. withoutPlaces (rowWith code.RULE-REF at 0 (column.A ≔ getD r column.A 0 ∷ [])) ≡ withoutPlaces r) (sym e) refl;
         code-same = refl;
         default = refl;
         question = false-true false refl;

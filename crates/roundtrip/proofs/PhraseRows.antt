@@ -1,7 +1,7 @@
 -- The row of a tree over a statement's shape has the cells that the shape was made from.
 -- Assumes nothing.
 use mathlib.Core.Path.{_≡_, refl, ap, ap₂, _∙_}
-use mathlib.Core.List.{List}
+use mathlib.Core.List.{List, [], _∷_}
 use mathlib.Core.Bool.{Bool, true, false, _&&_, _||_}
 use Prim.Native.Nat.{ℕ, suc, _+_, _*_, _/_, _%_, _^_}
 use native.Mathlib.Omega.{arith}
@@ -13,12 +13,13 @@ use Rattle.values.specs.Numbers.{valueAt}
 use Rattle.lexemes.specs.Words as words
 use Rattle.rows.specs.Codes as code
 use Rattle.rows.specs.Columns as column
+use Rattle.rows.specs.Cells.{Entry, _≔_}
 use Rattle.rows.specs.Flags as flag
 use Rattle.ll1.specs.Trees.{Trees}
 use Rattle.grammar.specs.Rules.{<flag>}
 use Rattle.grammar.specs.Source.{numberAt}
 use Rattle.grammar.specs.Parts.{child, chosen, placeAt}
-use Rattle.answers.specs.Rows.{Draft, columns, numeralAt, value, string, writtenNumber, writtenMark, nameMark, item, option, form, guidHigh, guidLow, guidBytes, formSet}
+use Rattle.answers.specs.Rows.{Draft, rowWith, numeralAt, value, string, writtenNumber, writtenMark, nameMark, item, option, form, guidHigh, guidLow, guidBytes, formSet}
 use Rattle.grammar.specs.Parts.{mark, when}
 use Rattle.grammar.specs.Flags.{hasFlag, flags}
 use Rattle.formulas.specs.Shapes.{decimal, hex, ruleWord, Shape, s-nil, s-leaf, s-node, taken, read-sign, read-decimal, read-rule, read-hex, Over, over-nil, over-leaf, over-node}
@@ -59,6 +60,11 @@ other-flags-in false true true = refl
 other-flags-in false true false = refl
 other-flags-in false false true = refl
 other-flags-in false false false = refl
+
+-- the row of a question by its HEAD's number, prompt, help and name, with what else it holds
+abbrev pub questionRow : (k parent place own first second name : ℕ) → List Entry → List ℕ
+questionRow k parent place own first second name entries =
+    rowWith k parent place (column.OWN ≔ own ∷ column.FIRST ≔ first ∷ column.SECOND ≔ second ∷ column.NAME ≔ name ∷ entries)
 
 pub marked : (p : ℕ) → ltb 0 (mark p) ≡ true
 marked p = lt-ltb 0 (suc p) (omega arith)
@@ -129,49 +135,49 @@ module _ (t : List ℕ) where
 
   -- ---- items that ask nothing
 
-  pub subtitle-is : (r : List ℕ) (parent : ℕ) {T : Trees} → Over t T (subtitleUnder r) → item N parent 0 T .row ≡ columns code.SUBTITLE parent 0 (cell column.FIRST r) 0 0 0 0 0 0 0 (placeAt 0 T)
+  pub subtitle-is : (r : List ℕ) (parent : ℕ) {T : Trees} → Over t T (subtitleUnder r) → item N parent 0 T .row ≡ rowWith code.SUBTITLE parent (placeAt 0 T) (column.FIRST ≔ cell column.FIRST r ∷ [])
   subtitle-is r parent {T} o =
       let h = string-is (cell column.FIRST r) (over-part 3 o) in
-      λ i. columns code.SUBTITLE parent 0 (h i) 0 0 0 0 0 0 0 (placeAt 0 T)
+      λ i. rowWith code.SUBTITLE parent (placeAt 0 T) (column.FIRST ≔ h i ∷ [])
 
-  pub text-is : (r : List ℕ) (parent : ℕ) {T : Trees} → Over t T (textUnder r) → item N parent 1 T .row ≡ columns code.TEXT parent 0 (cell column.FIRST r) (cell column.SECOND r) 0 0 0 0 0 0 (placeAt 0 T)
+  pub text-is : (r : List ℕ) (parent : ℕ) {T : Trees} → Over t T (textUnder r) → item N parent 1 T .row ≡ rowWith code.TEXT parent (placeAt 0 T) (column.FIRST ≔ cell column.FIRST r ∷ column.SECOND ≔ cell column.SECOND r ∷ [])
   text-is r parent {T} o =
       let h = string-is (cell column.FIRST r) (over-part 7 o) in
       let k = string-is (cell column.SECOND r) (over-part 3 o) in
-      λ i. columns code.TEXT parent 0 (h i) (k i) 0 0 0 0 0 0 (placeAt 0 T)
+      λ i. rowWith code.TEXT parent (placeAt 0 T) (column.FIRST ≔ h i ∷ column.SECOND ≔ k i ∷ [])
 
-  pub label-is : (r : List ℕ) (parent : ℕ) {T : Trees} → Over t T (labelUnder r) → item N parent 2 T .row ≡ columns code.LABEL parent (cell column.OWN r) 0 0 0 0 0 0 0 0 (placeAt 0 T)
+  pub label-is : (r : List ℕ) (parent : ℕ) {T : Trees} → Over t T (labelUnder r) → item N parent 2 T .row ≡ rowWith code.LABEL parent (placeAt 0 T) (column.OWN ≔ cell column.OWN r ∷ [])
   label-is r parent {T} o =
       let h = number-is {v = cell column.OWN r} (over-part 1 o) in
-      λ i. columns code.LABEL parent (h i) 0 0 0 0 0 0 0 0 (placeAt 0 T)
+      λ i. rowWith code.LABEL parent (placeAt 0 T) (column.OWN ≔ h i ∷ [])
 
   -- ---- questions: the row, and that its number is written
 
   -- a question's draft
-  pub record Question (d : Draft) (k parent flags a b c e place : ℕ) (r : List ℕ) : Type 0 where
-    pub row : d .row ≡ columns k parent (cell column.OWN r) (cell column.FIRST r) (cell column.SECOND r) flags a b c e 0 place
+  pub record Question (d : Draft) (k parent place : ℕ) (r : List ℕ) (entries : List Entry) : Type 0 where
+    pub row : d .row ≡ questionRow k parent place (cell column.OWN r) (cell column.FIRST r) (cell column.SECOND r) 0 entries
     pub written : ltb 0 (d .ownAt) ≡ true
 
-  pub goto-is : (a b c : Bool) (r : List ℕ) (parent : ℕ) {T : Trees} → Over t T (gotoUnder a b c r) → Question (item N parent 3 T) code.GOTO parent (flagSum a b c) (cell column.A r) 0 0 0 (placeAt 0 T) r
+  pub goto-is : (a b c : Bool) (r : List ℕ) (parent : ℕ) {T : Trees} → Over t T (gotoUnder a b c r) → Question (item N parent 3 T) code.GOTO parent (placeAt 0 T) r (column.FLAGS ≔ flagSum a b c ∷ column.A ≔ cell column.A r ∷ [])
   goto-is a b c r parent {T} o =
       let h = head-is r (over-part 3 o) in
       let g = number-is {v = cell column.A r} (over-part 1 o) in
       let fl = over-flags (over-part 4 o) ∙ goto-flags-in a b c in
-      record { row = λ i. columns code.GOTO parent (h .own i) (h .first i) (h .second i) (fl i) (g i) 0 0 0 (h .unnamed i) (placeAt 0 T); written = h .written }
+      record { row = λ i. questionRow code.GOTO parent (placeAt 0 T) (h .own i) (h .first i) (h .second i) (h .unnamed i) (column.FLAGS ≔ fl i ∷ column.A ≔ g i ∷ []); written = h .written }
 
-  pub checkbox-is : (a b c e v : Bool) (r : List ℕ) (parent : ℕ) {T : Trees} → Over t T (checkboxUnder a b c e v r) → Question (item N parent 4 T) code.CHECKBOX parent (flagSum a b c + when e flag.HAS-DEFAULT) 0 0 0 (when e (when v 1)) (placeAt 0 T) r
+  pub checkbox-is : (a b c e v : Bool) (r : List ℕ) (parent : ℕ) {T : Trees} → Over t T (checkboxUnder a b c e v r) → Question (item N parent 4 T) code.CHECKBOX parent (placeAt 0 T) r (column.FLAGS ≔ (flagSum a b c + when e flag.HAS-DEFAULT) ∷ column.D ≔ when e (when v 1) ∷ [])
   checkbox-is a b c e v r parent {T} o =
       let h = head-is r (over-part 1 o) in
       let fl = over-flags (over-part 3 o) ∙ other-flags-in a b c in
       let de = ap (λ k. eqb k 1) (over-taken 4 o) ∙ present-is e in
       let dv = (λ i. when (de i) (when (eqb (over-taken 2 (over-part 4 o) i) 0) 1)) ∙ truth-is e v in
       record {
-        row = λ i. columns code.CHECKBOX parent (h .own i) (h .first i) (h .second i) (fl i + when (de i) flag.HAS-DEFAULT) 0 0 0 (dv i) (h .unnamed i) (placeAt 0 T);
+        row = λ i. questionRow code.CHECKBOX parent (placeAt 0 T) (h .own i) (h .first i) (h .second i) (h .unnamed i) (column.FLAGS ≔ (fl i + when (de i) flag.HAS-DEFAULT) ∷ column.D ≔ dv i ∷ []);
         written = h .written;
       }
 
   pub numeric-is : (a b c e : Bool) (r : List ℕ) (parent : ℕ) {T : Trees} → Over t T (numericUnder a b c e r)
-      → Question (item N parent 5 T) code.NUMERIC parent (flagSum a b c + when e flag.HAS-DEFAULT) (cell column.A r) (cell column.B r) (cell column.C r) (when e (cell column.D r)) (placeAt 0 T) r × (ltb 0 (item N parent 5 T .defaultAt) ≡ e)
+      → Question (item N parent 5 T) code.NUMERIC parent (placeAt 0 T) r (column.FLAGS ≔ (flagSum a b c + when e flag.HAS-DEFAULT) ∷ column.A ≔ cell column.A r ∷ column.B ≔ cell column.B r ∷ column.C ≔ cell column.C r ∷ column.D ≔ when e (cell column.D r) ∷ []) × (ltb 0 (item N parent 5 T .defaultAt) ≡ e)
   numeric-is a b c e r parent {T} o =
       let h = head-is r (over-part 1 o) in
       let fl = over-flags (over-part 3 o) ∙ other-flags-in a b c in
@@ -182,27 +188,27 @@ module _ (t : List ℕ) where
       let dv = ap (λ z. when z (value N 2 (child 13 T))) de ∙ default-is e (cell column.D r) (over-part 13 o) in
       let hc : when (eqb (chosen 12 T) 1) (value N 2 (child 12 T)) ≡ cell column.C r = λ i. when (eqb (over-taken 12 o i) 1) (hs i) in (
         record {
-          row = λ i. columns code.NUMERIC parent (h .own i) (h .first i) (h .second i) (fl i + when (de i) flag.HAS-DEFAULT) (ha i) (hb i) (hc i) (dv i) (h .unnamed i) (placeAt 0 T);
+          row = λ i. questionRow code.NUMERIC parent (placeAt 0 T) (h .own i) (h .first i) (h .second i) (h .unnamed i) (column.FLAGS ≔ (fl i + when (de i) flag.HAS-DEFAULT) ∷ column.A ≔ ha i ∷ column.B ≔ hb i ∷ column.C ≔ hc i ∷ column.D ≔ dv i ∷ []);
           written = h .written;
         },
         ap (λ z. ltb 0 (when z (mark (numeralAt N 2 (child 13 T))))) de ∙ marked-when e (numeralAt N 2 (child 13 T)),
       )
 
-  pub one-of-is : (a b c : Bool) (r : List ℕ) (x : Shape) (parent : ℕ) {T : Trees} → Over t T (oneOfUnder a b c r x) → Question (item N parent 6 T) code.ONE-OF parent (flagSum a b c) 0 0 0 0 (placeAt 0 T) r
+  pub one-of-is : (a b c : Bool) (r : List ℕ) (x : Shape) (parent : ℕ) {T : Trees} → Over t T (oneOfUnder a b c r x) → Question (item N parent 6 T) code.ONE-OF parent (placeAt 0 T) r (column.FLAGS ≔ flagSum a b c ∷ [])
   one-of-is a b c r x parent {T} o =
       let h = head-is r (over-part 1 o) in
       let fl = over-flags (over-part 3 o) ∙ other-flags-in a b c in
-      record { row = λ i. columns code.ONE-OF parent (h .own i) (h .first i) (h .second i) (fl i) 0 0 0 0 (h .unnamed i) (placeAt 0 T); written = h .written }
+      record { row = λ i. questionRow code.ONE-OF parent (placeAt 0 T) (h .own i) (h .first i) (h .second i) (h .unnamed i) (column.FLAGS ≔ fl i ∷ []); written = h .written }
 
   -- ---- the other statements
 
   pub option-is : (e : Bool) (r : List ℕ) (parent : ℕ) {T : Trees} → Over t T (optionUnder e r)
-      → (option N parent T .row ≡ columns code.OPTION parent 0 (cell column.FIRST r) 0 (when e flag.OPTION-DEFAULT) (cell column.A r) 0 0 0 0 (placeAt 0 T)) × (ltb 0 (option N parent T .defaultAt) ≡ e)
+      → (option N parent T .row ≡ rowWith code.OPTION parent (placeAt 0 T) (column.FIRST ≔ cell column.FIRST r ∷ column.FLAGS ≔ when e flag.OPTION-DEFAULT ∷ column.A ≔ cell column.A r ∷ [])) × (ltb 0 (option N parent T .defaultAt) ≡ e)
   option-is e r parent {T} o =
       let h = string-is (cell column.FIRST r) (over-part 3 o) in
       let ha = number-is {v = cell column.A r} (over-part 7 o) in
       let de = ap (λ k. eqb k 1) (over-taken 11 o) ∙ present-is e in (
-        λ i. columns code.OPTION parent 0 (h i) 0 (when (de i) flag.OPTION-DEFAULT) (ha i) 0 0 0 0 (placeAt 0 T),
+        λ i. rowWith code.OPTION parent (placeAt 0 T) (column.FIRST ≔ h i ∷ column.FLAGS ≔ when (de i) flag.OPTION-DEFAULT ∷ column.A ≔ ha i ∷ []),
         ap (λ z. ltb 0 (when z (mark (placeAt 0 (child 11 T))))) de ∙ marked-when e (placeAt 0 (child 11 T)),
       )
 
@@ -210,11 +216,11 @@ module _ (t : List ℕ) where
   pub rule-is : (r : List ℕ) (e : Formula) (parent n : ℕ) {T : Trees} → Over t T (ruleUnder r e) → words.word (drop (placeAt 1 T) t) ≡ ruleWord (cell column.OWN r)
   rule-is r e parent n (over-leaf read-sign (over-leaf (read-rule h w) o)) = w
 
-  pub form-is : (r : List ℕ) (x : Shape) (parent : ℕ) {T : Trees} → Over t T (formUnder r x) → form N parent T .row ≡ columns code.FORM parent (cell column.OWN r) (cell column.FIRST r) 0 0 0 0 0 0 0 (placeAt 0 T)
+  pub form-is : (r : List ℕ) (x : Shape) (parent : ℕ) {T : Trees} → Over t T (formUnder r x) → form N parent T .row ≡ rowWith code.FORM parent (placeAt 0 T) (column.OWN ≔ cell column.OWN r ∷ column.FIRST ≔ cell column.FIRST r ∷ [])
   form-is r x parent {T} o =
       let h = number-is {v = cell column.OWN r} (over-part 3 o) in
       let k = string-is (cell column.FIRST r) (over-part 7 o) in
-      λ i. columns code.FORM parent (h i) (k i) 0 0 0 0 0 0 0 (placeAt 0 T)
+      λ i. rowWith code.FORM parent (placeAt 0 T) (column.OWN ≔ h i ∷ column.FIRST ≔ k i ∷ [])
 
   -- ---- GUID
 
@@ -249,9 +255,9 @@ module _ (t : List ℕ) where
       let inner : guidBytes N T ≡ child 1 (child 7 T) = rw (over-taken 7 o, guidBytes) in
       (λ i. h₁ i % 2 ^ 32 * 2 ^ 32 + h₂ i % 2 ^ 16 * 2 ^ 16 + h₃ i % 2 ^ 16, ap (guidLow N) inner ∙ low-is r (over-part 1 (over-part 7 o)))
 
-  pub form-set-is : (r : List ℕ) (x : Shape) {T : Trees} → Over t T (formSetUnder r x) → formSet N T .row ≡ columns code.FORM-SET 0 0 (cell column.FIRST r) (cell column.SECOND r) 0 (highOf (cell column.A r)) (lowOf (cell column.B r)) 0 0 0 (placeAt 0 T)
+  pub form-set-is : (r : List ℕ) (x : Shape) {T : Trees} → Over t T (formSetUnder r x) → formSet N T .row ≡ rowWith code.FORM-SET 0 (placeAt 0 T) (column.FIRST ≔ cell column.FIRST r ∷ column.SECOND ≔ cell column.SECOND r ∷ column.A ≔ highOf (cell column.A r) ∷ column.B ≔ lowOf (cell column.B r) ∷ [])
   form-set-is r x {T} o =
       let h = string-is (cell column.FIRST r) (over-part 7 o) in
       let k = string-is (cell column.SECOND r) (over-part 11 o) in
       let g = guid-is r (over-part 3 o) in
-      λ i. columns code.FORM-SET 0 0 (h i) (k i) 0 (g .0 i) (g .1 i) 0 0 0 (placeAt 0 T)
+      λ i. rowWith code.FORM-SET 0 (placeAt 0 T) (column.FIRST ≔ h i ∷ column.SECOND ≔ k i ∷ column.A ≔ g .0 i ∷ column.B ≔ g .1 i ∷ [])

@@ -39,6 +39,7 @@ use Rattle.roundtrip.proofs.Core.{core, within, Told, told}
 use Rattle.roundtrip.proofs.Rebuilt.{anew, by-parts}
 use Rattle.roundtrip.proofs.Stating.{form-set-symbols, form-symbols, rule-symbols, one-of-symbols, condition-symbols, Stating, is-form-set, is-no-forms, is-more-forms, is-form, is-no-items-or-rules, is-item-first, is-rule-first, is-rule, is-subtitle, is-text, is-label, is-goto, is-checkbox, is-numeric, is-one-of, is-suppress, is-gray-out, is-disable, is-no-options, is-more-options, is-no-items, is-more-items, is-option, stating}
 use Rattle.again.specs.Matches.{Settled}
+use Rattle.again.proofs.Likeness.{own-cell}
 use Rattle.roundtrip.proofs.Phrases.{conditionUnder}
 use Rattle.roundtrip.proofs.Canon.{ending, under, canon, listed}
 use Rattle.roundtrip.proofs.CanonItems.{head-of, tail-of, rowOf}
@@ -120,7 +121,7 @@ module _ (s : List ℕ) (look : ℕ → List ℕ) where
   cell-is c z = ap (λ r. getD r c 0) (z .is-row)
 
   own-id : {d : Draft} (z : Settled look d) → asks d ≡ true → Id (getD (look (cell column.PLACE d)) column.OWN 0)
-  own-id z e = omega (arith, cell-is column.OWN z, z .own-range e)
+  own-id z e = omega (arith, own-cell look z, z .own-range e)
 
   -- the n-th tree, a node of the rule A
   node-at : {σ : List Symbol} {c : Trees} (n A : ℕ) → Each σ c → ruleAt n A σ ≡ true → NodeGood A (chosen n c) (child n c)

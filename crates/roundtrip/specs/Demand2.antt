@@ -3,13 +3,12 @@
 use Prim.Native.Nat.{ℕ}
 use mathlib.Core.Path.{_≡_}
 use mathlib.Core.List.{List, map}
-use lib.ListN.{take}
-use Rattle.rows.specs.Columns as column
+use Rattle.rows.specs.Cells.{withoutPlaces}
 use Rattle.answers.specs.Answer.{readAnswer, rowsOf}
 
--- rows "but the two columns of places", which are the last two
+-- rows "but the two columns of places"
 abbrev pub besidesPlaces : List (List ℕ) → List (List ℕ)
-besidesPlaces rows = map (take column.NAME) rows
+besidesPlaces rows = map withoutPlaces rows
 
 -- the text that a resolver prints of the source s, with a table of n numbers lent
 pub record ReadsAgain (text : List ℕ → List ℕ) (s : List ℕ) (n : ℕ) : Type 0 where

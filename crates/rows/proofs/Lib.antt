@@ -1,6 +1,7 @@
 -- The laws of the table that layers above share; those of the codes' tests and the examples serve here alone.
 pub mod RowLaws
 pub mod CellLaws
+pub mod ColumnLaws
 pub mod ClearLaws
 pub mod FlatLaws
 pub mod RunLaws

@@ -13,11 +13,12 @@ use Rattle.numbers.specs.Numbers.{limit, isNumber}
 use Rattle.rows.specs.Codes as code
 use Rattle.rows.specs.Codes.{member, questions, isQuestion}
 use Rattle.rows.specs.Columns as column
+use Rattle.rows.specs.Cells.{_≔_}
 use Rattle.rows.specs.Draft.{HALF}
 use Rattle.ll1.specs.Trees.{Trees}
 use Rattle.ll1.proofs.Basics.{clash, both}
 use Rattle.answers.specs.Answer.{LIMIT}
-use Rattle.answers.specs.Rows.{Draft, columns, plain, operand, question, string, writtenNumber, writtenMark, nameMark}
+use Rattle.answers.specs.Rows.{Draft, rowWith, plain, operand, question, string, writtenNumber, writtenMark, nameMark}
 use Rattle.answers.specs.Stages.{cell, is, asks}
 use Rattle.drafts.specs.Sound.{Sound, MARKS}
 use Rattle.sound.proofs.Lists.{apart}
@@ -26,7 +27,7 @@ use Rattle.sound.proofs.Lists.{apart}
 
 -- the sizes of its numbers
 pub record Sized (d : Draft) : Type 0 where
-  pub twelve : length (d .row) ≡ column.ROW
+  pub whole : length (d .row) ≡ column.ROW
   pub first : cell column.FIRST d < HALF
   pub second : cell column.SECOND d < HALF
   pub flags : cell column.FLAGS d < HALF
@@ -48,7 +49,7 @@ pub sound-row :
     → Sound d
 sound-row sized form question limited reference rule-name name =
     record {
-      twelve = sized .twelve;
+      whole = sized .whole;
       first = sized .first;
       second = sized .second;
       flags = sized .flags;
@@ -81,7 +82,7 @@ isBare k = not (isQuestion k) && not (member k (code.FORM ∷ code.OPTION ∷ co
 pub bare :
     (k parent own first second a b c d place : ℕ)
     → isBare k ≡ true → first < limit → second < limit → place ≤ LIMIT
-    → Other (plain (columns k parent own first second 0 a b c d 0 place))
+    → Other (plain (rowWith k parent place (column.OWN ≔ own ∷ column.FIRST ≔ first ∷ column.SECOND ≔ second ∷ column.A ≔ a ∷ column.B ≔ b ∷ column.C ≔ c ∷ column.D ≔ d ∷ [])))
 unfolding isQuestion questions member
 bare k parent own first second a b c d place h f l p =
     let not-form = apart isBare k code.FORM h refl in
@@ -113,7 +114,7 @@ pub question-other :
     (value : ℕ → ℕ) (k parent : ℕ) (h : Trees) (flags a b c d place limit default : ℕ)
     → isQuestion k ≡ true → Asked value h → flags < HALF → place ≤ LIMIT → limit ≤ suc LIMIT → default ≤ suc LIMIT
     → (eqb k code.GOTO || eqb k code.NUMERIC ≡ true → 0 < limit)
-    → Other (question value k parent h flags a b c d place limit default)
+    → Other (question value k parent place h (column.FLAGS ≔ flags ∷ column.A ≔ a ∷ column.B ≔ b ∷ column.C ≔ c ∷ column.D ≔ d ∷ []) limit default)
 unfolding isQuestion questions member
 question-other value k parent h flags a b c d place limit default q asked f p l m limited =
     let not-form = apart isQuestion k code.FORM q refl in

@@ -16,7 +16,8 @@ use Rattle.ll1.specs.Trees.{Trees}
 use Rattle.ll1.specs.Verdict.{ends-early, refused}
 use Rattle.answers.specs.Rows.{Draft}
 use Rattle.answers.specs.Stages.{repeatedForms, repeatedQuestions, repeatedNames, rulesOverLimit, unfound, badChoices, ownNumbers, finished}
-use Rattle.answers.specs.Answer.{LIMIT, Checked, refusal, derived, checked, Answer, refuses, accepts, stage, answerOf, drafts, readAnswer, rowsOf, readTable}
+use Rattle.answers.specs.Answer.{LIMIT, Answer, refuses, accepts, stage, answerOf, drafts}
+use Rattle.answers.specs.WholeAnswer.{Checked, refusal, derived, checked, readAnswer, rowsOf, readTable}
 use Rattle.answers.specs.Demand3.{Sound, Grammatical, Passes, PassesAll, to-4, to-5, to-6, to-7, to-8, to-9, to-10, to-11, to-12}
 use Rattle.answers.specs.Demand3.{Refuses, source-too-long, bad-token, no-text-starts-so, source-ends-early, opens-too-many, number-outside, more-rows, form-repeated, question-repeated, name-repeated, rule-over-limit, nothing-found, bad-choice}
 use Rattle.answers.proofs.Checks.{listed, checked-1, checked-2, checked-parsed, checked-5, checked-derived, Decided, stopped, passed, decided}

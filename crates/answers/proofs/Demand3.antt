@@ -16,7 +16,8 @@ use Rattle.ll1.specs.Trees.{Trees}
 use Rattle.grammar.specs.Derivation.{Derives}
 use Rattle.grammar.specs.Source.{sourceTokens, numberAt}
 use Rattle.answers.specs.Stages.{ownNumbers, finished}
-use Rattle.answers.specs.Answer.{LIMIT, quickCheck, Answer, refuses, accepts, drafts, readAnswer, readTable}
+use Rattle.answers.specs.Answer.{LIMIT, Answer, refuses, accepts, drafts}
+use Rattle.answers.specs.WholeAnswer.{quickCheck, readAnswer, readTable}
 use Rattle.answers.specs.Demand3.{Sound, PassesAll, Refuses, questionNumbers}
 use Rattle.grammar.proofs.Theorems.{one-derivation}
 use Rattle.grammar.proofs.SourceTokens.{tokens-few}

@@ -1,5 +1,5 @@
--- Demand 3 in document 01's own terms: what a source must be for reading to accept it, and what it is where reading refuses it.
--- Assumes nothing.
+-- Demand 3 in document 01's own terms: what a source must be for reading to accept it, and what it is where reading refuses it. "Written without our
+-- reader": no parser is named here, nor in what this imports. Assumes nothing.
 use Prim.Native.Nat.{ℕ, _/_, _≤_, _<_}
 use mathlib.Core.Path.{_≡_}
 use mathlib.Core.Bool.{cond}

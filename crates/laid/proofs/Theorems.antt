@@ -9,7 +9,8 @@ use Rattle.rows.specs.Rows.{laid}
 use Rattle.grammar.specs.Derivation.{Derives}
 use Rattle.grammar.specs.Source.{sourceTokens, numberAt}
 use Rattle.answers.specs.Stages.{finished}
-use Rattle.answers.specs.Answer.{drafts, readAnswer, readTable}
+use Rattle.answers.specs.Answer.{drafts}
+use Rattle.answers.specs.WholeAnswer.{readAnswer, readTable}
 use Rattle.answers.specs.Text.{rowFirstAt}
 use Rattle.answers.specs.Demand3.{PassesAll}
 use Rattle.answers.proofs.Answers.{accepted-answer, laid-rows, passes-sound}

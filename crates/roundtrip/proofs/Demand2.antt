@@ -15,7 +15,8 @@ use Rattle.rows.specs.Columns.{ROW}
 use Rattle.ll1.specs.Trees.{Trees}
 use Rattle.answers.specs.Rows.{Draft}
 use Rattle.answers.specs.Stages.{cell, ownNumbers, finished}
-use Rattle.answers.specs.Answer.{LIMIT, derived, checked, accepts, drafts, readAnswer, rowsOf}
+use Rattle.answers.specs.Answer.{LIMIT, accepts, drafts}
+use Rattle.answers.specs.WholeAnswer.{derived, checked, readAnswer, rowsOf}
 use Rattle.answers.specs.Text.{wordsOf, textOf, rowFirstAt, resolvedText}
 use Rattle.answers.specs.Resolution.{textOfSource, room, resolvedInto, resolution, resolvedOutput}
 use Rattle.answers.specs.Demand3.{Sound, PassesAll}

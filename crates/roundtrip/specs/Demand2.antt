@@ -5,7 +5,7 @@ use mathlib.Core.Path.{_≡_}
 use mathlib.Core.List.{List, map}
 use lib.ListN.{take}
 use Rattle.rows.specs.Columns as column
-use Rattle.answers.specs.Answer.{readAnswer, rowsOf}
+use Rattle.answers.specs.WholeAnswer.{readAnswer, rowsOf}
 
 -- rows "but the two columns of places", which are the last two
 abbrev pub besidesPlaces : List (List ℕ) → List (List ℕ)

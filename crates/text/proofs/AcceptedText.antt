@@ -18,7 +18,8 @@ use Rattle.grammar.specs.Derivation.{Derives}
 use Rattle.grammar.specs.Source.{sourceTokens, numberAt}
 use Rattle.answers.specs.Rows.{Draft, draftsOf}
 use Rattle.answers.specs.Stages.{finished}
-use Rattle.answers.specs.Answer.{Answer, refuses, accepts, derived, checked, drafts, rowsOf, readAnswer, readTable}
+use Rattle.answers.specs.Answer.{Answer, refuses, accepts, drafts}
+use Rattle.answers.specs.WholeAnswer.{derived, checked, rowsOf, readAnswer, readTable}
 use Rattle.answers.specs.Text.{opening, wordsOf, textOf, rowFirstAt, resolvedText}
 use Rattle.answers.specs.Resolution.{textOfSource}
 use Rattle.answers.proofs.Answers.{passes-grammatical, passes-derived, accepted-answer, laid-rows}

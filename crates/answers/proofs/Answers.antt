@@ -16,21 +16,42 @@ use Rattle.ll1.specs.Trees.{Trees}
 use Rattle.ll1.specs.Verdict.{ends-early, refused}
 use Rattle.answers.specs.Rows.{Draft}
 use Rattle.answers.specs.Stages.{repeatedForms, repeatedQuestions, repeatedNames, rulesOverLimit, unfound, badChoices, ownNumbers, finished}
-use Rattle.answers.specs.Answer.{LIMIT, Checked, refusal, derived, checked, Answer, refuses, accepts, stage, answerOf, drafts, readAnswer, rowsOf, readTable}
-use Rattle.answers.specs.Demand3.{Sound, Passes, to-4, to-5, to-6, to-7, to-8, to-9, to-10, to-11, to-12}
+use Rattle.answers.specs.Answer.{LIMIT, Answer, refuses, accepts, stage, answerOf, drafts}
+use Rattle.answers.specs.WholeAnswer.{Checked, refusal, derived, checked, readAnswer, rowsOf, readTable}
+use Rattle.answers.specs.Demand3.{Sound, Grammatical, Passes, PassesAll, to-4, to-5, to-6, to-7, to-8, to-9, to-10, to-11, to-12}
 use Rattle.answers.specs.Demand3.{Refuses, source-too-long, bad-token, no-text-starts-so, source-ends-early, opens-too-many, number-outside, more-rows, form-repeated, question-repeated, name-repeated, rule-over-limit, nothing-found, bad-choice}
 use Rattle.answers.proofs.Checks.{listed, checked-1, checked-2, checked-parsed, checked-5, checked-derived, Decided, stopped, passed, decided}
 
--- ---- a source that passes every stage is sound, and a sound one passes where there is room
+-- ---- what a source is that passes every stage, or the stages up to a number
 
-pub sound-passes : {s : List ℕ} {n : ℕ} {tree : Trees} → Sound s tree → length s ≤ LIMIT → length (drafts s tree) ≤ n / ROW → Passes s n tree 12
+pub passes-grammatical : {s : List ℕ} {n : ℕ} {tree : Trees} {k : ℕ} → Passes s n tree k → Grammatical s tree
+passes-grammatical (to-4 g) = g
+passes-grammatical (to-5 p e) = passes-grammatical p
+passes-grammatical (to-6 p e) = passes-grammatical p
+passes-grammatical (to-7 p e) = passes-grammatical p
+passes-grammatical (to-8 p e) = passes-grammatical p
+passes-grammatical (to-9 p e) = passes-grammatical p
+passes-grammatical (to-10 p e) = passes-grammatical p
+passes-grammatical (to-11 p e) = passes-grammatical p
+passes-grammatical (to-12 p e) = passes-grammatical p
+
+-- its rows find room
+pub passes-room : {s : List ℕ} {n : ℕ} {tree : Trees} → PassesAll s n tree → length (drafts s tree) ≤ n / ROW
+passes-room (to-12 (to-11 (to-10 (to-9 (to-8 (to-7 (to-6 p h) e₇) e₈) e₉) e₁₀) e₁₁) e₁₂) = h
+
+-- it is sound, and a sound one passes where there is room
+pub sound-passes : {s : List ℕ} {n : ℕ} {tree : Trees} → Sound s tree → length s ≤ LIMIT → length (drafts s tree) ≤ n / ROW → PassesAll s n tree
 sound-passes d short room =
     let with-rows = to-6 (to-5 (to-4 (record { short = short; derives = d .derives; depths = d .depths })) (d .ranges)) room in
     to-12 (to-11 (to-10 (to-9 (to-8 (to-7 with-rows (d .forms)) (d .questions)) (d .names)) (d .limit)) (d .references)) (d .choices)
 
-pub passes-sound : {s : List ℕ} {n : ℕ} {tree : Trees} → Passes s n tree 12 → Sound s tree
+pub passes-sound : {s : List ℕ} {n : ℕ} {tree : Trees} → PassesAll s n tree → Sound s tree
 passes-sound (to-12 (to-11 (to-10 (to-9 (to-8 (to-7 (to-6 (to-5 (to-4 g) e₅) h) e₇) e₈) e₉) e₁₀) e₁₁) e₁₂) =
     record { derives = g .derives; depths = g .depths; ranges = e₅; forms = e₇; questions = e₈; names = e₉; limit = e₁₀; references = e₁₁; choices = e₁₂ }
+
+-- the stages that a source alone decides find its derivation
+pub passes-derived : {s : List ℕ} {n : ℕ} {tree : Trees} → PassesAll s n tree → checked s ≡ derived tree
+passes-derived {s} {n} {tree} p = checked-derived s tree (passes-grammatical p) (passes-sound p .ranges)
 
 -- ---- what the stages from a number on answer
 
@@ -84,16 +105,13 @@ module _ (s : List ℕ) (n : ℕ) (tree : Trees) where
   past-11 (to-11 p e) = past-10 p ∙ rw e
 
   -- a source that passes every stage is accepted
-  pub past-12 : Passes s n tree 12 → readAnswer s n ≡ acceptance s ds
-  past-12 (to-12 p e) = past-11 p ∙ rw e
+  pub accepted-answer : PassesAll s n tree → readAnswer s n ≡ acceptance s ds
+  accepted-answer (to-12 p e) = past-11 p ∙ rw e
 
   -- and its rows are laid into the table
-  pub laid-rows : Passes s n tree 12 → readTable s n ≡ laid (finished s ds) n
+  pub laid-rows : PassesAll s n tree → readTable s n ≡ laid (finished s ds) n
   unfolding readTable rowsOf
-  laid-rows p = rw (past-12 p, derivation-of p, rowsOf)
-    where
-      derivation-of : Passes s n tree 12 → checked s ≡ derived tree
-      derivation-of (to-12 (to-11 (to-10 (to-9 (to-8 (to-7 (to-6 (to-5 (to-4 g) e) h) e₇) e₈) e₉) e₁₀) e₁₁) e₁₂) = checked-derived s tree g e
+  laid-rows p = rw (accepted-answer p, passes-derived p, rowsOf)
 
 -- ---- refusals
 
@@ -139,7 +157,7 @@ refused-number (bad-choice p e) z = omega arith
 
 -- an answer that is right: acceptance of a source that passes every stage, or a refusal
 pub data Right (s : List ℕ) (n : ℕ) : Answer → Type 0 where
-  accepting : {tree : Trees} → Passes s n tree 12 → Right s n (acceptance s (drafts s tree))
+  accepting : {tree : Trees} → PassesAll s n tree → Right s n (acceptance s (drafts s tree))
   refusing : {a : Answer} → Refuses s n a → Right s n a
 
 module _ (s : List ℕ) (n : ℕ) where
@@ -154,7 +172,7 @@ module _ (s : List ℕ) (n : ℕ) where
       listed (repeatedNames s ds) (λ e₉. let p₉ = to-9 p₈ e₉ in
       listed (rulesOverLimit ds) (λ e₁₀. let p₁₀ = to-10 p₉ e₁₀ in
       listed (unfound s ds) (λ e₁₁. let p₁₁ = to-11 p₁₀ e₁₁ in
-      listed (badChoices ds) (λ e₁₂. let p₁₂ = to-12 p₁₁ e₁₂ in rw (past-12 s n tree p₁₂) (accepting p₁₂))
+      listed (badChoices ds) (λ e₁₂. let p₁₂ = to-12 p₁₁ e₁₂ in rw (accepted-answer s n tree p₁₂) (accepting p₁₂))
       (λ m ms e. by-refusal (bad-choice p₁₁ e)))
       (λ m ms e. by-refusal (nothing-found p₁₀ e)))
       (λ m ms e. by-refusal (rule-over-limit p₉ e)))

@@ -19,7 +19,8 @@ use Rattle.grammar.specs.Derivation.{Derives, SourceSays}
 use Rattle.grammar.specs.Reading.{derivation}
 use Rattle.grammar.specs.Source.{sourceTokens}
 use Rattle.grammar.specs.Ranges.{outOfRange}
-use Rattle.answers.specs.Answer.{LIMIT, Checked, refusal, derived, ranged, parsed, checked, refuses}
+use Rattle.answers.specs.Answer.{LIMIT, refuses}
+use Rattle.answers.specs.WholeAnswer.{Checked, refusal, derived, ranged, parsed, checked}
 use Rattle.answers.specs.Demand3.{Grammatical, to-4, Refuses, source-too-long, bad-token, no-text-starts-so, source-ends-early, opens-too-many, number-outside}
 use Rattle.grammar.proofs.Theorems.{verdict-right, verdict-only, derivation-exactly}
 use Rattle.grammar.proofs.SourceTokens.{bad-among, bad-within}

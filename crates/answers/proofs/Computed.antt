@@ -20,7 +20,8 @@ use Rattle.grammar.specs.Source.{grammarTokens, sourceTokens, numberAt}
 use Rattle.answers.specs.Expression.{expression}
 use Rattle.grammar.specs.Ranges.{ranges, rangeOf, keeps, outOfRange}
 use Rattle.answers.specs.Stages.{any, faultsAfter, repeatedForms, repeatedQuestions, repeatedNames, rulesOverLimit, unfound, badChoices, ownNumbers, withNumbers, numberedRows, ownOfFirst, finished}
-use Rattle.answers.specs.Answer.{refusal, derived, Answer, checked, answerOf, drafts, readAnswer, rowsOf}
+use Rattle.answers.specs.Answer.{Answer, answerOf, drafts}
+use Rattle.answers.specs.WholeAnswer.{refusal, derived, checked, readAnswer, rowsOf}
 use Rattle.answers.specs.Text.{decimalDigits, hexDigits, textOf, rowFirstAt, resolvedText}
 use Rattle.answers.specs.Resolution.{Resolution, textOfSource, resolution}
 

@@ -16,14 +16,15 @@ use Rattle.ll1.specs.Trees.{Trees}
 use Rattle.grammar.specs.Derivation.{Derives}
 use Rattle.grammar.specs.Source.{sourceTokens, numberAt}
 use Rattle.answers.specs.Stages.{ownNumbers, finished}
-use Rattle.answers.specs.Answer.{LIMIT, quickCheck, Answer, refuses, accepts, drafts, readAnswer, readTable}
-use Rattle.answers.specs.Demand3.{Sound, Passes, Refuses, questionNumbers}
+use Rattle.answers.specs.Answer.{LIMIT, Answer, refuses, accepts, drafts}
+use Rattle.answers.specs.WholeAnswer.{quickCheck, readAnswer, readTable}
+use Rattle.answers.specs.Demand3.{Sound, PassesAll, Refuses, questionNumbers}
 use Rattle.grammar.proofs.Theorems.{one-derivation}
 use Rattle.grammar.proofs.SourceTokens.{tokens-few}
 use Rattle.answers.proofs.RowCount as RowCount
 use Rattle.answers.proofs.RowShape.{Wide, rows-wide, finished-wide}
 use Rattle.answers.proofs.Checks as Checks
-use Rattle.answers.proofs.Answers.{sound-passes, passes-sound, past-12, laid-rows, refused-answer, refused-number, Right, accepting, refusing, answer-right}
+use Rattle.answers.proofs.Answers.{sound-passes, passes-sound, accepted-answer, laid-rows, refused-answer, refused-number, Right, accepting, refusing, answer-right}
 use Rattle.answers.proofs.QuickCheck as QuickCheck
 use Rattle.answers.proofs.QuestionNumbers.{question-numbers, questions-few}
 
@@ -46,16 +47,16 @@ module _ (s : List ℕ) where
   -- ---- acceptance
 
   -- reading accepts exactly when the source has a derivation that passes every stage
-  pub accepts-passing : (n : ℕ) → (readAnswer s n .number ≡ 0) ↔ ((tree : Trees) × Passes s n tree 12)
-  accepts-passing n = (found (answer-right s n), λ f. rw (past-12 s n (f .0) (f .1)))
+  pub accepts-passing : (n : ℕ) → (readAnswer s n .number ≡ 0) ↔ ((tree : Trees) × PassesAll s n tree)
+  accepts-passing n = (found (answer-right s n), λ f. rw (accepted-answer s n (f .0) (f .1)))
     where
-      found : {a : Answer} → Right s n a → a .number ≡ 0 → (tree : Trees) × Passes s n tree 12
+      found : {a : Answer} → Right s n a → a .number ≡ 0 → (tree : Trees) × PassesAll s n tree
       found (accepting {tree = tree} p) e = (tree, p)
       found (refusing r) e = absurd (refused-number r e)
 
   -- a source of at most 65,536 bytes, and a table of at least as many whole rows as the source has bytes
   module _ (n : ℕ) (short : length s ≤ LIMIT) (large : length s * ROW ≤ n) where
-    passing : (tree : Trees) → Sound s tree → Passes s n tree 12
+    passing : (tree : Trees) → Sound s tree → PassesAll s n tree
     passing tree d = sound-passes d short (omega (arith, rows-few tree (d .derives)))
 
     -- reading accepts exactly when there is a derivation and its depths, ranges, 255-rule limit, uniqueness, reference and choice rules hold
@@ -67,7 +68,7 @@ module _ (s : List ℕ) where
     -- the rows are exactly those of the derivation: the counts, and the table afterwards
     pub rows-exactly : (tree : Trees) → Sound s tree
         → (readAnswer s n ≡ accepts (length (drafts s tree)) (freeCount (numbered (ownNumbers (drafts s tree))))) × (readTable s n ≡ laid (finished s (drafts s tree)) n)
-    rows-exactly tree d = let p = passing tree d in (past-12 s n tree p, laid-rows s n tree p)
+    rows-exactly tree d = let p = passing tree d in (accepted-answer s n tree p, laid-rows s n tree p)
 
   -- ---- refusals
 

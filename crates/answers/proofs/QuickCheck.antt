@@ -12,7 +12,8 @@ use Rattle.rows.specs.Columns.{ROW}
 use Rattle.ll1.specs.Trees.{Trees}
 use Rattle.answers.specs.Rows.{Draft}
 use Rattle.answers.specs.Stages.{repeatedForms, repeatedQuestions, repeatedNames, rulesOverLimit, unfound, badChoices}
-use Rattle.answers.specs.Answer.{LIMIT, Checked, refusal, derived, checked, quickCheck, Answer, refuses, stage, answerOf, drafts, readAnswer}
+use Rattle.answers.specs.Answer.{LIMIT, Answer, refuses, stage, answerOf, drafts}
+use Rattle.answers.specs.WholeAnswer.{Checked, refusal, derived, checked, quickCheck, readAnswer}
 use Rattle.answers.specs.Demand3.{to-4, to-5}
 use Rattle.answers.proofs.Checks.{Decided, stopped, passed, decided}
 use Rattle.answers.proofs.Answers.{acceptance, past-5, refused-answer}

@@ -1,5 +1,5 @@
--- Demand 3 in document 01's own terms: what a source must be for reading to accept it, and what it is where reading refuses it.
--- Assumes nothing.
+-- Demand 3 in document 01's own terms: what a source must be for reading to accept it, and what it is where reading refuses it. "Written without our
+-- reader": no parser is named here, nor in what this imports. Assumes nothing.
 use Prim.Native.Nat.{ℕ, _/_, _≤_, _<_}
 use mathlib.Core.Path.{_≡_}
 use mathlib.Core.Bool.{cond}
@@ -55,6 +55,10 @@ pub data Passes (s : List ℕ) (n : ℕ) (tree : Trees) : ℕ → Type 0 where
   to-10 : Passes s n tree 9 → rulesOverLimit (drafts s tree) ≡ [] → Passes s n tree 10
   to-11 : Passes s n tree 10 → unfound s (drafts s tree) ≡ [] → Passes s n tree 11
   to-12 : Passes s n tree 11 → badChoices (drafts s tree) ≡ [] → Passes s n tree 12
+
+-- no stage refuses them
+abbrev pub PassesAll : List ℕ → ℕ → Trees → Type 0
+PassesAll s n tree = Passes s n tree 12
 
 -- Document 01's table of refusals, a line each: "No. | Given exactly when | Place". "The first stage that fails answers; within it the earliest
 -- token": a stage lists its faults in source order, so that the earliest is the first of its list. "A refusal's counts are 0 except as shown".

@@ -3,9 +3,10 @@ pub mod Expression
 pub mod Rows
 pub mod Drafts
 pub mod Stages
--- The whole answer of reading and of the quick check, and demand 3 in document 01's own terms.
+-- An answer, and demand 3 in document 01's own terms; the whole answer of reading and of the quick check.
 pub mod Answer
 pub mod Demand3
+pub mod WholeAnswer
 -- The resolved text, and the whole answer of resolving.
 pub mod Text
 pub mod Resolution

@@ -6,7 +6,8 @@ use mathlib.Core.List.{List, [], _++_}
 use lib.Dec.{eqb, ltb}
 use lib.ListN.{length, replicate}
 use Rattle.rows.specs.Rows.{laid}
-use Rattle.answers.specs.Answer.{LIMIT, refusal, derived, checked, Answer, readAnswer, rowsOf}
+use Rattle.answers.specs.Answer.{LIMIT, Answer}
+use Rattle.answers.specs.WholeAnswer.{refusal, derived, checked, readAnswer, rowsOf}
 use Rattle.answers.specs.Text.{resolvedText}
 
 -- the text of an accepted source

@@ -3,7 +3,7 @@
 use read::Answer;
 ghost use mathlib.Core.Path.{_≡_};
 ghost use lib.ListN.{length, set};
-ghost use Rattle.answers.specs.Answer.{quickCheck, readAnswer, readTable};
+ghost use Rattle.answers.specs.WholeAnswer.{quickCheck, readAnswer, readTable};
 ghost use Rattle.read.specs.Answers.{told};
 ghost use Rattle.answers.specs.Resolution.{resolution, resolvedTable, resolvedOutput};
 ghost use Rattle.text.specs.Answers as text;

@@ -14,7 +14,7 @@ use Rattle.grammar.specs.Parts.{child}
 use Rattle.grammar.specs.Grammar.{rules}
 use Rattle.grammar.specs.Derivation.{Derives, NowhereTooDeep}
 use Rattle.answers.specs.Expression.{number, expression}
-use Rattle.answers.specs.Answer.{readAnswer}
+use Rattle.answers.specs.WholeAnswer.{readAnswer}
 use Rattle.answers.specs.Demand3.{Sound}
 use Rattle.answers.proofs.Answers.{passes-sound}
 use Rattle.answers.proofs.Demand3.{accepts-passing}

@@ -9,10 +9,11 @@ use Rattle.rows.specs.Rows.{laid}
 use Rattle.grammar.specs.Derivation.{Derives}
 use Rattle.grammar.specs.Source.{sourceTokens, numberAt}
 use Rattle.answers.specs.Stages.{finished}
-use Rattle.answers.specs.Answer.{drafts, readAnswer, readTable}
+use Rattle.answers.specs.Answer.{drafts}
+use Rattle.answers.specs.WholeAnswer.{readAnswer, readTable}
 use Rattle.answers.specs.Text.{rowFirstAt}
-use Rattle.answers.specs.Demand3.{Passes}
-use Rattle.answers.proofs.Answers.{past-12, laid-rows, passes-sound}
+use Rattle.answers.specs.Demand3.{PassesAll}
+use Rattle.answers.proofs.Answers.{accepted-answer, laid-rows, passes-sound}
 use Rattle.answers.proofs.Demand3.{one-derivation-of-source, accepts-passing}
 use Rattle.laid.specs.Laid.{FormSetLaid}
 use Rattle.laid.proofs.Forests.{form-set-laid}
@@ -33,5 +34,5 @@ module _ (s : List ℕ) (n : ℕ) (tree : Trees) (derives : Derives (sourceToken
   statements-laid accepted =
       let other = accepts-passing s n .0 accepted in
       let same = one-derivation-of-source s (other .0) tree (passes-sound (other .1) .derives) derives in
-      let passes : Passes s n tree 12 = rw same at (other .1) in
-      rw (laid-rows s n tree passes, past-12 s n tree passes) finished-laid
+      let passes : PassesAll s n tree = rw same at (other .1) in
+      rw (laid-rows s n tree passes, accepted-answer s n tree passes) finished-laid

@@ -15,7 +15,8 @@ use Rattle.rows.proofs.RunLaws.{rows-flat}
 use Rattle.ll1.specs.Trees.{Trees}
 use Rattle.answers.specs.Stages.{ownNumbers, finished}
 use Rattle.answers.specs.Answer as grammar
-use Rattle.answers.specs.Answer.{LIMIT, accepts, drafts, readAnswer, readTable}
+use Rattle.answers.specs.Answer.{LIMIT, accepts, drafts}
+use Rattle.answers.specs.WholeAnswer.{readAnswer, readTable}
 use Rattle.answers.specs.Demand3.{Sound, Refuses, questionNumbers}
 use Rattle.answers.proofs.Demand3 as Demand3
 use Rattle.read.specs.declared.Answer.{Answer}

@@ -16,7 +16,8 @@ use Rattle.rows.proofs.RunLaws.{length-put, rows-put}
 use Rattle.ll1.specs.Trees.{Trees}
 use Rattle.answers.specs.Rows.{Draft}
 use Rattle.answers.specs.Drafts.{encoded, draftsFrom}
-use Rattle.answers.specs.Answer.{Checked, refusal, derived, checked, quickCheck, Answer, refuses, needs, answerOf, drafts, readAnswer, rowsOf, readTable}
+use Rattle.answers.specs.Answer.{Answer, refuses, needs, answerOf, drafts}
+use Rattle.answers.specs.WholeAnswer.{Checked, refusal, derived, checked, quickCheck, readAnswer, rowsOf, readTable}
 use Rattle.answers.proofs.Checks.{Decided, stopped, passed, decided}
 use Rattle.drafts.specs.Fits.{AllFit}
 use Rattle.drafts.proofs.CodingLaws.{sound-fit, are-encoded, drafts-held}

@@ -17,7 +17,8 @@ use Rattle.grammar.specs.Grammar.{rules}
 use Rattle.grammar.specs.Reading.{verdict, derivation}
 use Rattle.grammar.specs.Ranges.{outOfRange}
 use Rattle.grammar.specs.Source.{sourceTokens}
-use Rattle.answers.specs.Answer.{LIMIT, refusal, derived, checked, parsed}
+use Rattle.answers.specs.Answer.{LIMIT}
+use Rattle.answers.specs.WholeAnswer.{refusal, derived, checked, parsed}
 use Rattle.answers.specs.Demand3.{Grammatical}
 use Rattle.grammar.proofs.Theorems.{verdict-right, accepted-exactly, one-derivation}
 use Rattle.answers.proofs.Checks.{checked-1, checked-2, checked-parsed, checked-5, checked-derived}

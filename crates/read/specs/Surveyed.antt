@@ -10,7 +10,8 @@ use Rattle.lex.specs.declared.Found.the-variants.{At, Nothing}
 use Rattle.rows.specs.Rows.{put}
 use Rattle.ll1.specs.Trees.{Trees}
 use Rattle.answers.specs.Drafts.{encoded}
-use Rattle.answers.specs.Answer.{refusal, derived, checked, drafts}
+use Rattle.answers.specs.Answer.{drafts}
+use Rattle.answers.specs.WholeAnswer.{refusal, derived, checked}
 use Rattle.drafts.specs.Sound.{SoundRows}
 use Rattle.read.specs.declared.Survey.{Survey}
 

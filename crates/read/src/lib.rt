@@ -8,7 +8,7 @@ use crate::checks::survey;
 use rows::whole_rows;
 ghost use mathlib.Core.Path.{_≡_};
 ghost use lib.ListN.{length};
-ghost use Rattle.answers.specs.Answer.{readAnswer, readTable, quickCheck};
+ghost use Rattle.answers.specs.WholeAnswer.{readAnswer, readTable, quickCheck};
 ghost use Rattle.read.specs.Answers.{told};
 
 // What reading answers: rows and free numbers; a refusal's number and place; or, where fewer whole rows are lent than

@@ -15,12 +15,12 @@ use Rattle.rows.specs.Columns.{ROW}
 use Rattle.ll1.specs.Trees.{Trees}
 use Rattle.answers.specs.Rows.{Draft}
 use Rattle.answers.specs.Stages.{cell, ownNumbers, finished}
-use Rattle.answers.specs.Answer.{LIMIT, derived, checked, accepts, drafts, readAnswer, rowsOf}
+use Rattle.answers.specs.Answer.{LIMIT, accepts, drafts}
+use Rattle.answers.specs.WholeAnswer.{derived, checked, readAnswer, rowsOf}
 use Rattle.answers.specs.Text.{wordsOf, textOf, rowFirstAt, resolvedText}
 use Rattle.answers.specs.Resolution.{textOfSource, room, resolvedInto, resolution, resolvedOutput}
-use Rattle.answers.specs.Demand3.{Sound, Passes, to-4, to-5, to-6, to-7, to-8, to-9, to-10, to-11, to-12}
-use Rattle.answers.proofs.Checks.{checked-derived}
-use Rattle.answers.proofs.Answers.{sound-passes, passes-sound, past-12}
+use Rattle.answers.specs.Demand3.{Sound, PassesAll}
+use Rattle.answers.proofs.Answers.{sound-passes, passes-grammatical, passes-room, passes-sound, passes-derived, accepted-answer}
 use Rattle.answers.proofs.Demand3.{accepts-passing}
 use Rattle.sound.proofs.Lists.{All, none, more}
 use Rattle.answers.proofs.RowPlaces.{rows-by-place}
@@ -60,10 +60,18 @@ pub record Resolved (s : List ℕ) (n m : ℕ) : Type 0 where
   pub answer : readAnswer s n ≡ accepts (length (drafts s tree)) (freeCount (numbered (ownNumbers (drafts s tree))))
   pub resolves : resolution s n m ≡ resolvedInto m (length (textOfSource s)) (readAnswer s n)
 
-passed : {s : List ℕ} {n m : ℕ} {tree : Trees} → Passes s n tree 12 → length (textOfSource s) ≤ LIMIT → resolution s n m ≡ resolvedInto m (length (textOfSource s)) (readAnswer s n) → Resolved s n m
-passed {s} {n} {m} {tree} (to-12 (to-11 (to-10 (to-9 (to-8 (to-7 (to-6 (to-5 (to-4 g) e₅) h) e₇) e₈) e₉) e₁₀) e₁₁) e₁₂) l r =
-    let p = to-12 (to-11 (to-10 (to-9 (to-8 (to-7 (to-6 (to-5 (to-4 g) e₅) h) e₇) e₈) e₉) e₁₀) e₁₁) e₁₂ in
-    record { tree = tree; short = g .short; sound = passes-sound p; rows-fit = h; text-fits = l; is-tree = checked-derived s tree g e₅; answer = past-12 s n tree p; resolves = r }
+passed : {s : List ℕ} {n m : ℕ} {tree : Trees} → PassesAll s n tree → length (textOfSource s) ≤ LIMIT → resolution s n m ≡ resolvedInto m (length (textOfSource s)) (readAnswer s n) → Resolved s n m
+passed {s} {n} {m} {tree} p l r =
+    record {
+      tree = tree;
+      short = passes-grammatical p .short;
+      sound = passes-sound p;
+      rows-fit = passes-room p;
+      text-fits = l;
+      is-tree = passes-derived p;
+      answer = accepted-answer s n tree p;
+      resolves = r;
+    }
 
 pub resolved : (s : List ℕ) (n m : ℕ) → resolution s n m .number ≡ 0 → Resolved s n m
 unfolding resolution
@@ -119,14 +127,14 @@ module _ (s : List ℕ) (n m : ℕ) (r : Resolved s n m) where
   count : length (drafts t tree′) ≡ length (drafts s tree)
   count = pairs-length (the-trip .rows)
 
-  passes′ : Passes t n tree′ 12
+  passes′ : PassesAll t n tree′
   passes′ = sound-passes sound′ short′ (omega (arith, count, r .rows-fit))
 
   answer′ : readAnswer t n ≡ readAnswer s n
-  answer′ = past-12 t n tree′ passes′ ∙ ap₂ accepts count (free-again s tree (r .sound) (r .short) t (the-trip .rows)) ∙ sym (r .answer)
+  answer′ = accepted-answer t n tree′ passes′ ∙ ap₂ accepts count (free-again s tree (r .sound) (r .short) t (the-trip .rows)) ∙ sym (r .answer)
 
   is-tree′ : checked t ≡ derived tree′
-  is-tree′ = checked-derived t tree′ (record { short = short′; derives = the-trip .derives; depths = the-trip .depths }) (the-trip .kept-ranges)
+  is-tree′ = passes-derived passes′
 
   rows-of′ : rowsOf t ≡ finished t (drafts t tree′)
   unfolding rowsOf

@@ -12,7 +12,8 @@ use Rattle.rows.specs.Codes.{member, questions, isQuestion}
 use Rattle.rows.specs.Columns as column
 use Rattle.grammar.specs.Source.{numberAt}
 use Rattle.answers.specs.Stages.{finished}
-use Rattle.answers.specs.Answer.{accepts, drafts, readAnswer, rowsOf}
+use Rattle.answers.specs.Answer.{accepts, drafts}
+use Rattle.answers.specs.WholeAnswer.{readAnswer, rowsOf}
 use Rattle.answers.specs.Resolution.{resolution}
 use Rattle.answers.specs.Demand3.{questionNumbers}
 use Rattle.answers.proofs.RowShape.{rows-wide}

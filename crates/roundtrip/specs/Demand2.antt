@@ -4,7 +4,7 @@ use Prim.Native.Nat.{ℕ}
 use mathlib.Core.Path.{_≡_}
 use mathlib.Core.List.{List, map}
 use Rattle.rows.specs.Cells.{withoutPlaces}
-use Rattle.answers.specs.Answer.{readAnswer, rowsOf}
+use Rattle.answers.specs.WholeAnswer.{readAnswer, rowsOf}
 
 -- rows "but the two columns of places"
 abbrev pub besidesPlaces : List (List ℕ) → List (List ℕ)

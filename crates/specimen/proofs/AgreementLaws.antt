@@ -6,7 +6,8 @@ use mathlib.Core.Bool.{Bool, true, false, cond}
 use mathlib.Core.List.{List}
 use native.Mathlib.Omega.{arith}
 use lib.ListN.{length}
-use Rattle.answers.specs.Answer.{Answer, readAnswer, readTable, quickCheck}
+use Rattle.answers.specs.Answer.{Answer}
+use Rattle.answers.specs.WholeAnswer.{readAnswer, readTable, quickCheck}
 use Rattle.trials.specs.Differences.{padded}
 use Rattle.specimen.specs.declared.Expected.{Expected}
 use Rattle.specimen.specs.Agreement.{answerOf, quickOf, Agrees}

@@ -7,7 +7,8 @@ use mathlib.Core.List.{List, []}
 use lib.Dec.{eqb, ltb}
 use lib.ListN.{take}
 use Rattle.rows.specs.Columns.{ROW}
-use Rattle.answers.specs.Answer.{Answer, readAnswer, readTable, quickCheck}
+use Rattle.answers.specs.Answer.{Answer}
+use Rattle.answers.specs.WholeAnswer.{readAnswer, readTable, quickCheck}
 use Rattle.trials.specs.Differences.{padded}
 use Rattle.specimen.specs.declared.Expected.{Expected}
 

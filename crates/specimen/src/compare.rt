@@ -15,7 +15,7 @@ ghost use mathlib.Core.Path.{_≡_};
 ghost use mathlib.Core.Bool.{true};
 ghost use lib.ListN.{length};
 ghost use Rattle.read.specs.Answers.{told};
-ghost use Rattle.answers.specs.Answer.{quickCheck};
+ghost use Rattle.answers.specs.WholeAnswer.{quickCheck};
 ghost use Rattle.trials.specs.Differences.{padded};
 ghost use Rattle.specimen.specs.Agreement.{answerOf, quickOf, cellsOf, Agrees};
 

@@ -18,12 +18,11 @@ use Rattle.grammar.specs.Derivation.{Derives}
 use Rattle.grammar.specs.Source.{sourceTokens, numberAt}
 use Rattle.answers.specs.Rows.{Draft, draftsOf}
 use Rattle.answers.specs.Stages.{finished}
-use Rattle.answers.specs.Answer.{Answer, refuses, accepts, derived, checked, drafts, rowsOf, readAnswer, readTable}
+use Rattle.answers.specs.Answer.{Answer, refuses, accepts, drafts}
+use Rattle.answers.specs.WholeAnswer.{derived, checked, rowsOf, readAnswer, readTable}
 use Rattle.answers.specs.Text.{opening, wordsOf, textOf, rowFirstAt, resolvedText}
 use Rattle.answers.specs.Resolution.{textOfSource}
-use Rattle.answers.specs.Demand3.{Grammatical, Passes, to-4, to-5, to-6, to-7, to-8, to-9, to-10, to-11, to-12}
-use Rattle.answers.proofs.Checks.{checked-derived}
-use Rattle.answers.proofs.Answers.{past-12, laid-rows, passes-sound}
+use Rattle.answers.proofs.Answers.{passes-grammatical, passes-derived, accepted-answer, laid-rows}
 use Rattle.answers.proofs.Demand3.{rows-few, accepts-passing}
 use Rattle.spellings.specs.Output.{MOST}
 use Rattle.statements.specs.Statements.{closing}
@@ -76,17 +75,6 @@ module _ (t : List ℕ) (found : ℕ → List ℕ) (value : ℕ → ℕ) {tree :
 
 -- ---- of an accepted source
 
-grammatical : {s : List ℕ} {n : ℕ} {tree : Trees} {k : ℕ} → Passes s n tree k → Grammatical s tree
-grammatical (to-4 g) = g
-grammatical (to-5 p e) = grammatical p
-grammatical (to-6 p e) = grammatical p
-grammatical (to-7 p e) = grammatical p
-grammatical (to-8 p e) = grammatical p
-grammatical (to-9 p e) = grammatical p
-grammatical (to-10 p e) = grammatical p
-grammatical (to-11 p e) = grammatical p
-grammatical (to-12 p e) = grammatical p
-
 -- a source with its derivation
 module _ (s : List ℕ) (n : ℕ) (tree : Trees) where
   abbrev rows : List (List ℕ)
@@ -128,13 +116,12 @@ accepted-text s n count free t e f small =
     let found = accepts-passing s n .0 (ap (λ (a : Answer). a .number) (sym e)) in
     let tree = found .0 in
     let passes = found .1 in
-    let g = grammatical passes in
-    let c : checked s ≡ derived tree = checked-derived s tree g (passes-sound passes .ranges) in
-    let many : count ≡ length (drafts s tree) = ap (λ (a : Answer). a .rows) (e ∙ past-12 s n tree passes) in
+    let g = passes-grammatical passes in
+    let many : count ≡ length (drafts s tree) = ap (λ (a : Answer). a .rows) (e ∙ accepted-answer s n tree passes) in
     let table : t ≡ laid (finished s (drafts s tree)) n = f ∙ laid-rows s n tree passes in
     let cells = cells-small t small in
     let whole-text = tree-text s n tree (g .derives) (rw table at cells) in
-    let is : textOfSource s ≡ resolvedText tree (finished s (drafts s tree)) = text-is s tree c in
+    let is : textOfSource s ≡ resolvedText tree (finished s (drafts s tree)) = text-is s tree (passes-derived passes) in
     let few = rows-few s tree (g .derives) in
     (moved table many is (whole-text .0), omega (arith, ap length is, whole-text .1, few, g .short))
 
@@ -147,5 +134,5 @@ some-row s (fits-node e r₁ fits-nil) = omega arith
 pub refused-some : (s : List ℕ) (n k p : ℕ) → refuses k p ≡ readAnswer s n → k ≡ 0 → ⊥
 refused-some s n k p e z =
     let found = accepts-passing s n .0 (ap (λ (a : Answer). a .number) (sym e) ∙ z) in
-    let none : 0 ≡ length (drafts s (found .0)) = ap (λ (a : Answer). a .rows) (e ∙ past-12 s n (found .0) (found .1)) in
-    omega (arith, some-row s (grammatical (found .1) .derives .fits))
+    let none : 0 ≡ length (drafts s (found .0)) = ap (λ (a : Answer). a .rows) (e ∙ accepted-answer s n (found .0) (found .1)) in
+    omega (arith, some-row s (passes-grammatical (found .1) .derives .fits))

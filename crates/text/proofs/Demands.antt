@@ -8,7 +8,7 @@ use mathlib.Core.List.{List, _++_}
 use lib.ListN.{length, replicate}
 use borrow.Author.Tests.{eq-eqb, ne-eqb}
 use Rattle.rows.specs.Rows.{laid}
-use Rattle.answers.specs.Answer.{rowsOf}
+use Rattle.answers.specs.WholeAnswer.{rowsOf}
 use Rattle.answers.specs.Resolution.{textOfSource, resolution, resolvedTable, resolvedOutput}
 use Rattle.roundtrip.specs.Demand2.{ReadsAgain}
 use Rattle.roundtrip.proofs.Demand2 as Demand2

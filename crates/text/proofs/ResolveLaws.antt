@@ -12,7 +12,8 @@ use borrow.Author.Tests.{ne-eqb}
 use Rattle.rows.specs.Table.{cleared}
 use Rattle.rows.specs.Rows.{laid}
 use Rattle.rows.proofs.ClearLaws.{cleared-whole}
-use Rattle.answers.specs.Answer.{Answer, accepts, refuses, needs, readAnswer, readTable, rowsOf}
+use Rattle.answers.specs.Answer.{Answer, accepts, refuses, needs}
+use Rattle.answers.specs.WholeAnswer.{readAnswer, readTable, rowsOf}
 use Rattle.answers.specs.Resolution.{Resolution, textOfSource, resolvedInto, resolution, resolvedTable, resolvedOutput}
 use Rattle.text.specs.declared.Answer as text
 use Rattle.text.specs.Answers.{told, RowsPrinted}

@@ -21,7 +21,8 @@ use Rattle.statements.specs.Statements.{operandWords}
 use Rattle.spellings.proofs.Outputs.{few-bytes, text-append, prints-then, print-before, counted-before, before-end, count-before}
 use Rattle.laid.specs.Spans.{Spans, spans-number, spans-constant, spans-question-named, spans-question-numbered, spans-rule-named, spans-negation, spans-binary}
 use Rattle.text.specs.declared.expressions.Ahead.{Ahead}
-use Rattle.text.specs.Operators.{LEVELS, codeLevel, codeClass, atomWords}
+use Rattle.fields.specs.Operators.{LEVELS, codeClass}
+use Rattle.text.specs.Operators.{codeLevel, atomWords}
 use Rattle.text.specs.Before.{PrintsCounted, WordBefore, AtomBefore, ExpressionBefore, ExpressionCounted, ExpressionPrinted}
 use Rattle.text.proofs.OperatorLaws.{operator-level, operator-class, constant-class, constant-level, level-low, constant-word, operator-not, constant-not, not-level, number-level, question-level, rule-level, number-class, question-class, rule-class}
 

@@ -4,6 +4,7 @@
 // that of a numeric's default and of an option's word DEFAULT. A mark is a place plus one, or 0 for none.
 pub mod codes;
 mod form_set;
+pub mod operators;
 mod parts;
 mod phrase;
 mod questions;

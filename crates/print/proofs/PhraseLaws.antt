@@ -16,7 +16,7 @@ use Rattle.elements.specs.Kinds.{MAYBE, GROUP}
 use Rattle.answers.specs.Text.{Word, lexeme, decimal, flagList, truth, textOf}
 use Rattle.print.specs.declared.phrase.Progress.{Progress}
 use Rattle.spellings.specs.Output.{Prints}
-use Rattle.print.specs.Phrase.{flagWords, elementWords, shownBy, anyFlag, hasDefault, valueFrom, oneMore, added, skipAfter, passedAfter, phraseFrom, shownIn, elementIn}
+use Rattle.print.specs.Phrase.{flagWords, elementWords, shownBy, anyFlag, hasDefault, GUID, valueFrom, oneMore, added, skipAfter, passedAfter, phraseFrom, shownIn, elementIn}
 use Rattle.print.specs.Steps.{leftOf, Entered, Stepped}
 use Rattle.spellings.proofs.Outputs.{prints-none, prints-then, text-append, as-words}
 
@@ -61,9 +61,9 @@ other-shown f d w h = rw (ne-eqb w 57 (h .0 .0 .0 .1), ne-eqb w 62 (h .0 .0 .1),
 
 -- ---- values
 
-pub column-value : (r : List ℕ) (s : ℕ) → s < 12 → getD r s 0 ≡ valueFrom r s
+pub column-value : (r : List ℕ) (s : ℕ) → s < GUID → getD r s 0 ≡ valueFrom r s
 unfolding valueFrom
-column-value r s h = rw (lt-ltb s 12 h)
+column-value r s h = rw (lt-ltb s GUID h)
 
 abbrev guidParts : ℕ → ℕ → List ℕ
 guidParts a b =
@@ -71,10 +71,10 @@ guidParts a b =
     ∷ b / 256 ^ 7 % 256 ∷ b / 256 ^ 6 % 256 ∷ b / 256 ^ 5 % 256 ∷ b / 256 ^ 4 % 256 ∷ b / 256 ^ 3 % 256 ∷ b / 256 ^ 2 % 256 ∷ b / 256 % 256
     ∷ []
 
-pub last-byte : (r : List ℕ) (s : ℕ) → 22 ≤ s → getD r 7 0 % 256 ≡ valueFrom r s
+pub last-byte : (r : List ℕ) (s : ℕ) → GUID + 10 ≤ s → getD r 7 0 % 256 ≡ valueFrom r s
 unfolding valueFrom
 last-byte r s h =
-    rw (le-ltb s 12 (omega arith)) (same ∙ sym (List·getD-eq-default (guidParts (getD r 6 0) (getD r 7 0)) (getD r 7 0 / 256 ^ 0 % 256) {n = s - 12} (omega arith)))
+    rw (le-ltb s GUID (omega arith)) (same ∙ sym (List·getD-eq-default (guidParts (getD r 6 0) (getD r 7 0)) (getD r 7 0 / 256 ^ 0 % 256) {n = s - GUID} (omega arith)))
   where
     same : getD r 7 0 % 256 ≡ getD r 7 0 / 256 ^ 0 % 256
     same = omega arith

@@ -57,16 +57,20 @@ hasDefault set = bit flag.HAS-DEFAULT set
 
 -- ---- values
 
+-- where a value comes from: a source below this is a column of the row, those from here on are the parts of a GUID
+abbrev pub GUID : ℕ
+GUID = 64
+
 -- a column of the row r, or a part of the GUID in its columns a and b
 unfoldable pub valueFrom : List ℕ → ℕ → ℕ
 valueFrom r source =
     let a = getD r column.A 0 in
     let b = getD r column.B 0 in
-    cond (ltb source 12) (getD r source 0)
+    cond (ltb source GUID) (getD r source 0)
     (getD (a / 2 ^ 32 ∷ a / 2 ^ 16 % 2 ^ 16 ∷ a % 2 ^ 16
     ∷ b / 256 ^ 7 % 256 ∷ b / 256 ^ 6 % 256 ∷ b / 256 ^ 5 % 256 ∷ b / 256 ^ 4 % 256 ∷ b / 256 ^ 3 % 256 ∷ b / 256 ^ 2 % 256 ∷ b / 256 % 256
     ∷ [])
-    (source - 12) (b / 256 ^ 0 % 256))
+    (source - GUID) (b / 256 ^ 0 % 256))
 
 -- how many values are passed with one more; no phrase has as many
 abbrev pub LAST : ℕ

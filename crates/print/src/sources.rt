@@ -3,9 +3,9 @@
 use rows::cell;
 use rows::columns::*;
 ghost use mathlib.Core.Path.{_≡_};
-ghost use Prim.Native.Nat.{_≤_, _<_};
+ghost use Prim.Native.Nat.{_+_, _≤_, _<_};
 ghost use Rattle.rows.specs.Table.{rowAt};
-ghost use Rattle.print.specs.Phrase.{valueFrom};
+ghost use Rattle.print.specs.Phrase.{GUID, valueFrom};
 
 // The columns as bytes.
 const OWN_NUMBER: u8 = 2;
@@ -27,32 +27,34 @@ const FOURTH_VALUE: u8 = 9;
 // No question's name is printed.
 const NO_NAME: u8 = 10;
 
-// The parts of a GUID, of 32, 16 and 16 bits, and its eight bytes, in order.
-const PART_0: u8 = 12;
+// The sources from here on are the parts of a GUID, of 32, 16 and 16 bits, and its eight bytes, in order.
+const GUID: u8 = 64;
 
-const PART_1: u8 = 13;
+const PART_0: u8 = GUID;
 
-const PART_2: u8 = 14;
+const PART_1: u8 = GUID + 1;
 
-const BYTE_0: u8 = 15;
+const PART_2: u8 = GUID + 2;
 
-const BYTE_1: u8 = 16;
+const BYTE_0: u8 = GUID + 3;
 
-const BYTE_2: u8 = 17;
+const BYTE_1: u8 = GUID + 4;
 
-const BYTE_3: u8 = 18;
+const BYTE_2: u8 = GUID + 5;
 
-const BYTE_4: u8 = 19;
+const BYTE_3: u8 = GUID + 6;
 
-const BYTE_5: u8 = 20;
+const BYTE_4: u8 = GUID + 7;
 
-const BYTE_6: u8 = 21;
+const BYTE_5: u8 = GUID + 8;
 
-const BYTE_7: u8 = 22;
+const BYTE_6: u8 = GUID + 9;
+
+const BYTE_7: u8 = GUID + 10;
 
 // A part of the GUID in a row.
 fn guid_part(table: &[u64], row: usize, source: u8) -> u64
-    requires { ⌜ (12 ≤ source) × (source < 15) ⌝ }
+    requires { ⌜ (GUID ≤ source) × (source < GUID + 3) ⌝ }
     ensures { λ r. ⌜ r ≡ valueFrom (rowAt (now (table .entry)) row) source ⌝ }
 {
     let a = cell(table, row, A);
@@ -65,7 +67,7 @@ fn guid_part(table: &[u64], row: usize, source: u8) -> u64
 
 // A byte of the GUID in a row.
 fn guid_byte(table: &[u64], row: usize, source: u8) -> u64
-    requires { ⌜ 15 ≤ source ⌝ }
+    requires { ⌜ GUID + 3 ≤ source ⌝ }
     ensures { λ r. ⌜ r ≡ valueFrom (rowAt (now (table .entry)) row) source ⌝ }
 {
     let b = cell(table, row, B);
@@ -84,7 +86,7 @@ fn guid_byte(table: &[u64], row: usize, source: u8) -> u64
 pub fn value_from(table: &[u64], row: usize, source: u8) -> u64
     ensures { λ r. ⌜ r ≡ valueFrom (rowAt (now (table .entry)) row) source ⌝ }
 {
-    if source < PART_0 {
+    if source < GUID {
         return cell(table, row, source as usize);
     }
     if source < BYTE_0 {

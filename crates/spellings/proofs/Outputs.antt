@@ -1,13 +1,14 @@
 -- Bytes and words written one after another, forward and from the end.
 -- Assumes nothing.
-use Prim.Native.Nat.{ℕ, suc, _+_, _-_, _≤_, _<_}
+use Prim.Native.Nat.{ℕ, zero, suc, _+_, _-_, _≤_, _<_}
 use native.Mathlib.Omega.{arith}
 use mathlib.Core.Path.{_≡_, refl, sym, ap, _∙_}
 use mathlib.Core.List.{List, [], _∷_, _++_, append-assoc, append-nil}
-use lib.ListN.{length, set, length-append}
-use lib.Seq.{sets, set-comm}
+use lib.ListN.{length, set, take, length-set, length-take, length-append}
+use lib.Seq.{sets, set-comm, set-out, take-all, take-nil}
+use Rattle.lexemes.proofs.Lists.{either-less}
 use Rattle.answers.specs.Text.{Word, gapAfter, textOf}
-use Rattle.spellings.specs.Output.{MOST, Puts, PutsBefore, Prints, PrintsBefore}
+use Rattle.spellings.specs.Output.{MOST, endOf, withBytes, Puts, PutsBefore, Prints, PrintsBefore}
 
 -- ---- runs of stores
 
@@ -25,19 +26,42 @@ sets-comm o i j [] ys h = refl
 sets-comm o i j (x ∷ xs) ys h =
     sets-comm (set o i x) (suc i) j xs ys (omega arith) ∙ ap (λ (l : List ℕ). sets l (suc i) xs) (set-sets o i j x ys (omega arith))
 
+-- past the end
+pub sets-out : (o : List ℕ) (i : ℕ) (bs : List ℕ) → length o ≤ i → sets o i bs ≡ o
+sets-out o i [] h = refl
+sets-out o i (b ∷ bs) h = rw (set-out o i b h) (sets-out o (suc i) bs (omega arith))
+
+-- ---- bytes as far as is counted
+
+take-append : (n : ℕ) (xs ys : List ℕ) → take n (xs ++ ys) ≡ take n xs ++ take (n - length xs) ys
+take-append n [] ys = let z : n - 0 ≡ n = omega arith in rw (take-nil n, z)
+take-append zero (x ∷ xs) ys = let z : 0 - suc (length xs) ≡ 0 = omega arith in rw z
+take-append (suc n) (x ∷ xs) ys = let z : suc n - suc (length xs) ≡ n - length xs = omega arith in rw z (ap (_∷_ x) (take-append n xs ys))
+
+-- all of few bytes
+pub few-bytes : (o : List ℕ) (at : ℕ) (bs : List ℕ) → at + length bs ≤ MOST → withBytes o at bs ≡ sets o at bs
+few-bytes o at bs h = ap (λ (l : List ℕ). sets o at l) (take-all (MOST - at) bs (omega arith))
+
+-- all that fit
+pub all-bytes : (o : List ℕ) (at : ℕ) (bs : List ℕ) → length o ≤ MOST → withBytes o at bs ≡ sets o at bs
+all-bytes o at [] h = rw (take-nil (MOST - at))
+all-bytes o at (b ∷ bs) h =
+    either-less at MOST
+    (λ l. let n : MOST - at ≡ suc (MOST - suc at) = omega arith in rw n (all-bytes (set o at b) (suc at) bs (omega (arith, length-set o at b))))
+    (λ l. let n : MOST - at ≡ 0 = omega arith in rw n (sym (sets-out o at (b ∷ bs) (omega arith))))
+
 -- ---- bytes after bytes
 
 pub puts-none : (o : List ℕ) (at : ℕ) → Puts o at [] o at
-puts-none o at = record { fit = λ h. (omega arith, refl) }
+puts-none o at = record { stored = rw (take-nil (MOST - at)); end = omega arith }
 
 pub puts-then : {o o₁ o₂ : List ℕ} {at r₁ r₂ : ℕ} {xs ys : List ℕ} → Puts o at xs o₁ r₁ → Puts o₁ r₁ ys o₂ r₂ → Puts o at (xs ++ ys) o₂ r₂
 puts-then {o} {o₁} {o₂} {at} {r₁} {r₂} {xs} {ys} p q =
+    let left : MOST - at - length xs ≡ MOST - r₁ = omega (arith, p .end) in
+    let place : at + length (take (MOST - at) xs) ≡ r₁ = omega (arith, p .end, length-take (MOST - at) xs) in
     record {
-      fit = λ h.
-          let l = length-append xs ys in
-          let a = p .fit (omega arith) in
-          let b = q .fit (omega (arith, a .0)) in
-          (omega (arith, a .0, b .0), b .1 ∙ rw (a .0, a .1) (sym (sets-append o at xs ys)));
+      stored = q .stored ∙ rw (p .stored) (sym (rw (take-append (MOST - at) xs ys, left, sets-append o at (take (MOST - at) xs) (take (MOST - r₁) ys), place)));
+      end = omega (arith, p .end, q .end, length-append xs ys);
     }
 
 -- ---- bytes before bytes
@@ -61,9 +85,8 @@ pub counted-before : {o o′ o₁ o₂ : List ℕ} {end n at r : ℕ} {bs : List
 counted-before {o} {o′} {o₁} {o₂} {end} {n} {at} {r} {bs} p e q =
     record {
       fit = λ h l.
-          let a = p .fit (omega arith) in
-          let b = q .fit (omega (arith, a .0)) in
-          (omega (arith, a .0), b .1);
+          let k : n ≡ length bs = omega (arith, p .end) in
+          (omega (arith, k), q .stored ∙ few-bytes o at bs (omega (arith, k)));
     }
 
 -- ---- words
@@ -89,16 +112,25 @@ print-before {a = a} {b = b} p q = record { puts = rw text-append (then-before (
 
 -- ---- single bytes
 
-pub put-one : {o o′ : List ℕ} {at b r : ℕ} → o′ ≡ set o at b → (at + 1 ≤ MOST → r ≡ at + 1) → Puts o at (b ∷ []) o′ r
-put-one e f = record { fit = λ h. (f h, e) }
+pub put-one : {o o′ : List ℕ} {at b r : ℕ} → o′ ≡ set o at b → r ≡ endOf at 1 → length o ≤ MOST → Puts o at (b ∷ []) o′ r
+put-one {o} {at = at} {b = b} e f h = record { stored = e ∙ sym (all-bytes o at (b ∷ []) h); end = f }
 
 pub one-before : {o o′ : List ℕ} {end at b : ℕ} → at ≡ end - 1 → o′ ≡ set o at b → PutsBefore o end (b ∷ []) o′ at
 one-before f e = record { fit = λ h l. (omega arith, e) }
 
--- bytes written before the end of as many
-pub before-end : {o o′ : List ℕ} {at end r : ℕ} {bs : List ℕ} → (at + length bs ≤ MOST → end ≡ at + length bs) → PutsBefore o end bs o′ r → Puts o at bs o′ end
-before-end {o} {at = at} {r = r} {bs = bs} e p =
-    record { fit = λ h. let n = e h in let a = p .fit (omega arith) (omega arith) in let s : r ≡ at = omega (arith, a .0) in (n, a .1 ∙ rw s) }
+-- bytes written before the end of as many, where they are counted or far past the output
+pub before-end : {o o′ : List ℕ} {at end r : ℕ} {bs : List ℕ} → end ≡ endOf at (length bs) → PutsBefore o end bs o′ r → (MOST < at + length bs → (at ≤ MOST) × (length o + length bs ≤ MOST)) → Puts o at bs o′ end
+before-end {o} {at = at} {r = r} {bs = bs} e p far =
+    either-less MOST (at + length bs)
+    (λ h.
+    let low = far h .0 in
+    let past = far h .1 in
+    let a = p .fit (omega arith) (omega arith) in
+    record { stored = a .1 ∙ sets-out o r bs (omega (arith, a .0)) ∙ sym (all-bytes o at bs (omega arith) ∙ sets-out o at bs (omega arith)); end = e })
+    (λ h.
+    let a = p .fit (omega arith) (omega arith) in
+    let s : r ≡ at = omega (arith, a .0) in
+    record { stored = a .1 ∙ rw s (sym (few-bytes o at bs h)); end = e })
 
 -- how many bytes were written before the last place of all
 pub count-before : {o o′ : List ℕ} {r n : ℕ} {bs : List ℕ} → length bs ≤ MOST → PutsBefore o MOST bs o′ r → n ≡ MOST - r → n ≡ length bs
@@ -106,7 +138,7 @@ count-before h p e = let a = p .fit h (omega arith) in omega (arith, a .0)
 
 -- how many bytes were written from the first place on
 pub count-after : {o o′ : List ℕ} {n : ℕ} {bs : List ℕ} → length bs ≤ MOST → Puts o 0 bs o′ n → n ≡ length bs
-count-after h p = let a = p .fit (omega arith) in omega (arith, a .0)
+count-after h p = omega (arith, p .end)
 
 -- ---- a loop that writes bytes: some are done, and those left make the whole
 

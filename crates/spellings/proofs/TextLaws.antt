@@ -6,12 +6,12 @@ use native.Mathlib.Omega.{arith}
 use mathlib.Core.Path.{_≡_, refl, sym, ap, _∙_}
 use mathlib.Core.List.{List, [], _∷_, _++_}
 use lib.ListN.{length, take, drop, set, length-set, length-append, length-drop, drop-of-length-le, getD, take-append-drop}
-use lib.Seq.{sets, sets-eq, set-out, set-set, take-at, drop-cons, getD-take, length-take-le}
+use lib.Seq.{sets, sets-eq, set-set, take-at, drop-cons, getD-take, length-take-le}
 use borrow.Author.Tests.{lt-ltb, le-ltb}
 use Rattle.spellings.specs.declared.texts.Spelling.{Spelling}
-use Rattle.spellings.specs.Output.{MOST, Puts}
+use Rattle.spellings.specs.Output.{MOST, endOf, Puts}
 use Rattle.spellings.specs.Spelling.{lowBytes, part, spelt, Written}
-use Rattle.spellings.proofs.Outputs.{sets-append, set-sets}
+use Rattle.spellings.proofs.Outputs.{sets-append, set-sets, sets-out, few-bytes, all-bytes}
 
 -- ---- the lowest bytes of a number
 
@@ -104,20 +104,16 @@ module _ (s : Spelling) where
 
 -- ---- a text written into a list of its own, and past the end
 
-pub written-puts : {o o′ bs : List ℕ} {at r : ℕ} → Written o at bs o′ r → Puts o at bs o′ r
-written-puts w = record { fit = λ h. (w .end, w .stored) }
+pub written-puts : {o o′ bs : List ℕ} {at r : ℕ} → Written o at bs o′ r → at + length bs ≤ MOST → Puts o at bs o′ r
+written-puts {o} {bs = bs} {at = at} w h = record { stored = w .stored ∙ sym (few-bytes o at bs h); end = omega (arith, w .end) }
 
 pub written-take : {o o′ bs : List ℕ} {n : ℕ} → length bs ≤ length o → Written o 0 bs o′ n → take n o′ ≡ bs
 written-take {o} {o′} {bs} {n} h w =
     let e : length bs ≡ n = omega (arith, w .end) in
     rw (w .stored, sets-eq bs o 0 (omega arith)) (take-at bs (drop (0 + length bs) o) n e)
 
-sets-out : (o : List ℕ) (i : ℕ) (bs : List ℕ) → length o ≤ i → sets o i bs ≡ o
-sets-out o i [] h = refl
-sets-out o i (b ∷ bs) h = rw (set-out o i b h) (sets-out o (suc i) bs (omega arith))
-
-pub puts-past : {o bs : List ℕ} {at r : ℕ} → length o ≤ at → (at + length bs ≤ MOST → r ≡ at + length bs) → Puts o at bs o r
-puts-past {o} {bs} {at} h e = record { fit = λ l. (e l, sym (sets-out o at bs h)) }
+pub puts-past : {o bs : List ℕ} {at r : ℕ} → length o ≤ at → r ≡ endOf at (length bs) → at ≤ MOST → Puts o at bs o r
+puts-past {o} {bs} {at} h e l = record { stored = sym (all-bytes o at bs (omega arith) ∙ sets-out o at bs h); end = e }
 
 -- ---- the first bytes of a list, one by one
 

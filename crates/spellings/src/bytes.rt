@@ -1,12 +1,12 @@
 // Bytes of an output, and places in it.
 ghost use mathlib.Core.Path.{_≡_};
 ghost use mathlib.Core.List.{[], _∷_};
-ghost use Prim.Native.Nat.{_+_, _-_, _≤_};
+ghost use Prim.Native.Nat.{_-_};
 ghost use lib.ListN.{set};
-ghost use Rattle.spellings.specs.Output.{MOST, Puts};
+ghost use Rattle.spellings.specs.Output.{endOf, Puts};
 
-// More bytes than any text has; counting stops there.
-pub const MOST: usize = 0x100_0000_0000;
+// The most bytes that are counted.
+pub const MOST: usize = 0xFFFF_FFFF_FFFF_FFFF;
 
 // Writes a byte where it fits.
 pub fn store(out: &mut [u8], at: usize, byte: u8)
@@ -19,13 +19,10 @@ pub fn store(out: &mut [u8], at: usize, byte: u8)
 
 // So many bytes after a place, as far as is counted.
 pub fn end_of(at: usize, length: usize) -> usize
-    ensures { λ r. ⌜ (at + length ≤ MOST → r ≡ at + length) ⌝ }
+    ensures { λ r. ⌜ r ≡ endOf at length ⌝ }
 {
-    if MOST < length {
-        return at;
-    }
-    if MOST - length < at {
-        return at;
+    if MOST - at < length {
+        return MOST;
     }
     at + length
 }

@@ -1,7 +1,8 @@
 -- The phrases that are printed, element by element, and the sources of their values, as the code has them.
 -- Assumes nothing.
-use Prim.Native.Nat.{ℕ}
+use Prim.Native.Nat.{ℕ, _+_}
 use mathlib.Core.List.{List, [], _∷_}
+use Rattle.print.specs.Phrase.{GUID}
 
 abbrev pub form-set-open-elements : List ℕ
 form-set-open-elements = 49 ∷ 52 ∷ 6 ∷ 0 ∷ 87 ∷ 4 ∷ 88 ∷ 4 ∷ 88 ∷ 4 ∷ []
@@ -64,10 +65,10 @@ abbrev pub rule-ref-elements : List ℕ
 rule-ref-elements = 65 ∷ 2 ∷ 72 ∷ 3 ∷ []
 
 abbrev pub form-set-open-sources : List ℕ
-form-set-open-sources = 12 ∷ 13 ∷ 14 ∷ []
+form-set-open-sources = GUID ∷ (GUID + 1) ∷ (GUID + 2) ∷ []
 
 abbrev pub form-set-braced-sources : List ℕ
-form-set-braced-sources = 15 ∷ 16 ∷ 17 ∷ 18 ∷ 19 ∷ 20 ∷ 21 ∷ 22 ∷ 3 ∷ 4 ∷ []
+form-set-braced-sources = (GUID + 3) ∷ (GUID + 4) ∷ (GUID + 5) ∷ (GUID + 6) ∷ (GUID + 7) ∷ (GUID + 8) ∷ (GUID + 9) ∷ (GUID + 10) ∷ 3 ∷ 4 ∷ []
 
 abbrev pub form-sources : List ℕ
 form-sources = 2 ∷ 3 ∷ []

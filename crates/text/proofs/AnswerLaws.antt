@@ -13,6 +13,7 @@ use Rattle.answers.specs.Answer as grammar
 use Rattle.answers.specs.Answer.{accepts}
 use Rattle.answers.specs.Resolution.{room, resolvedInto}
 use Rattle.spellings.specs.Output.{MOST}
+use Rattle.spellings.proofs.Outputs.{few-bytes}
 use Rattle.text.specs.declared.Answer.{Answer}
 use Rattle.text.specs.declared.Answer.the-variants.{Resolved, Long}
 use Rattle.text.specs.Printing.{TextPrinted}
@@ -33,7 +34,9 @@ into-room m need rows free h = rw (le-ltb (room m) need h, resolvedInto)
 module _ {t : List ℕ} {count : ℕ} {o o₁ : List ℕ} {bytes : ℕ} (p : TextPrinted t count o o₁ bytes) where
   -- how many bytes, and where they are
   written : (text : List ℕ) → HasText t count text → length text ≤ MOST → (bytes ≡ 0 + length text) × (o₁ ≡ sets o 0 text)
-  written text h l = rw (h .is) (p .prints (h .found) (h .place) (h .forms) (h .end) (h .row) (h .laid) (h .stops) .puts .fit (omega (arith, rw (h .is) at l)))
+  written text h l =
+      let w = rw (← h .is) at (p .prints (h .found) (h .place) (h .forms) (h .end) (h .row) (h .laid) (h .stops) .prints (omega (arith, rw (h .is) at l)) .puts) in
+      (omega (arith, w .end), w .stored ∙ few-bytes o 0 text (omega arith))
 
   pub too-long : {free : ℕ} {t₂ o₂ : List ℕ} → length o₁ ≡ length o → room (length o₁) < bytes → t₂ ≡ cleared t 0 → o₂ ≡ cleared o₁ 0 → RowsPrinted t count free o (Long bytes) t₂ o₂
   too-long {free = free} n h a b =

@@ -4,9 +4,9 @@ use Prim.Native.Nat.{ℕ, suc, _+_, _-_, _*_, _≤_, _<_}
 use native.Mathlib.Omega.{arith}
 use mathlib.Core.Path.{_≡_, refl, sym, ap, _∙_}
 use mathlib.Core.Bool.{true, false}
-use mathlib.Core.List.{List, append-assoc}
+use mathlib.Core.List.{List, _++_, append-assoc}
 use lib.Dec.{ltb}
-use lib.ListN.{length}
+use lib.ListN.{length, length-append}
 use borrow.Author.Tests.{lt-ltb, le-ltb}
 use Rattle.lexemes.specs.Classes as class
 use Rattle.lexemes.specs.Classes.{NAME}
@@ -16,13 +16,14 @@ use Rattle.rows.specs.Columns as column
 use Rattle.rows.specs.Table.{rowAt, cellAt}
 use Rattle.answers.specs.Expression.{Expression, negation, binary, Operator, operatorCode, operatorClass, level, constantClass}
 use Rattle.answers.specs.Text.{Word, words, lexeme, printed, textOf}
-use Rattle.spellings.specs.Output.{MOST, Prints, PrintsBefore}
+use Rattle.spellings.specs.Output.{MOST, endOf, Prints, PrintsBefore}
 use Rattle.statements.specs.Statements.{operandWords}
-use Rattle.spellings.proofs.Outputs.{print-before, counted-before, before-end, count-before}
+use Rattle.spellings.proofs.Outputs.{few-bytes, text-append, prints-then, print-before, counted-before, before-end, count-before}
 use Rattle.laid.specs.Spans.{Spans, spans-number, spans-constant, spans-question-named, spans-question-numbered, spans-rule-named, spans-negation, spans-binary}
 use Rattle.text.specs.declared.expressions.Ahead.{Ahead}
-use Rattle.text.specs.Operators.{LEVELS, codeLevel, codeClass, atomWords}
-use Rattle.text.specs.Before.{WordBefore, AtomBefore, ExpressionBefore, ExpressionCounted, ExpressionPrinted}
+use Rattle.fields.specs.Operators.{LEVELS, codeClass}
+use Rattle.text.specs.Operators.{codeLevel, atomWords}
+use Rattle.text.specs.Before.{PrintsCounted, WordBefore, AtomBefore, ExpressionBefore, ExpressionCounted, ExpressionPrinted}
 use Rattle.text.proofs.OperatorLaws.{operator-level, operator-class, constant-class, constant-level, level-low, constant-word, operator-not, constant-not, not-level, number-level, question-level, rule-level, number-class, question-class, rule-class}
 
 -- ---- what the last row tells
@@ -195,9 +196,9 @@ spine-more s n l f p = record { len = n ∙ s .len; low = omega arith; fall = om
 -- ---- words and operands before what is printed
 
 pub word-before : (k : ℕ) {o o′ : List ℕ} {a : Ahead} {n at r : ℕ} → n ≡ length (textOf (lexeme k)) → at ≡ a .at - n → Prints o at (lexeme k) o′ r → WordBefore o a (lexeme k) o′ (record { row = a .row; at = at })
-word-before k e f p =
+word-before k {o} {at = at} e f p =
     record {
-      prints = record { puts = record { fit = λ h l. let b = p .puts .fit (omega arith) in (omega arith, b .1) } };
+      prints = record { puts = record { fit = λ h l. (omega arith, p .puts .stored ∙ few-bytes o at (textOf (lexeme k)) (omega arith)) } };
       row = refl;
     }
 
@@ -209,11 +210,27 @@ operand-before t row e p f q = record { prints = record { puts = rw (← e) (cou
 pub counted : {t o o′ : List ℕ} {end n : ℕ} {r : Ahead} → ExpressionBefore t 0 o (record { row = end; at = MOST }) o′ r → n ≡ MOST - r .at → ExpressionCounted t end n
 counted p e = record { counts = λ found first x s h. count-before h (p .prints found first x s .0 .puts) e }
 
-pub expression-printed : {t o o′ : List ℕ} {at end n last : ℕ} {r : Ahead} → ExpressionCounted t end n → (at + n ≤ MOST → last ≡ at + n) → ExpressionBefore t 0 o (record { row = end; at = last }) o′ r → ExpressionPrinted t end o at o′ last
-expression-printed {at = at} {last = last} k f p =
+pub expression-printed : {t o o′ : List ℕ} {at end n last : ℕ} {r : Ahead} → ExpressionCounted t end n → last ≡ endOf at n → ExpressionBefore t 0 o (record { row = end; at = last }) o′ r → ExpressionPrinted t end o at o′ last
+expression-printed {at = at} {n = n} {last = last} k f p =
     record {
-      prints = λ found first x s.
-          let bs = textOf (printed found 0 x) in
-          let e : length bs ≤ MOST → _ = k .counts found first x s in
-          record { puts = before-end (λ h. let q = e (omega arith) in rw (← q) (f (rw q h))) (p .prints found first x s .0 .puts) };
+      prints = λ found first x s. record {
+        prints = λ h.
+            let bs = textOf (printed found 0 x) in
+            let e : n ≡ length bs = k .counts found first x s (omega arith) in
+            record { puts = before-end (rw e at f) (p .prints found first x s .0 .puts) (λ l. absurd (omega arith)) };
+      };
+    }
+
+-- ---- words one after another, where all are counted
+
+pub counts : {o o′ : List ℕ} {at r : ℕ} {ws : List Word} → Prints o at ws o′ r → PrintsCounted o at ws o′ r
+counts p = record { prints = λ h. p }
+
+pub counted-then : {o o₁ o₂ : List ℕ} {at r₁ r₂ : ℕ} {a b : List Word} → PrintsCounted o at a o₁ r₁ → PrintsCounted o₁ r₁ b o₂ r₂ → PrintsCounted o at (a ++ b) o₂ r₂
+counted-then {a = a} {b = b} p q =
+    record {
+      prints = λ h.
+          let n = ap length (text-append a b) ∙ length-append (textOf a) (textOf b) in
+          let first = p .prints (omega (arith, n)) in
+          prints-then first (q .prints (omega (arith, n, first .puts .end)));
     }

@@ -17,15 +17,15 @@ use Rattle.answers.specs.Expression.{Expression}
 use Rattle.answers.specs.Text.{opening}
 use Rattle.spellings.specs.Output.{Prints}
 use Rattle.statements.specs.Statements.{closing, expressionEnd}
-use Rattle.spellings.proofs.Outputs.{prints-none, prints-then}
-use Rattle.spellings.proofs.Outputs.{as-words}
+use Rattle.spellings.proofs.Outputs.{prints-none, as-words}
 use Rattle.laid.specs.Spans.{Spans, spans-number, spans-constant, spans-question-named, spans-question-numbered, spans-rule-named, spans-negation, spans-binary}
 use Rattle.laid.specs.Items.{Inner, Items}
 use Rattle.laid.specs.Laid.{Stretch, Stops, Inside, inside-plain, inside-expressed, Laid, laid-done, laid-item}
 use Rattle.text.specs.declared.items.Printed.{Printed}
-use Rattle.text.specs.Before.{ExpressionPrinted}
+use Rattle.text.specs.Before.{PrintsCounted, ExpressionPrinted}
 use Rattle.text.specs.ItemWords.{codeAt, innerWords, itemWords}
 use Rattle.text.specs.Printing.{Opened, ItemsPrinted, TextPrinted}
+use Rattle.text.proofs.ExpressionLaws.{counts, counted-then}
 
 -- ---- the end of an expression's rows
 
@@ -78,10 +78,10 @@ module _ (found : ℕ → List ℕ) {t : List ℕ} {count i : ℕ} where
   inner-plain k inside-plain e = refl
   inner-plain k (inside-expressed s) e = let q = spans-more s in absurd (omega arith)
 
-  inner-expressed : {inner : Inner} {j : ℕ} → Inside t count found i inner j → (j ≡ i → ⊥) → {o o₁ o₂ : List ℕ} {at r₁ r₂ : ℕ} (k : ℕ) → ExpressionPrinted t j o at o₁ r₁ → Prints o₁ r₁ (expressionEnd k) o₂ r₂ → Prints o at (innerWords found k inner) o₂ r₂
+  inner-expressed : {inner : Inner} {j : ℕ} → Inside t count found i inner j → (j ≡ i → ⊥) → {o o₁ o₂ : List ℕ} {at r₁ r₂ : ℕ} (k : ℕ) → ExpressionPrinted t j o at o₁ r₁ → Prints o₁ r₁ (expressionEnd k) o₂ r₂ → PrintsCounted o at (innerWords found k inner) o₂ r₂
   unfolding innerWords
   inner-expressed inside-plain n k p q = absurd (n refl)
-  inner-expressed (inside-expressed {e = e} s) n k p q = prints-then (p .prints found _ e s) q
+  inner-expressed (inside-expressed {e = e} s) n k p q = counted-then (p .prints found _ e s) (counts q)
 
 module _ {t : List ℕ} {count : ℕ} {o o₁ : List ℕ} {p : Printed} {r₁ end : ℕ} (l : p .row < count) (start : Prints o (p .at) (opening (rowAt t (p .row))) o₁ r₁) (s : Stretch t count (p .row + 1) end) where
   same-end : {j : ℕ} → Stretch t count (suc (p .row)) j → end ≡ j
@@ -92,7 +92,7 @@ module _ {t : List ℕ} {count : ℕ} {o o₁ : List ℕ} {p : Printed} {r₁ en
       record {
         prints = λ found place inner j f k n.
             let q = same-end k in
-            (as-words (rw (inner-plain found (codeAt found place) n (omega arith), f) (sym (append-nil (opening (found place))))) start, q);
+            (counts (as-words (rw (inner-plain found (codeAt found place) n (omega arith), f) (sym (append-nil (opening (found place))))) start), q);
         more = omega arith;
       }
 
@@ -102,7 +102,7 @@ module _ {t : List ℕ} {count : ℕ} {o o₁ : List ℕ} {p : Printed} {r₁ en
         prints = λ found place inner j f k i.
             let q : end ≡ j = same-end k in
             let code-is : _ ≡ codeAt found place = c ∙ ap (λ (r : List ℕ). getD r column.CODE 0) f in
-            (prints-then (rw f at start) (inner-expressed found i (λ z. n (omega arith)) (codeAt found place) (rw q at x) (rw code-is at y)), q);
+            (counted-then (counts (rw f at start)) (inner-expressed found i (λ z. n (omega arith)) (codeAt found place) (rw q at x) (rw code-is at y)), q);
         more = let u = s .up in omega arith;
       }
 
@@ -114,8 +114,8 @@ module _ {t : List ℕ} {count parent : ℕ} {o : List ℕ} {p : Printed} where
   unfolding itemWords
   items-end h = record { prints = λ found items m laid s. by found laid; more = omega arith }
     where
-      by : (found : ℕ → List ℕ) {items : Items} {m : ℕ} → Laid t count found parent (p .row) items m → Prints o (p .at) (itemWords found items) o (p .at) × (p .row ≡ m)
-      by found laid-done = (prints-none o (p .at), refl)
+      by : (found : ℕ → List ℕ) {items : Items} {m : ℕ} → Laid t count found parent (p .row) items m → PrintsCounted o (p .at) (itemWords found items) o (p .at) × (p .row ≡ m)
+      by found laid-done = (counts (prints-none o (p .at)), refl)
       by found (laid-item f e l s n w x y) = absurd (omega arith)
 
   -- none, at a row that stands elsewhere
@@ -123,8 +123,8 @@ module _ {t : List ℕ} {count parent : ℕ} {o : List ℕ} {p : Printed} where
   unfolding itemWords
   items-apart {c} g h = record { prints = λ found items m laid s. by found laid; more = omega arith }
     where
-      by : (found : ℕ → List ℕ) {items : Items} {m : ℕ} → Laid t count found parent (p .row) items m → Prints o (p .at) (itemWords found items) o (p .at) × (p .row ≡ m)
-      by found laid-done = (prints-none o (p .at), refl)
+      by : (found : ℕ → List ℕ) {items : Items} {m : ℕ} → Laid t count found parent (p .row) items m → PrintsCounted o (p .at) (itemWords found items) o (p .at) × (p .row ≡ m)
+      by found laid-done = (counts (prints-none o (p .at)), refl)
       by found (laid-item f e l s n w x y) = absurd (h (g ∙ e))
 
   -- one, and those after it
@@ -134,14 +134,14 @@ module _ {t : List ℕ} {count parent : ℕ} {o : List ℕ} {p : Printed} where
   items-next {o₄ = o₄} {r = r} {k = k} l g h a b f z d =
       record { prints = λ found items m laid s. by found laid s; more = let x = a .more in let y = b .more in let w = d .more in omega arith }
     where
-      by : (found : ℕ → List ℕ) {items : Items} {m : ℕ} → Laid t count found parent (p .row) items m → Stops t count parent m → Prints o (p .at) (itemWords found items) o₄ (r .at) × (r .row ≡ m)
+      by : (found : ℕ → List ℕ) {items : Items} {m : ℕ} → Laid t count found parent (p .row) items m → Stops t count parent m → PrintsCounted o (p .at) (itemWords found items) o₄ (r .at) × (r .row ≡ m)
       by found laid-done s = absurd (s .apart l (sym g ∙ h))
       by found (laid-item {p = place} {inner = inner} {within = within} {later = later} e _ _ st ins w x y) s =
           let one = a .prints found place inner _ e st ins in
           let two = b .prints found within _ (rw (one .1) w) x in
           let three = d .prints found later _ (rw (two .1) y) s in
           let code-is : k ≡ codeAt found place = f ∙ ap (λ (r : List ℕ). getD r column.CODE 0) e in
-          (prints-then (one .0) (prints-then (two .0) (prints-then (rw code-is at z) (three .0))), three .1)
+          (counted-then (one .0) (counted-then (two .0) (counted-then (counts (rw code-is at z)) (three .0))), three .1)
 
 pub record ItemLoop (t : List ℕ) (count parent : ℕ) (o : List ℕ) (p : Printed) (o′ : List ℕ) (p′ : Printed) : Type 0 where
   pub len : length o′ ≡ length o
@@ -157,4 +157,4 @@ loop-more s n l f = record { len = n ∙ s .len; more = let m = s .more in omega
 -- ---- the whole
 
 pub text-printed : {t : List ℕ} {count : ℕ} {o o₁ o₂ o₃ : List ℕ} {r₁ r₃ : ℕ} {q : Printed} → Prints o 0 (opening (rowAt t 0)) o₁ r₁ → ItemsPrinted t count 0 o₁ (record { row = 1; at = r₁ }) o₂ q → Prints o₂ (q .at) (closing code.FORM-SET) o₃ r₃ → TextPrinted t count o o₃ r₃
-text-printed a b c = record { prints = λ found place forms m e laid s. prints-then (rw e at a) (prints-then (b .prints found forms m laid s .0) c) }
+text-printed a b c = record { prints = λ found place forms m e laid s. counted-then (counts (rw e at a)) (counted-then (b .prints found forms m laid s .0) (counts c)) }

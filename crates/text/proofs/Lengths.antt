@@ -15,7 +15,7 @@ use Rattle.rows.specs.Table.{cellAt}
 use Rattle.answers.specs.Expression.{Expression, constantClass, operatorClass, level}
 use Rattle.answers.specs.Text as text
 use Rattle.answers.specs.Text.{Word, words, decimal, decimalDigits, hex, hexDigits, ruleName, lexeme, flagList, truth, grouped, printed, opening, textOf, Phrase, _prints_, phraseAmong, statements}
-use Rattle.print.specs.Phrase.{bit, flagWords, optionFlags, elementWords, valueFrom, added, skipAfter, passedAfter, phraseFrom, shownIn, elementIn, phraseWords}
+use Rattle.print.specs.Phrase.{bit, flagWords, optionFlags, elementWords, GUID, valueFrom, added, skipAfter, passedAfter, phraseFrom, shownIn, elementIn, phraseWords}
 use Rattle.statements.specs.Statements.{closing, expressionEnd}
 use Rattle.spellings.proofs.Outputs.{text-append}
 use Rattle.spellings.proofs.DigitLaws.{digits-few}
@@ -105,7 +105,7 @@ number-if false x y h l = l
 
 value-small : (r : List ℕ) → Small r → (s : ℕ) → valueFrom r s < 2 ^ 64
 unfolding valueFrom
-value-small r h s = number-if (ltb s 12) _ _ (h s) (among (s - 12))
+value-small r h s = number-if (ltb s GUID) _ _ (h s) (among (s - GUID))
   where
     among : (k : ℕ) → getD (getD r 6 0 / 2 ^ 32 ∷ getD r 6 0 / 2 ^ 16 % 2 ^ 16 ∷ getD r 6 0 % 2 ^ 16
         ∷ getD r 7 0 / 256 ^ 7 % 256 ∷ getD r 7 0 / 256 ^ 6 % 256 ∷ getD r 7 0 / 256 ^ 5 % 256 ∷ getD r 7 0 / 256 ^ 4 % 256 ∷ getD r 7 0 / 256 ^ 3 % 256 ∷ getD r 7 0 / 256 ^ 2 % 256 ∷ getD r 7 0 / 256 % 256 ∷ []) k (getD r 7 0 / 256 ^ 0 % 256) < 2 ^ 64

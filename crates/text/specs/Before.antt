@@ -1,6 +1,6 @@
 -- An expression printed from its end: where the printer then stands.
 -- Assumes nothing.
-use Prim.Native.Nat.{ℕ, _-_, _≤_}
+use Prim.Native.Nat.{ℕ, _+_, _-_, _≤_}
 use mathlib.Core.Path.{_≡_}
 use mathlib.Core.List.{List}
 use lib.ListN.{length}
@@ -11,6 +11,10 @@ use Rattle.spellings.specs.Output.{MOST, Prints, PrintsBefore}
 use Rattle.laid.specs.Spans.{Spans}
 use Rattle.text.specs.declared.expressions.Ahead.{Ahead}
 use Rattle.text.specs.Operators.{atomWords}
+
+-- words from a place on, where all their bytes are counted
+pub record PrintsCounted (o : List ℕ) (at : ℕ) (ws : List Word) (o′ : List ℕ) (r : ℕ) : Type 0 where
+  pub prints : at + length (textOf ws) ≤ MOST → Prints o at ws o′ r
 
 -- words before what is printed, of no row
 pub record WordBefore (o : List ℕ) (a : Ahead) (ws : List Word) (o′ : List ℕ) (r : Ahead) : Type 0 where
@@ -34,4 +38,4 @@ pub record ExpressionCounted (t : List ℕ) (end n : ℕ) : Type 0 where
       → length (textOf (printed found 0 e)) ≤ MOST → n ≡ length (textOf (printed found 0 e))
 
 pub record ExpressionPrinted (t : List ℕ) (end : ℕ) (o : List ℕ) (at : ℕ) (o′ : List ℕ) (r : ℕ) : Type 0 where
-  pub prints : (found : ℕ → List ℕ) (first : ℕ) (e : Expression) → Spans found t first e end → Prints o at (printed found 0 e) o′ r
+  pub prints : (found : ℕ → List ℕ) (first : ℕ) (e : Expression) → Spans found t first e end → PrintsCounted o at (printed found 0 e) o′ r

@@ -1,8 +1,8 @@
 // Expressions from their rows, with the fewest parentheses. The rows stand operands before operator, so that from the
 // last one back they are the operator, its right operand and then its left one: an expression is printed from its end.
-use crate::operators::LEVELS;
-use crate::operators::class_of;
 use crate::operators::level_of;
+use fields::operators::LEVELS;
+use fields::operators::class_of;
 use lexemes::classes::*;
 use rows::cell;
 use rows::codes;
@@ -17,8 +17,9 @@ ghost use mathlib.Core.Path.{_≡_};
 ghost use Prim.Native.Nat.{_≤_};
 ghost use Rattle.rows.specs.Table.{rowAt};
 ghost use Rattle.answers.specs.Text.{lexeme};
+ghost use Rattle.fields.specs.Operators.{LEVELS};
 ghost use Rattle.spellings.specs.Output.{Prints};
-ghost use Rattle.text.specs.Operators.{LEVELS, atomWords};
+ghost use Rattle.text.specs.Operators.{atomWords};
 ghost use Rattle.text.specs.Before.{WordBefore, AtomBefore, ExpressionBefore, ExpressionCounted, ExpressionPrinted};
 
 // Where printing from the end stands: the rows and the bytes before.

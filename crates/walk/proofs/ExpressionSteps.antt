@@ -31,7 +31,7 @@ use Rattle.answers.specs.Drafts.{encoded}
 use Rattle.fields.specs.Words.{codeOf, wordDraft}
 use Rattle.walk.specs.declared.State.{State}
 use Rattle.walk.specs.Meanings.{Meaning, Counted, Worded, Spelling, Tailing}
-use Rattle.walk.specs.Levels.{LEVELS, levelOf}
+use Rattle.fields.specs.Operators.{LEVELS, levelOf}
 use Rattle.walk.specs.Starts.{constantWords, isConstant}
 use Rattle.walk.specs.Walked.{Room, Walked, Reads, Closes, passed, deep, advanced, WithRow, Groups, ReadsRow, Spells}
 use Rattle.walk.proofs.Walks.{walked-then, counted-joins, walked-off, walked-nil, token-walked, resume-in, resume-enter, resume-skip, walked-node, counted-node, deep-walked}

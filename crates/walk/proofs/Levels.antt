@@ -23,7 +23,7 @@ use Rattle.grammar.specs.Ranges.{rangeOf, free}
 use Rattle.answers.specs.Expression as expr
 use Rattle.answers.specs.Expression.{Operator, operators, operatorClass, operatorCode, operator, operatorAmong}
 use Rattle.fields.specs.Words.{pair, lookUp, wordCodes, codeOf}
-use Rattle.walk.specs.Levels.{LEVELS, operatorLevels, levelOf}
+use Rattle.fields.specs.Operators.{LEVELS, operatorLevels, levelOf}
 use Rattle.walk.proofs.StatementSteps.{Told}
 
 -- Q holds of each number below n

@@ -1,7 +1,5 @@
 // Expressions: the rows of operands, then that of their operator (document 01, Grammar and Rows).
 use crate::State;
-use crate::operators::LEVELS;
-use crate::operators::level_of;
 use crate::starts::is_constant;
 use crate::steps::close;
 use crate::steps::flat;
@@ -10,6 +8,8 @@ use crate::steps::too_deep;
 use crate::steps::with_row;
 use crate::steps::word;
 use elements::phrase;
+use fields::operators::LEVELS;
+use fields::operators::level_of;
 use lexemes::classes::*;
 ghost use mathlib.Core.Path.{_≡_};
 ghost use mathlib.Core.Logic.{_≢_};
@@ -19,7 +19,7 @@ ghost use Rattle.lexemes.specs.Classes.{open-paren, «NOT»};
 ghost use Rattle.grammar.specs.Notation.{r};
 ghost use Rattle.grammar.specs.Rules.{level, <atom>, <or>};
 ghost use Rattle.grammar.specs.Derivation.{maxGroups};
-ghost use Rattle.walk.specs.Levels.{LEVELS};
+ghost use Rattle.fields.specs.Operators.{LEVELS};
 ghost use Rattle.walk.specs.Meanings.{Counted, Spelling};
 ghost use Rattle.walk.specs.Walked.{Room, Reads, Spells};
 

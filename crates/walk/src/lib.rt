@@ -3,7 +3,6 @@
 mod expressions;
 mod forms;
 mod items;
-mod operators;
 mod starts;
 mod steps;
 

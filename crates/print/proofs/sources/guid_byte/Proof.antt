@@ -1,6 +1,7 @@
 -- `print::sources::guid_byte` meets its contract.
 -- Assumes nothing.
-use Rattle.print.specs.Phrase.{valueFrom}
+use Prim.Native.Nat.{_+_}
+use Rattle.print.specs.Phrase.{GUID, valueFrom}
 use Rattle.spellings.proofs.SpellingLaws.{past-all}
 use Rattle.print.proofs.PhraseLaws.{last-byte}
 use borrow.Author.Needs.{needs}
@@ -39,7 +40,7 @@ unfolding valueFrom
 returns-7 c = rw (c .before .cell .ensures, c .match .keys7)
 
 returns-8 : tie.Need-returns-8
-returns-8 c = rw (c .before .cell .ensures) (last-byte _ _ (past-all (Unit {0}) 15 7 _ (c .match .rest) (λ u. (c .before .before .before .pre))))
+returns-8 c = rw (c .before .cell .ensures) (last-byte _ _ (past-all (Unit {0}) (GUID + 3) 7 _ (c .match .rest) (λ u. (c .before .before .before .pre))))
 
 pub guid-byte-spec : {M : Type 1} → statement M
 guid-byte-spec =

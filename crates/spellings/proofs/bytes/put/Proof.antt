@@ -1,5 +1,6 @@
 -- `spellings::bytes::put` meets its contract.
 -- Assumes nothing.
+use native.Mathlib.Omega.{arith}
 use Rattle.spellings.proofs.Outputs.{put-one}
 use borrow.Author.Needs.{needs}
 use Rattle.spellings.proofs.bytes.put.Statement.{statement}
@@ -15,7 +16,7 @@ same-length : tie.Need-same-length
 same-length c = search needs
 
 returns : tie.Need-returns
-returns c = put-one (c .before .before .before .store .ensures) (c .end-of .ensures)
+returns c = put-one (c .before .before .before .store .ensures) (c .end-of .ensures) (omega arith)
 
 pub put-spec : {M : Type 1} → statement M
 put-spec = tie.close (tie.spec store-requires end-of-requires same-length returns)

@@ -1,6 +1,8 @@
 -- `spellings::numerals::put_digits` meets its contract.
 -- Assumes nothing.
+use native.Mathlib.Omega.{arith}
 use Rattle.spellings.proofs.Outputs.{before-end}
+use Rattle.spellings.proofs.DigitLaws.{digits-few}
 use borrow.Author.Needs.{needs}
 use Rattle.spellings.proofs.numerals.put_digits.Statement.{statement}
 use Rattle.spellings.proofs.numerals.put_digits.Tie as tie
@@ -18,7 +20,11 @@ same-length : tie.Need-same-length
 same-length c = search needs
 
 returns : tie.Need-returns
-returns c = before-end (rw (c .before .before .before .before .before .digit-count .ensures) at (c .before .before .before .before .end-of .ensures)) (c .before .before .put-digits-back .ensures)
+returns c =
+    let start = c .before .before .before .before .before .before .before in
+    let end-is = rw (c .before .before .before .before .before .digit-count .ensures) at (c .before .before .before .before .end-of .ensures) in
+    before-end end-is (c .before .before .put-digits-back .ensures)
+    (λ h. (omega arith, omega (arith, start .good .0 .1, digits-few (start .args .n) (omega (arith, start .fits .n)))))
 
 pub put-digits-spec : {M : Type 1} → statement M
 put-digits-spec =

@@ -1,6 +1,7 @@
 -- `spellings::texts::put_part` meets its contract. The loop's invariant: the bytes from the k-th on are left.
 -- Assumes nothing.
 use Prim.Native.Nat.{_-_}
+use native.Mathlib.Omega.{arith}
 use mathlib.Core.Path.{_≡_, refl}
 use lib.ListN.{length, take, drop}
 use lib.Seq.{length-take-le}
@@ -20,7 +21,7 @@ end-of-requires : tie.Need-end-of-requires Inv-loop μ-loop
 end-of-requires c κs = search needs
 
 returns : tie.Need-returns Inv-loop μ-loop
-returns c = puts-past (c .before .if1 .taken) (rw (length-take-le (c .before .before .before .before .args .count) (c .before .before .before .before .args .text .now) (c .before .before .before .before .pre)) (c .end-of .ensures))
+returns c = puts-past (c .before .if1 .taken) (rw (length-take-le (c .before .before .before .before .args .count) (c .before .before .before .before .args .text .now) (c .before .before .before .before .pre)) (c .end-of .ensures)) (omega arith)
 
 loop-holds : tie.Need-loop-holds Inv-loop μ-loop
 loop-holds c = (partly-none _ _ _, refl)

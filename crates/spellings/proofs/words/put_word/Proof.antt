@@ -1,7 +1,8 @@
 -- `spellings::words::put_word` meets its contract.
 -- Assumes nothing.
+use native.Mathlib.Omega.{arith}
 use Rattle.spellings.proofs.TextLaws.{written-puts}
-use Rattle.spellings.proofs.SpellingLaws.{no-word}
+use Rattle.spellings.proofs.SpellingLaws.{no-word, lexeme-short}
 use borrow.Author.Needs.{needs}
 use Rattle.spellings.proofs.words.put_word.Statement.{statement}
 use Rattle.spellings.proofs.words.put_word.Tie as tie
@@ -25,7 +26,7 @@ same-length-2 : tie.Need-same-length-2
 same-length-2 c = search needs
 
 returns-2 : tie.Need-returns-2
-returns-2 c = record { puts = written-puts (c .before .before .write-word .ensures) }
+returns-2 c = record { puts = written-puts (c .before .before .write-word .ensures) (omega (arith, lexeme-short (c .before .before .before .before .before .before .before .before .args .class))) }
 
 put-cut-requires : tie.Need-put-cut-requires
 put-cut-requires c κs = search needs

@@ -13,7 +13,7 @@ use Rattle.text.proofs.expressions.+put_before.Lts-put_before as put-be
 use Rattle.rows.proofs.cell.Reads as cell-reads
 use Rattle.text.proofs.expressions.put_atom_before.Reads as put-atom-before-reads
 use Rattle.text.proofs.expressions.put_word_before.Reads as put-word-before-reads
-use Rattle.text.proofs.operators.class_of.Reads as class-of-reads
+use Rattle.fields.proofs.operators.class_of.Reads as class-of-reads
 use Rattle.text.proofs.operators.level_of.Reads as level-of-reads
 use Rattle.text.proofs.expressions.+put_before.{statement}
 use Rattle.text.proofs.expressions.+put_before.Tie.{close}

@@ -1,102 +1,21 @@
 -- `text::operators::level_of` meets its contract.
 -- Assumes nothing.
-use mathlib.Core.Path.{sym}
-use Rattle.fields.proofs.LookUps.{missed}
-use Rattle.text.specs.Operators.{codeLevels, codeLevel}
+use mathlib.Core.Path.{_∙_, ap}
+use Rattle.fields.specs.Operators.{levelOf}
+use Rattle.text.specs.Operators.{codeLevel}
+use borrow.Author.Needs.{needs}
 use Rattle.text.proofs.operators.level_of.Statement.{statement}
 use Rattle.text.proofs.operators.level_of.Tie as tie
 
+class-of-requires : tie.Need-class-of-requires
+class-of-requires c κs = search needs
+
+level-of-requires : tie.Need-level-of-requires
+level-of-requires c κs = search needs
+
 returns : tie.Need-returns
-unfolding codeLevel codeLevels
-returns c = rw (c .match .keys1)
-
-returns-2 : tie.Need-returns-2
-unfolding codeLevel codeLevels
-returns-2 c = rw (c .match .keys2)
-
-returns-3 : tie.Need-returns-3
-unfolding codeLevel codeLevels
-returns-3 c = rw (c .match .keys3)
-
-returns-4 : tie.Need-returns-4
-unfolding codeLevel codeLevels
-returns-4 c = rw (c .match .keys4)
-
-returns-5 : tie.Need-returns-5
-unfolding codeLevel codeLevels
-returns-5 c = rw (c .match .keys5)
-
-returns-6 : tie.Need-returns-6
-unfolding codeLevel codeLevels
-returns-6 c = rw (c .match .keys6)
-
-returns-7 : tie.Need-returns-7
-unfolding codeLevel codeLevels
-returns-7 c = rw (c .match .keys7)
-
-returns-8 : tie.Need-returns-8
-unfolding codeLevel codeLevels
-returns-8 c = rw (c .match .keys8)
-
-returns-9 : tie.Need-returns-9
-unfolding codeLevel codeLevels
-returns-9 c = rw (c .match .keys9)
-
-returns-10 : tie.Need-returns-10
-unfolding codeLevel codeLevels
-returns-10 c = rw (c .match .keys10)
-
-returns-11 : tie.Need-returns-11
-unfolding codeLevel codeLevels
-returns-11 c = rw (c .match .keys11)
-
-returns-12 : tie.Need-returns-12
-unfolding codeLevel codeLevels
-returns-12 c = rw (c .match .keys12)
-
-returns-13 : tie.Need-returns-13
-unfolding codeLevel codeLevels
-returns-13 c = rw (c .match .keys13)
-
-returns-14 : tie.Need-returns-14
-unfolding codeLevel codeLevels
-returns-14 c = rw (c .match .keys14)
-
-returns-15 : tie.Need-returns-15
-unfolding codeLevel codeLevels
-returns-15 c = rw (c .match .keys15)
-
-returns-16 : tie.Need-returns-16
-unfolding codeLevel codeLevels
-returns-16 c = rw (c .match .keys16)
-
-returns-17 : tie.Need-returns-17
-unfolding codeLevel codeLevels
-returns-17 c = rw (c .match .keys17)
-
-returns-18 : tie.Need-returns-18
-unfolding codeLevel codeLevels
-returns-18 c = sym (missed codeLevels 9 _ (c .match .rest))
+unfolding codeLevel
+returns c = c .level-of .ensures ∙ ap levelOf (c .before .class-of .ensures)
 
 pub level-of-spec : {M : Type 1} → statement M
-level-of-spec =
-    tie.close
-    (tie.spec
-    returns
-    returns-2
-    returns-3
-    returns-4
-    returns-5
-    returns-6
-    returns-7
-    returns-8
-    returns-9
-    returns-10
-    returns-11
-    returns-12
-    returns-13
-    returns-14
-    returns-15
-    returns-16
-    returns-17
-    returns-18)
+level-of-spec = tie.close (tie.spec class-of-requires level-of-requires returns)

@@ -17,7 +17,7 @@ use Rattle.walk.proofs.expressions.level.Reads as level
 use Rattle.walk.proofs.expressions.level.Kinds as level-kinds
 use Rattle.walk.proofs.expressions.+atom+level.Lts-level as level-lts
 use Rattle.walk.proofs.expressions.leaf.Reads as leaf-reads
-use Rattle.walk.proofs.operators.level_of.Reads as level-of-reads
+use Rattle.fields.proofs.operators.level_of.Reads as level-of-reads
 use Rattle.walk.proofs.steps.close.Reads as close-reads
 use Rattle.walk.proofs.steps.past.Reads as past-reads
 use Rattle.walk.proofs.steps.too_deep.Reads as too-deep-reads

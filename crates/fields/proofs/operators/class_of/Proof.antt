@@ -1,10 +1,10 @@
--- `text::operators::class_of` meets its contract.
+-- `fields::operators::class_of` meets its contract.
 -- Assumes nothing.
 use mathlib.Core.Path.{sym}
 use Rattle.fields.proofs.LookUps.{missed}
-use Rattle.text.specs.Operators.{codeClasses, codeClass}
-use Rattle.text.proofs.operators.class_of.Statement.{statement}
-use Rattle.text.proofs.operators.class_of.Tie as tie
+use Rattle.fields.specs.Operators.{codeClasses, codeClass}
+use Rattle.fields.proofs.operators.class_of.Statement.{statement}
+use Rattle.fields.proofs.operators.class_of.Tie as tie
 
 returns : tie.Need-returns
 unfolding codeClass codeClasses

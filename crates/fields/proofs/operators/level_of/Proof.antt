@@ -1,10 +1,10 @@
--- `walk::operators::level_of` meets its contract: each operator has its level, and any other class none.
+-- `fields::operators::level_of` meets its contract: each operator has its level, and any other class none.
 -- Assumes nothing.
 use mathlib.Core.Path.{sym}
-use Rattle.walk.specs.Levels.{operatorLevels, levelOf}
+use Rattle.fields.specs.Operators.{operatorLevels, levelOf}
 use Rattle.fields.proofs.LookUps.{missed}
-use Rattle.walk.proofs.operators.level_of.Statement.{statement}
-use Rattle.walk.proofs.operators.level_of.Tie as tie
+use Rattle.fields.proofs.operators.level_of.Statement.{statement}
+use Rattle.fields.proofs.operators.level_of.Tie as tie
 
 returns : tie.Need-returns
 unfolding levelOf operatorLevels

@@ -8,3 +8,4 @@ pub mod FlagWords
 pub mod Alternatives
 pub mod Spelling
 pub mod Spelled
+pub mod EachSpelled

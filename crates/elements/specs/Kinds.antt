@@ -1,4 +1,4 @@
--- The elements of a phrase. Below the kinds here an element is a token of that class.
+-- The elements of a phrase. Below the kinds here, which start above all classes, an element is a token of that class.
 -- Assumes nothing.
 use Prim.Native.Nat.{ℕ}
 use mathlib.Core.Bool.{Bool, cond, _||_}
@@ -11,45 +11,45 @@ use Rattle.grammar.specs.Parts.{mark, when}
 
 -- a number of 1 to 65,535: of a form, a goto, a written question or a questionref
 abbrev pub ID : ℕ
-ID = 80
+ID = 128
 
 -- a number of 0 to 65,535: of a string or a label
 abbrev pub SMALL : ℕ
-SMALL = 81
+SMALL = 129
 
 -- any other number, below 2^64
 abbrev pub LARGE : ℕ
-LARGE = 82
+LARGE = 130
 
 -- an option's flags: the number 0, or DEFAULT
 abbrev pub OPTION-FLAGS : ℕ
-OPTION-FLAGS = 83
+OPTION-FLAGS = 131
 
 -- what a questionref names: a name, or a number of 1 to 65,535
 abbrev pub REFERENCE : ℕ
-REFERENCE = 84
+REFERENCE = 132
 
 -- TRUE or FALSE
 abbrev pub TRUTH : ℕ
-TRUTH = 85
+TRUTH = 133
 
 -- FL
 abbrev pub FLAG-LIST : ℕ
-FLAG-LIST = 86
+FLAG-LIST = 134
 
 -- a hex number of at most 8, 4 or 2 digits
 abbrev pub H8 : ℕ
-H8 = 87
+H8 = 135
 
 abbrev pub H4 : ℕ
-H4 = 88
+H4 = 136
 
 abbrev pub H2 : ℕ
-H2 = 89
+H2 = 137
 
 -- the next four elements may be absent; they are there where the next token is the first of them
 abbrev pub MAYBE : ℕ
-MAYBE = 90
+MAYBE = 138
 
 -- how many elements MAYBE speaks of
 abbrev pub GROUP : ℕ

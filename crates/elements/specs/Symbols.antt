@@ -1,13 +1,14 @@
--- The phrases by number, and the symbols of the grammar that each reads (document 01, Grammar).
+-- The phrases by number: the symbols of the grammar that each reads, and its elements (document 01, Grammar).
 -- Assumes nothing.
 use Prim.Native.Nat.{ℕ}
-use mathlib.Core.List.{List, [], _∷_}
+use mathlib.Core.List.{List, [], _∷_, _++_}
 use lib.ListN.{getD}
 use Rattle.lexemes.specs.Classes.{open-brace, close-brace, open-paren, close-paren, comma, semicolon, «=»}
-use Rattle.lexemes.specs.Classes.{«checkbox», «endcheckbox», «endform», «endformset», «endif», «endnumeric», «endoneof», «endrule», «flags», «form», «formid», «formset», «goto», «guid», «help», «label», «maximum», «minimum», «numeric», «oneof», «option», «questionref», «rule», «ruleref», «subtitle», «text», «title», «value», NAME}
+use Rattle.lexemes.specs.Classes.{«STRING_TOKEN», «checkbox», «default», «endcheckbox», «endform», «endformset», «endif», «endnumeric», «endoneof», «endrule», «flags», «form», «formid», «formset», «goto», «guid», «help», «label», «maximum», «minimum», «name», «numeric», «oneof», «option», «prompt», «questionid», «questionref», «rule», «ruleref», «step», «subtitle», «text», «title», «value», NAME}
 use Rattle.ll1.specs.Trees.{Symbol}
 use Rattle.grammar.specs.Rules.{<eight>, <H8>, <H4>, <str>, <id>, <small>, <large>, <goto-flags>?, <flags>?, <truth-default>?, <step>?, <number-default>?, <option-flags>, <head>, <name-or-number>}
 use Rattle.grammar.specs.Notation.{t, r}
+use Rattle.elements.specs.Kinds.{ID, SMALL, LARGE, OPTION-FLAGS, REFERENCE, TRUTH, FLAG-LIST, H8, H4, H2, MAYBE}
 
 abbrev pub FORM-SET-OPEN : ℕ
 FORM-SET-OPEN = 0
@@ -78,6 +79,8 @@ RULE-REF = 21
 abbrev pub GROUP-CLOSE : ℕ
 GROUP-CLOSE = 22
 
+-- ---- the symbols of each
+
 -- how a form set's opening ends: , title = STR , help = STR ,
 abbrev pub titleAndHelp : List Symbol
 titleAndHelp = t comma ∷ t «title» ∷ t «=» ∷ r <str> ∷ t comma ∷ t «help» ∷ t «=» ∷ r <str> ∷ t comma ∷ []
@@ -128,3 +131,71 @@ phraseSymbols =
 -- the symbols that a phrase reads; a number that no phrase has reads none
 unfoldable pub symbolsOf : ℕ → List Symbol
 symbolsOf phrase = getD phraseSymbols phrase []
+
+-- ---- the elements of each: strings, heads and the eight bytes of a GUID written out, MAYBE before what may be absent
+
+-- STR: STRING_TOKEN ( N )
+abbrev string : List ℕ
+string = «STRING_TOKEN» ∷ open-paren ∷ SMALL ∷ close-paren ∷ []
+
+-- HEAD: [name = NAME ,] [questionid = N ,] prompt = STR , help = STR
+abbrev head : List ℕ
+head = MAYBE ∷ «name» ∷ «=» ∷ NAME ∷ comma ∷ MAYBE ∷ «questionid» ∷ «=» ∷ ID ∷ comma ∷ «prompt» ∷ «=» ∷ string ++ comma ∷ «help» ∷ «=» ∷ string
+
+-- [flags = FL ,]
+abbrev flagsMaybe : List ℕ
+flagsMaybe = MAYBE ∷ «flags» ∷ «=» ∷ FLAG-LIST ∷ comma ∷ []
+
+abbrev eight : List ℕ
+eight = H2 ∷ comma ∷ H2 ∷ comma ∷ H2 ∷ comma ∷ H2 ∷ comma ∷ H2 ∷ comma ∷ H2 ∷ comma ∷ H2 ∷ comma ∷ H2 ∷ []
+
+-- , title = STR , help = STR ,
+abbrev titleHelp : List ℕ
+titleHelp = comma ∷ «title» ∷ «=» ∷ string ++ comma ∷ «help» ∷ «=» ∷ string ++ comma ∷ []
+
+-- in the order of their numbers
+unfoldable pub phraseElements : List (List ℕ)
+phraseElements =
+    -- formset guid = { H8 , H4 , H4 ,
+    («formset» ∷ «guid» ∷ «=» ∷ open-brace ∷ H8 ∷ comma ∷ H4 ∷ comma ∷ H4 ∷ comma ∷ [])
+    -- the rest of a form set's opening, with the inner braces and without
+    ∷ (open-brace ∷ eight ++ close-brace ∷ close-brace ∷ titleHelp)
+    ∷ (eight ++ close-brace ∷ titleHelp)
+    ∷ («endformset» ∷ semicolon ∷ [])
+    -- form formid = N , title = STR ;
+    ∷ («form» ∷ «formid» ∷ «=» ∷ ID ∷ comma ∷ «title» ∷ «=» ∷ string ++ semicolon ∷ [])
+    ∷ («endform» ∷ semicolon ∷ [])
+    -- rule NAME ,
+    ∷ («rule» ∷ NAME ∷ comma ∷ [])
+    ∷ («endrule» ∷ semicolon ∷ [])
+    -- subtitle text = STR ;
+    ∷ («subtitle» ∷ «text» ∷ «=» ∷ string ++ semicolon ∷ [])
+    -- text help = STR , text = STR ;
+    ∷ («text» ∷ «help» ∷ «=» ∷ string ++ comma ∷ «text» ∷ «=» ∷ string ++ semicolon ∷ [])
+    -- label N ;
+    ∷ («label» ∷ SMALL ∷ semicolon ∷ [])
+    -- goto N , HEAD [, flags = FL] ;
+    ∷ («goto» ∷ ID ∷ comma ∷ head ++ MAYBE ∷ comma ∷ «flags» ∷ «=» ∷ FLAG-LIST ∷ semicolon ∷ [])
+    -- checkbox HEAD , [flags = FL ,] [default = TRUE or FALSE ,] endcheckbox ;
+    ∷ («checkbox» ∷ head ++ comma ∷ flagsMaybe ++ MAYBE ∷ «default» ∷ «=» ∷ TRUTH ∷ comma ∷ «endcheckbox» ∷ semicolon ∷ [])
+    -- numeric HEAD , [flags = FL ,] minimum = N , maximum = N , [step = N ,] [default = N ,] endnumeric ;
+    ∷ («numeric» ∷ head ++ comma ∷ flagsMaybe ++ «minimum» ∷ «=» ∷ LARGE ∷ comma ∷ «maximum» ∷ «=» ∷ LARGE ∷ comma ∷ MAYBE ∷ «step» ∷ «=» ∷ LARGE ∷ comma ∷ MAYBE ∷ «default» ∷ «=» ∷ LARGE ∷ comma ∷ «endnumeric» ∷ semicolon ∷ [])
+    -- oneof HEAD , [flags = FL ,]
+    ∷ («oneof» ∷ head ++ comma ∷ flagsMaybe)
+    ∷ («endoneof» ∷ semicolon ∷ [])
+    -- option text = STR , value = N , flags = (N or DEFAULT) ;
+    ∷ («option» ∷ «text» ∷ «=» ∷ string ++ comma ∷ «value» ∷ «=» ∷ LARGE ∷ comma ∷ «flags» ∷ «=» ∷ OPTION-FLAGS ∷ semicolon ∷ [])
+    ∷ («endif» ∷ semicolon ∷ [])
+    ∷ (semicolon ∷ [])
+    -- N
+    ∷ (LARGE ∷ [])
+    -- questionref ( NAME or N )
+    ∷ («questionref» ∷ open-paren ∷ REFERENCE ∷ close-paren ∷ [])
+    -- ruleref ( NAME )
+    ∷ («ruleref» ∷ open-paren ∷ NAME ∷ close-paren ∷ [])
+    ∷ (close-paren ∷ [])
+    ∷ []
+
+-- the elements of a phrase; a number that no phrase has has none
+unfoldable pub elementsOf : ℕ → List ℕ
+elementsOf phrase = getD phraseElements phrase []

@@ -1,4 +1,5 @@
-// The elements of a phrase, and what each asks of a token. Below the kinds here an element is a token of that class.
+// The elements of a phrase, and what each asks of a token. Below the kinds here, which start above all classes, an
+// element is a token of that class.
 ghost use mathlib.Core.Path.{_≡_};
 ghost use mathlib.Core.Bool.{_||_};
 ghost use Rattle.values.specs.Numbers.{valueAt};
@@ -10,35 +11,35 @@ use lexemes::classes::*;
 use values::Value;
 
 // A number of 1 to 65,535: of a form, a goto, a written question or a questionref.
-pub const ID: u8 = 80;
+pub const ID: u8 = 128;
 
 // A number of 0 to 65,535: of a string or a label.
-pub const SMALL: u8 = 81;
+pub const SMALL: u8 = 129;
 
 // Any other number, below 2^64.
-pub const LARGE: u8 = 82;
+pub const LARGE: u8 = 130;
 
 // An option's flags: the number 0, or DEFAULT.
-pub const OPTION_FLAGS: u8 = 83;
+pub const OPTION_FLAGS: u8 = 131;
 
 // What a questionref names: a name, or a number of 1 to 65,535.
-pub const REFERENCE: u8 = 84;
+pub const REFERENCE: u8 = 132;
 
 // TRUE or FALSE.
-pub const TRUTH: u8 = 85;
+pub const TRUTH: u8 = 133;
 
 // FL: one or more flag words with `|` between.
-pub const FLAG_LIST: u8 = 86;
+pub const FLAG_LIST: u8 = 134;
 
 // A hex number of at most 8, 4 or 2 digits.
-pub const H8: u8 = 87;
+pub const H8: u8 = 135;
 
-pub const H4: u8 = 88;
+pub const H4: u8 = 136;
 
-pub const H2: u8 = 89;
+pub const H2: u8 = 137;
 
 // The next four elements may be absent; they are there where the next token is the first of them.
-pub const MAYBE: u8 = 90;
+pub const MAYBE: u8 = 138;
 
 // How many elements MAYBE speaks of.
 pub const GROUP: usize = 4;

@@ -1,4 +1,4 @@
--- The laws of the reader. The layers above use Streams, Resume and Keeping.
+-- The laws of the reader. The layers above use Streams, Resume, Keeping and the theorem of Theorems.
 pub mod ReadingLaws
 pub mod Streams
 pub mod Resume

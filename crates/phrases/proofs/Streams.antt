@@ -6,19 +6,19 @@ use mathlib.Core.Bool.{Bool, true, false, cond, _&&_}
 use mathlib.Core.List.{List, [], _∷_}
 use mathlib.Core.Logic.{_≢_}
 use native.Mathlib.Omega.{arith}
-use native.Mathlib.Decide.{decLe}
+use native.Mathlib.Decide.{decLe, decLt}
 use lib.Dec.{eqb, ltb, leb}
 use lib.ListN.{length, drop-of-length-le}
-use borrow.Author.Tests.{eq-eqb, ne-eqb, lt-ltb, ltb-true, leb-true, leb-false}
+use borrow.Author.Tests.{eq-eqb, ne-eqb, lt-ltb, le-ltb, lt-leb, leb-false}
 use Rattle.lex.specs.declared.Token as lex
 use Rattle.lexemes.specs.Classes.{BAD, END}
 use Rattle.lex.specs.Tokens.{gap, tokenFrom, tokenAfterGap, tokenAt, tokensWithin, tokensFrom, tokens}
 use Rattle.lex.proofs.Progress.{past-end, token-moves}
 use Rattle.lex.proofs.TokenList.{tokens-unfold, tokens-count}
 use Rattle.ll1.specs.Trees.{Token, token}
-use Rattle.ll1.proofs.Basics.{both}
 use Rattle.grammar.specs.Source.{grammarTokens, sourceTokens}
 use Rattle.phrases.specs.Stream.{stream, Within}
+use Rattle.phrases.specs.Phrase.{startsPast}
 
 -- past the source there are none
 none-past : (s : List ℕ) (at : ℕ) → length s ≤ at → grammarTokens (tokensFrom s at) ≡ []
@@ -80,10 +80,12 @@ within-at s at h = omega (arith, token-moves s at h)
 -- ---- a token that starts past the source
 
 module _ (s : List ℕ) (t : lex.Token) where
-  pub not-within {ℓ} : {A : Type ℓ} → (ltb (t .class) BAD && leb (length s) (t .start)) ≡ true → Within s t → A
-  not-within h w =
-      let p = both (ltb (t .class) BAD) (leb (length s) (t .start)) h in
-      absurd (omega (arith, w (ltb-true (t .class) BAD (p .0)), leb-true (length s) (t .start) (p .1)))
+  pub not-past : Within s t → startsPast s t ≡ false
+  not-past w = by (decLt (t .class) BAD)
+    where
+      by : Dec (t .class < BAD) → startsPast s t ≡ false
+      by (yes l) = rw (lt-ltb (t .class) BAD l) (lt-leb (length s) (t .start) (w l))
+      by (no h) = rw (le-ltb (t .class) BAD (omega arith))
 
-  pub else-within : (ltb (t .class) BAD && leb (length s) (t .start)) ≡ false → Within s t
+  pub else-within : startsPast s t ≡ false → Within s t
   else-within h l = leb-false (length s) (t .start) (let e : (true && leb (length s) (t .start)) ≡ false = rw (lt-ltb (t .class) BAD l) at h in e)

@@ -1,27 +1,30 @@
--- What reading a pattern gives that spells symbols of the grammar.
+-- What reading a phrase gives: its elements spell symbols of the grammar.
 -- Assumes nothing.
 use Prim.Native.Nat.{ℕ, _≤_, _<_}
 use mathlib.Core.Path.{_≡_, refl, sym, ap, _∙_, subst}
-use mathlib.Core.Bool.{true}
+use mathlib.Core.Bool.{true, false}
 use mathlib.Core.List.{List, [], _++_}
 use mathlib.Core.Logic.{_≢_}
 use native.Mathlib.Omega.{arith}
+use native.Mathlib.Decide.{ℕ-discrete}
 use lib.ListN.{List·getD-eq-default}
+use borrow.Author.Tests.{eq-eqb, ne-eqb}
 use Rattle.lex.specs.declared.Token.{Token}
 use Rattle.ll1.specs.Trees.{Symbol}
 use Rattle.ll1.specs.Machine.{dueAll}
 use Rattle.phrases.specs.declared.Cursor.{Cursor}
-use Rattle.elements.specs.Entries.{entries}
-use Rattle.phrases.specs.Phrase.{Kept, reader, starting, skipping, phraseFrom}
-use Rattle.elements.specs.Symbols.{GROUP-CLOSE, phraseSymbols, symbolsOf}
-use Rattle.elements.specs.Entries.{KEPT}
+use Rattle.elements.specs.Entries.{KEPT, entries}
+use Rattle.elements.specs.Symbols.{GROUP-CLOSE, symbolsOf, phraseElements, elementsOf}
+use Rattle.phrases.specs.Stream.{Within}
+use Rattle.phrases.specs.Phrase.{Kept, Reader, reader, starting, skipping, phraseFrom, startsPast, unread, phraseRead}
 use Rattle.phrases.specs.Passed.{Passed}
+use Rattle.elements.proofs.Spelling.{widths, Spells}
+use Rattle.elements.proofs.EachSpelled.{phrase-spelled, phrase-has-room}
+use Rattle.phrases.proofs.Streams.{not-past}
 use Rattle.phrases.proofs.Keeping.{kept-written}
 use Rattle.phrases.proofs.Resume.{resume-off}
 use Rattle.phrases.proofs.Pieces.{Many}
-use Rattle.elements.proofs.Spelling.{widths, Spells, spells-nil}
 use Rattle.phrases.proofs.Runs.{ran}
-use Rattle.elements.proofs.Spelled.{spells?, spelled, has-room}
 
 module _ {s : List ℕ} {α : List Symbol} {t : Token} {bad : ℕ} {l : List ℕ} {c : Cursor} {l′ : List ℕ} where
   passed : {w : ℕ} → w ≤ KEPT → Many s α w (starting t bad l) (reader c l′) → Passed s α 0 t bad l c l′
@@ -42,30 +45,59 @@ module _ {s : List ℕ} {α : List Symbol} {t : Token} {bad : ℕ} {l : List ℕ
         within = m .within;
       }
 
-  pub read-spelled : {p : List ℕ} → Spells α p [] → widths p ≤ KEPT → reader c l′ ≡ phraseFrom s p (starting t bad l) → Passed s α 0 t bad l c l′
+  read-spelled : {p : List ℕ} → Spells α p [] → widths p ≤ KEPT → reader c l′ ≡ phraseFrom s p (starting t bad l) → Passed s α 0 t bad l c l′
   unfolding phraseFrom
   read-spelled w room e =
       let o = ran s w (starting t bad l) refl in
       let f = o .few in
       passed (omega arith) (subst (Many s α (o .most) (starting t bad l)) (sym (e ∙ (o .same ∙ ap (skipping (o .to)) (sym (o .many .skip))))) (o .many))
 
--- a refusal is handed on
-pub handed-on : {s : List ℕ} {α : List Symbol} {n : ℕ} {t : Token} {bad : ℕ} {l : List ℕ} → n ≢ 0 → Passed s α n t bad l (record { no = n; token = t; bad = bad; count = 0 }) l
-handed-on {s} {α} {n} {t} h =
-    record {
-      verdict = λ σ d o. resume-off s (dueAll d α ++ σ) σ n t h;
-      got = λ q. absurd (h q);
-      within = λ w. w;
-    }
+module _ (s : List ℕ) (n : ℕ) (t : Token) (bad k : ℕ) (l : List ℕ) where
+  -- a refusal is handed on
+  handed-on : n ≢ 0 → Passed s (symbolsOf k) n t bad l (record { no = n; token = t; bad = bad; count = 0 }) l
+  handed-on h =
+      record {
+        verdict = λ σ d o. resume-off s (dueAll d (symbolsOf k) ++ σ) σ n t h;
+        got = λ q. absurd (h q);
+        within = λ w. w;
+      }
 
--- ---- phrases by number
+  -- ---- the branches of a phrase by its number
 
-module _ {s : List ℕ} {k : ℕ} {t : Token} {bad : ℕ} {l : List ℕ} where
-  -- the phrase j, by the test of its pattern p against its symbols
-  pub read-tested : (j : ℕ) → k ≡ j → (p : List ℕ) → spells? (symbolsOf j) p ≡ true → {c : Cursor} {l′ : List ℕ} → reader c l′ ≡ phraseFrom s p (starting t bad l) → Passed s (symbolsOf k) 0 t bad l c l′
-  read-tested j q p h e = rw q (read-spelled (spelled (symbolsOf j) p h) (has-room (symbolsOf j) p h) e)
+  pub read-refused : n ≢ 0 → phraseRead s n t bad k l ≡ unread n t bad l
+  unfolding phraseRead
+  read-refused h = rw (ne-eqb n 0 h)
 
-  -- a number that no phrase has
-  pub read-nothing : GROUP-CLOSE < k → Passed s (symbolsOf k) 0 t bad l (record { no = 0; token = t; bad = bad; count = 0 }) l
-  unfolding symbolsOf phraseSymbols phraseFrom
-  read-nothing h = rw (List·getD-eq-default phraseSymbols [] {n = k} h) (read-spelled spells-nil (omega arith) refl)
+  pub read-past : n ≡ 0 → startsPast s t ≡ true → phraseRead s n t bad k l ≡ unread 0 t bad l
+  unfolding phraseRead
+  read-past z h = rw (eq-eqb n 0 z, h, z)
+
+  pub read-on : n ≡ 0 → startsPast s t ≡ false → phraseRead s n t bad k l ≡ phraseFrom s (elementsOf k) (starting t bad l)
+  unfolding phraseRead
+  read-on z h = rw (eq-eqb n 0 z, h)
+
+-- ---- the theorem
+
+module _ {s : List ℕ} {n : ℕ} {t : Token} {bad : ℕ} {l : List ℕ} {c : Cursor} {l′ : List ℕ} where
+  same-reader : {α : List Symbol} {d : Cursor} {m : List ℕ} → reader c l′ ≡ reader d m → Passed s α n t bad l d m → Passed s α n t bad l c l′
+  same-reader {α} e p =
+      subst (λ (x : Reader). Passed s α n t bad l (record { no = x .no; token = x .token; bad = x .bad; count = x .kept .count }) (x .kept .list)) (sym e) p
+
+  -- from a token within the source the verdict is as if the phrase's symbols were due before; and where there is no refusal, the trees
+  pub phrase-passed : (k : ℕ) → Within s t → reader c l′ ≡ phraseRead s n t bad k l → Passed s (symbolsOf k) n t bad l c l′
+  phrase-passed k w e = by (ℕ-discrete n 0)
+    where
+      by : Dec (n ≡ 0) → Passed s (symbolsOf k) n t bad l c l′
+      by (yes z) = rw z (read-spelled (phrase-spelled k) (phrase-has-room k) (e ∙ read-on s n t bad k l z (not-past s t w)))
+      by (no h) = same-reader (e ∙ read-refused s n t bad k l h) (handed-on s n t bad k l h)
+
+-- ---- the patterns of the code
+
+-- the phrase k is the phrase j
+pub read-numbered : (s : List ℕ) {k : ℕ} {x : Reader} (y : Reader) (j : ℕ) → k ≡ j → x ≡ phraseFrom s (elementsOf j) y → x ≡ phraseFrom s (elementsOf k) y
+read-numbered s y j q e = rw q e
+
+-- a number that no phrase has
+pub read-nothing : (s : List ℕ) {k : ℕ} {t : Token} {bad : ℕ} {l : List ℕ} → GROUP-CLOSE < k → starting t bad l ≡ phraseFrom s (elementsOf k) (starting t bad l)
+unfolding elementsOf phraseElements phraseFrom
+read-nothing s {k} h = rw (List·getD-eq-default phraseElements [] {n = k} h)

@@ -1,12 +1,12 @@
 -- Reading a phrase: a list of elements, from a token on.
 -- Assumes nothing.
 use Prim.Native.Nat.{ℕ, zero, suc, _+_, _-_}
-use mathlib.Core.Bool.{cond}
+use mathlib.Core.Bool.{Bool, cond, _&&_}
 use mathlib.Core.List.{List, [], _∷_}
-use lib.Dec.{eqb, ltb}
+use lib.Dec.{eqb, ltb, leb}
 use lib.ListN.{length, getD, set}
 use Rattle.lex.specs.declared.Token.{Token}
-use Rattle.lexemes.specs.Classes.{«|»}
+use Rattle.lexemes.specs.Classes.{«|», BAD}
 use Rattle.lex.specs.Tokens.{tokenAt}
 use Rattle.ll1.specs.ParseTable.{member}
 use Rattle.phrases.specs.declared.Cursor.{Cursor}
@@ -15,6 +15,7 @@ use Rattle.elements.specs.Words.{noWords, withWord, bitsOf}
 use Rattle.phrases.specs.Stream.{stream}
 use Rattle.elements.specs.Marks.{marked, outOf}
 use Rattle.elements.specs.Kinds.{FLAG-LIST, MAYBE, GROUP, startsOf, flagWords, isKept, elementRange, elementEntries}
+use Rattle.elements.specs.Symbols.{elementsOf}
 
 -- ---- what is kept
 
@@ -124,3 +125,18 @@ stepOf s x e next = cond (eqb (x .skip) 0) (cond (eqb (x .no) 0) (reading s x e 
 unfoldable pub phraseFrom : List ℕ → List ℕ → Reader → Reader
 phraseFrom s [] x = skipping x 0
 phraseFrom s (e ∷ p) x = phraseFrom s p (stepOf s x e (getD p 0 0))
+
+-- ---- a phrase by its number
+
+-- a token with bytes starts past the source
+abbrev pub startsPast : List ℕ → Token → Bool
+startsPast s t = ltb (t .class) BAD && leb (length s) (t .start)
+
+-- nothing read, with the refusal n or 0
+abbrev pub unread : ℕ → Token → ℕ → List ℕ → Reader
+unread n t bad l = record { no = n; token = t; bad = bad; skip = 0; kept = keptAt 0 l }
+
+-- a phrase from the token t on, where n is 0; a refusal n is handed on, and nothing is read from a token that starts past the source
+unfoldable pub phraseRead : List ℕ → ℕ → Token → ℕ → ℕ → List ℕ → Reader
+phraseRead s n t bad phrase l =
+    cond (eqb n 0) (cond (startsPast s t) (unread n t bad l) (phraseFrom s (elementsOf phrase) (starting t bad l))) (unread n t bad l)

@@ -5,8 +5,8 @@ mod reader;
 ghost use mathlib.Core.Path.{_≡_};
 ghost use Prim.Native.Nat.{_≤_};
 ghost use Rattle.phrases.specs.Stream.{Within};
-ghost use Rattle.phrases.specs.Passed.{Passed};
-ghost use Rattle.elements.specs.Symbols.{FORM-SET-CLOSE, FORM-OPEN, RULE-CLOSE, SUBTITLE, NUMERIC, ONE-OF-OPEN, OPTION, CONDITION-CLOSE, GROUP-CLOSE, symbolsOf};
+ghost use Rattle.phrases.specs.Phrase.{reader, starting, phraseFrom, phraseRead};
+ghost use Rattle.elements.specs.Symbols.{FORM-SET-CLOSE, FORM-OPEN, RULE-CLOSE, SUBTITLE, NUMERIC, ONE-OF-OPEN, OPTION, CONDITION-CLOSE, GROUP-CLOSE, elementsOf};
 use crate::reader::read_phrase;
 use elements::patterns;
 use elements::phrase;
@@ -39,7 +39,7 @@ fn standing(no: u64, token: Token, bad: usize, count: usize) -> Cursor
 // The phrases of a form set.
 fn read_form_set(src: &[u8], token: Token, bad: usize, phrase: u8, kept: &mut [u64]) -> Cursor
     requires { ⌜ Within (now src) token × (phrase ≤ FORM-SET-CLOSE) ⌝ }
-    ensures { λ r. ⌜ Passed (now (src .entry)) (symbolsOf phrase) 0 token bad (now (kept .entry)) r (now (kept .exit)) ⌝ }
+    ensures { λ r. ⌜ reader r (now (kept .exit)) ≡ phraseFrom (now (src .entry)) (elementsOf phrase) (starting token bad (now (kept .entry))) ⌝ }
 {
     match phrase {
         phrase::FORM_SET_OPEN => read_phrase(src, token, bad, &patterns::FORM_SET_OPEN, kept),
@@ -52,7 +52,7 @@ fn read_form_set(src: &[u8], token: Token, bad: usize, phrase: u8, kept: &mut [u
 // The phrases of a form and of a rule.
 fn read_form(src: &[u8], token: Token, bad: usize, phrase: u8, kept: &mut [u64]) -> Cursor
     requires { ⌜ Within (now src) token × (FORM-OPEN ≤ phrase) × (phrase ≤ RULE-CLOSE) ⌝ }
-    ensures { λ r. ⌜ Passed (now (src .entry)) (symbolsOf phrase) 0 token bad (now (kept .entry)) r (now (kept .exit)) ⌝ }
+    ensures { λ r. ⌜ reader r (now (kept .exit)) ≡ phraseFrom (now (src .entry)) (elementsOf phrase) (starting token bad (now (kept .entry))) ⌝ }
 {
     match phrase {
         phrase::FORM_OPEN => read_phrase(src, token, bad, &patterns::FORM_OPEN, kept),
@@ -65,7 +65,7 @@ fn read_form(src: &[u8], token: Token, bad: usize, phrase: u8, kept: &mut [u64])
 // The items of one phrase.
 fn read_item(src: &[u8], token: Token, bad: usize, phrase: u8, kept: &mut [u64]) -> Cursor
     requires { ⌜ Within (now src) token × (SUBTITLE ≤ phrase) × (phrase ≤ NUMERIC) ⌝ }
-    ensures { λ r. ⌜ Passed (now (src .entry)) (symbolsOf phrase) 0 token bad (now (kept .entry)) r (now (kept .exit)) ⌝ }
+    ensures { λ r. ⌜ reader r (now (kept .exit)) ≡ phraseFrom (now (src .entry)) (elementsOf phrase) (starting token bad (now (kept .entry))) ⌝ }
 {
     match phrase {
         phrase::SUBTITLE => read_phrase(src, token, bad, &patterns::SUBTITLE, kept),
@@ -80,7 +80,7 @@ fn read_item(src: &[u8], token: Token, bad: usize, phrase: u8, kept: &mut [u64])
 // The phrases of a oneof.
 fn read_one_of(src: &[u8], token: Token, bad: usize, phrase: u8, kept: &mut [u64]) -> Cursor
     requires { ⌜ Within (now src) token × (ONE-OF-OPEN ≤ phrase) × (phrase ≤ OPTION) ⌝ }
-    ensures { λ r. ⌜ Passed (now (src .entry)) (symbolsOf phrase) 0 token bad (now (kept .entry)) r (now (kept .exit)) ⌝ }
+    ensures { λ r. ⌜ reader r (now (kept .exit)) ≡ phraseFrom (now (src .entry)) (elementsOf phrase) (starting token bad (now (kept .entry))) ⌝ }
 {
     match phrase {
         phrase::ONE_OF_OPEN => read_phrase(src, token, bad, &patterns::ONE_OF_OPEN, kept),
@@ -92,7 +92,7 @@ fn read_one_of(src: &[u8], token: Token, bad: usize, phrase: u8, kept: &mut [u64
 // The phrases of a condition and of an expression.
 fn read_expression(src: &[u8], token: Token, bad: usize, phrase: u8, kept: &mut [u64]) -> Cursor
     requires { ⌜ Within (now src) token × (CONDITION-CLOSE ≤ phrase) × (phrase ≤ GROUP-CLOSE) ⌝ }
-    ensures { λ r. ⌜ Passed (now (src .entry)) (symbolsOf phrase) 0 token bad (now (kept .entry)) r (now (kept .exit)) ⌝ }
+    ensures { λ r. ⌜ reader r (now (kept .exit)) ≡ phraseFrom (now (src .entry)) (elementsOf phrase) (starting token bad (now (kept .entry))) ⌝ }
 {
     match phrase {
         phrase::CONDITION_CLOSE => read_phrase(src, token, bad, &patterns::CONDITION_CLOSE, kept),
@@ -107,7 +107,7 @@ fn read_expression(src: &[u8], token: Token, bad: usize, phrase: u8, kept: &mut 
 // A phrase by its number, from a token that starts within the source.
 fn read_within(src: &[u8], token: Token, bad: usize, phrase: u8, kept: &mut [u64]) -> Cursor
     requires { ⌜ Within (now src) token ⌝ }
-    ensures { λ r. ⌜ Passed (now (src .entry)) (symbolsOf phrase) 0 token bad (now (kept .entry)) r (now (kept .exit)) ⌝ }
+    ensures { λ r. ⌜ reader r (now (kept .exit)) ≡ phraseFrom (now (src .entry)) (elementsOf phrase) (starting token bad (now (kept .entry))) ⌝ }
 {
     if phrase <= phrase::FORM_SET_CLOSE {
         return read_form_set(src, token, bad, phrase, kept);
@@ -127,17 +127,17 @@ fn read_within(src: &[u8], token: Token, bad: usize, phrase: u8, kept: &mut [u64
     standing(0, token, bad, 0)
 }
 
-// Reads a phrase by its number, from a token of the source on, where `no` is 0; hands a refusal on. Its entries are
-// kept from the first one on. A number that no phrase has reads nothing, nor is anything read from a token that starts
-// past the source.
+// Reads a phrase by its number, from a token of the source on, where `no` is 0; hands a refusal on, with no entries. Its
+// entries are kept from the first one on. A number that no phrase has reads nothing, nor is anything read from a token
+// that starts past the source.
 pub fn read(src: &[u8], no: u64, token: Token, bad: usize, phrase: u8, kept: &mut [u64]) -> Cursor
-    ensures { λ r. ⌜ (Within (now (src .entry)) token → Passed (now (src .entry)) (symbolsOf phrase) no token bad (now (kept .entry)) r (now (kept .exit))) ⌝ }
+    ensures { λ r. ⌜ reader r (now (kept .exit)) ≡ phraseRead (now (src .entry)) no token bad phrase (now (kept .entry)) ⌝ }
 {
     if no != 0 {
         return standing(no, token, bad, 0);
     }
     if (token.class < BAD) & (src.len() <= token.start) {
-        return standing(no, token, bad, 0);
+        return standing(0, token, bad, 0);
     }
     read_within(src, token, bad, phrase, kept)
 }

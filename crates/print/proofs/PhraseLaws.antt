@@ -51,10 +51,10 @@ pub truth-false : {v : ℕ} → (v ≡ 1 → ⊥) → lexeme «FALSE» ≡ truth
 unfolding lexemes signs reserved
 truth-false {v} h = rw (ne-eqb v 1 h, truth)
 
-pub other-element : (e v : ℕ) → ((((((((Unit {0}) × (e ≡ 72 → ⊥)) × (e ≡ 83 → ⊥)) × (e ≡ 85 → ⊥)) × (e ≡ 86 → ⊥)) × (e ≡ 87 → ⊥)) × (e ≡ 88 → ⊥)) × (e ≡ 89 → ⊥)) → decimal v ≡ elementWords e v
+pub other-element : (e v : ℕ) → ((((((((Unit {0}) × (e ≡ 72 → ⊥)) × (e ≡ 131 → ⊥)) × (e ≡ 133 → ⊥)) × (e ≡ 134 → ⊥)) × (e ≡ 135 → ⊥)) × (e ≡ 136 → ⊥)) × (e ≡ 137 → ⊥)) → decimal v ≡ elementWords e v
 unfolding elementWords
 other-element e v h =
-    rw (ne-eqb e 72 (h .0 .0 .0 .0 .0 .0 .1), ne-eqb e 83 (h .0 .0 .0 .0 .0 .1), ne-eqb e 85 (h .0 .0 .0 .0 .1), ne-eqb e 86 (h .0 .0 .0 .1), ne-eqb e 87 (h .0 .0 .1), ne-eqb e 88 (h .0 .1), ne-eqb e 89 (h .1))
+    rw (ne-eqb e 72 (h .0 .0 .0 .0 .0 .0 .1), ne-eqb e 131 (h .0 .0 .0 .0 .0 .1), ne-eqb e 133 (h .0 .0 .0 .0 .1), ne-eqb e 134 (h .0 .0 .0 .1), ne-eqb e 135 (h .0 .0 .1), ne-eqb e 136 (h .0 .1), ne-eqb e 137 (h .1))
 
 pub other-shown : (f d : Bool) (w : ℕ) → ((((Unit {0}) × (w ≡ 57 → ⊥)) × (w ≡ 62 → ⊥)) × (w ≡ 66 → ⊥)) × (w ≡ 37 → ⊥) → f ≡ shownBy f d w
 other-shown f d w h = rw (ne-eqb w 57 (h .0 .0 .0 .1), ne-eqb w 62 (h .0 .0 .1), ne-eqb w 66 (h .0 .1), ne-eqb w 37 (h .1))

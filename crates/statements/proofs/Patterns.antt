@@ -5,16 +5,16 @@ use mathlib.Core.List.{List, [], _∷_}
 use Rattle.print.specs.Phrase.{GUID}
 
 abbrev pub form-set-open-elements : List ℕ
-form-set-open-elements = 49 ∷ 52 ∷ 6 ∷ 0 ∷ 87 ∷ 4 ∷ 88 ∷ 4 ∷ 88 ∷ 4 ∷ []
+form-set-open-elements = 49 ∷ 52 ∷ 6 ∷ 0 ∷ 135 ∷ 4 ∷ 136 ∷ 4 ∷ 136 ∷ 4 ∷ []
 
 abbrev pub form-set-braced-elements : List ℕ
-form-set-braced-elements = 0 ∷ 89 ∷ 4 ∷ 89 ∷ 4 ∷ 89 ∷ 4 ∷ 89 ∷ 4 ∷ 89 ∷ 4 ∷ 89 ∷ 4 ∷ 89 ∷ 4 ∷ 89 ∷ 1 ∷ 1 ∷ 4 ∷ 70 ∷ 6 ∷ 32 ∷ 2 ∷ 81 ∷ 3 ∷ 4 ∷ 53 ∷ 6 ∷ 32 ∷ 2 ∷ 81 ∷ 3 ∷ 4 ∷ []
+form-set-braced-elements = 0 ∷ 137 ∷ 4 ∷ 137 ∷ 4 ∷ 137 ∷ 4 ∷ 137 ∷ 4 ∷ 137 ∷ 4 ∷ 137 ∷ 4 ∷ 137 ∷ 4 ∷ 137 ∷ 1 ∷ 1 ∷ 4 ∷ 70 ∷ 6 ∷ 32 ∷ 2 ∷ 129 ∷ 3 ∷ 4 ∷ 53 ∷ 6 ∷ 32 ∷ 2 ∷ 129 ∷ 3 ∷ 4 ∷ []
 
 abbrev pub form-set-close-elements : List ℕ
 form-set-close-elements = 41 ∷ 5 ∷ []
 
 abbrev pub form-open-elements : List ℕ
-form-open-elements = 47 ∷ 48 ∷ 6 ∷ 80 ∷ 4 ∷ 70 ∷ 6 ∷ 32 ∷ 2 ∷ 81 ∷ 3 ∷ 5 ∷ []
+form-open-elements = 47 ∷ 48 ∷ 6 ∷ 128 ∷ 4 ∷ 70 ∷ 6 ∷ 32 ∷ 2 ∷ 129 ∷ 3 ∷ 5 ∷ []
 
 abbrev pub form-close-elements : List ℕ
 form-close-elements = 40 ∷ 5 ∷ []
@@ -26,31 +26,31 @@ abbrev pub rule-close-elements : List ℕ
 rule-close-elements = 45 ∷ 5 ∷ []
 
 abbrev pub subtitle-elements : List ℕ
-subtitle-elements = 67 ∷ 69 ∷ 6 ∷ 32 ∷ 2 ∷ 81 ∷ 3 ∷ 5 ∷ []
+subtitle-elements = 67 ∷ 69 ∷ 6 ∷ 32 ∷ 2 ∷ 129 ∷ 3 ∷ 5 ∷ []
 
 abbrev pub text-elements : List ℕ
-text-elements = 69 ∷ 53 ∷ 6 ∷ 32 ∷ 2 ∷ 81 ∷ 3 ∷ 4 ∷ 69 ∷ 6 ∷ 32 ∷ 2 ∷ 81 ∷ 3 ∷ 5 ∷ []
+text-elements = 69 ∷ 53 ∷ 6 ∷ 32 ∷ 2 ∷ 129 ∷ 3 ∷ 4 ∷ 69 ∷ 6 ∷ 32 ∷ 2 ∷ 129 ∷ 3 ∷ 5 ∷ []
 
 abbrev pub label-elements : List ℕ
-label-elements = 54 ∷ 81 ∷ 5 ∷ []
+label-elements = 54 ∷ 129 ∷ 5 ∷ []
 
 abbrev pub goto-elements : List ℕ
-goto-elements = 50 ∷ 80 ∷ 4 ∷ 90 ∷ 57 ∷ 6 ∷ 72 ∷ 4 ∷ 90 ∷ 62 ∷ 6 ∷ 80 ∷ 4 ∷ 61 ∷ 6 ∷ 32 ∷ 2 ∷ 81 ∷ 3 ∷ 4 ∷ 53 ∷ 6 ∷ 32 ∷ 2 ∷ 81 ∷ 3 ∷ 90 ∷ 4 ∷ 46 ∷ 6 ∷ 86 ∷ 5 ∷ []
+goto-elements = 50 ∷ 128 ∷ 4 ∷ 138 ∷ 57 ∷ 6 ∷ 72 ∷ 4 ∷ 138 ∷ 62 ∷ 6 ∷ 128 ∷ 4 ∷ 61 ∷ 6 ∷ 32 ∷ 2 ∷ 129 ∷ 3 ∷ 4 ∷ 53 ∷ 6 ∷ 32 ∷ 2 ∷ 129 ∷ 3 ∷ 138 ∷ 4 ∷ 46 ∷ 6 ∷ 134 ∷ 5 ∷ []
 
 abbrev pub checkbox-elements : List ℕ
-checkbox-elements = 36 ∷ 90 ∷ 57 ∷ 6 ∷ 72 ∷ 4 ∷ 90 ∷ 62 ∷ 6 ∷ 80 ∷ 4 ∷ 61 ∷ 6 ∷ 32 ∷ 2 ∷ 81 ∷ 3 ∷ 4 ∷ 53 ∷ 6 ∷ 32 ∷ 2 ∷ 81 ∷ 3 ∷ 4 ∷ 90 ∷ 46 ∷ 6 ∷ 86 ∷ 4 ∷ 90 ∷ 37 ∷ 6 ∷ 85 ∷ 4 ∷ 39 ∷ 5 ∷ []
+checkbox-elements = 36 ∷ 138 ∷ 57 ∷ 6 ∷ 72 ∷ 4 ∷ 138 ∷ 62 ∷ 6 ∷ 128 ∷ 4 ∷ 61 ∷ 6 ∷ 32 ∷ 2 ∷ 129 ∷ 3 ∷ 4 ∷ 53 ∷ 6 ∷ 32 ∷ 2 ∷ 129 ∷ 3 ∷ 4 ∷ 138 ∷ 46 ∷ 6 ∷ 134 ∷ 4 ∷ 138 ∷ 37 ∷ 6 ∷ 133 ∷ 4 ∷ 39 ∷ 5 ∷ []
 
 abbrev pub numeric-elements : List ℕ
-numeric-elements = 58 ∷ 90 ∷ 57 ∷ 6 ∷ 72 ∷ 4 ∷ 90 ∷ 62 ∷ 6 ∷ 80 ∷ 4 ∷ 61 ∷ 6 ∷ 32 ∷ 2 ∷ 81 ∷ 3 ∷ 4 ∷ 53 ∷ 6 ∷ 32 ∷ 2 ∷ 81 ∷ 3 ∷ 4 ∷ 90 ∷ 46 ∷ 6 ∷ 86 ∷ 4 ∷ 56 ∷ 6 ∷ 82 ∷ 4 ∷ 55 ∷ 6 ∷ 82 ∷ 4 ∷ 90 ∷ 66 ∷ 6 ∷ 82 ∷ 4 ∷ 90 ∷ 37 ∷ 6 ∷ 82 ∷ 4 ∷ 43 ∷ 5 ∷ []
+numeric-elements = 58 ∷ 138 ∷ 57 ∷ 6 ∷ 72 ∷ 4 ∷ 138 ∷ 62 ∷ 6 ∷ 128 ∷ 4 ∷ 61 ∷ 6 ∷ 32 ∷ 2 ∷ 129 ∷ 3 ∷ 4 ∷ 53 ∷ 6 ∷ 32 ∷ 2 ∷ 129 ∷ 3 ∷ 4 ∷ 138 ∷ 46 ∷ 6 ∷ 134 ∷ 4 ∷ 56 ∷ 6 ∷ 130 ∷ 4 ∷ 55 ∷ 6 ∷ 130 ∷ 4 ∷ 138 ∷ 66 ∷ 6 ∷ 130 ∷ 4 ∷ 138 ∷ 37 ∷ 6 ∷ 130 ∷ 4 ∷ 43 ∷ 5 ∷ []
 
 abbrev pub one-of-open-elements : List ℕ
-one-of-open-elements = 59 ∷ 90 ∷ 57 ∷ 6 ∷ 72 ∷ 4 ∷ 90 ∷ 62 ∷ 6 ∷ 80 ∷ 4 ∷ 61 ∷ 6 ∷ 32 ∷ 2 ∷ 81 ∷ 3 ∷ 4 ∷ 53 ∷ 6 ∷ 32 ∷ 2 ∷ 81 ∷ 3 ∷ 4 ∷ 90 ∷ 46 ∷ 6 ∷ 86 ∷ 4 ∷ []
+one-of-open-elements = 59 ∷ 138 ∷ 57 ∷ 6 ∷ 72 ∷ 4 ∷ 138 ∷ 62 ∷ 6 ∷ 128 ∷ 4 ∷ 61 ∷ 6 ∷ 32 ∷ 2 ∷ 129 ∷ 3 ∷ 4 ∷ 53 ∷ 6 ∷ 32 ∷ 2 ∷ 129 ∷ 3 ∷ 4 ∷ 138 ∷ 46 ∷ 6 ∷ 134 ∷ 4 ∷ []
 
 abbrev pub one-of-close-elements : List ℕ
 one-of-close-elements = 44 ∷ 5 ∷ []
 
 abbrev pub option-elements : List ℕ
-option-elements = 60 ∷ 69 ∷ 6 ∷ 32 ∷ 2 ∷ 81 ∷ 3 ∷ 4 ∷ 71 ∷ 6 ∷ 82 ∷ 4 ∷ 46 ∷ 6 ∷ 83 ∷ 5 ∷ []
+option-elements = 60 ∷ 69 ∷ 6 ∷ 32 ∷ 2 ∷ 129 ∷ 3 ∷ 4 ∷ 71 ∷ 6 ∷ 130 ∷ 4 ∷ 46 ∷ 6 ∷ 131 ∷ 5 ∷ []
 
 abbrev pub condition-close-elements : List ℕ
 condition-close-elements = 42 ∷ 5 ∷ []
@@ -59,7 +59,7 @@ abbrev pub expression-close-elements : List ℕ
 expression-close-elements = 5 ∷ []
 
 abbrev pub question-ref-elements : List ℕ
-question-ref-elements = 63 ∷ 2 ∷ 84 ∷ 3 ∷ []
+question-ref-elements = 63 ∷ 2 ∷ 132 ∷ 3 ∷ []
 
 abbrev pub rule-ref-elements : List ℕ
 rule-ref-elements = 65 ∷ 2 ∷ 72 ∷ 3 ∷ []

@@ -86,12 +86,12 @@ element-short : (e v : ℕ) → v < 2 ^ 64 → size (elementWords e v) ≤ 64
 unfolding elementWords flagWords
 element-short e v h =
     either-short 64 (eqb e 72) _ _ (omega (arith, rule-short v h))
-    (either-short 64 (eqb e 83) _ _ (omega (arith, option-short v))
-    (either-short 64 (eqb e 85) _ _ (omega (arith, truth-short v))
-    (either-short 64 (eqb e 86) _ _ (omega (arith, flags-short (bit 1 v) (bit 4 v) (bit 16 v)))
-    (either-short 64 (eqb e 87) _ _ (omega (arith, hex-short 8 v))
-    (either-short 64 (eqb e 88) _ _ (omega (arith, hex-short 4 v))
-    (either-short 64 (eqb e 89) _ _ (omega (arith, hex-short 2 v)) (omega (arith, decimal-short v h))))))))
+    (either-short 64 (eqb e 131) _ _ (omega (arith, option-short v))
+    (either-short 64 (eqb e 133) _ _ (omega (arith, truth-short v))
+    (either-short 64 (eqb e 134) _ _ (omega (arith, flags-short (bit 1 v) (bit 4 v) (bit 16 v)))
+    (either-short 64 (eqb e 135) _ _ (omega (arith, hex-short 8 v))
+    (either-short 64 (eqb e 136) _ _ (omega (arith, hex-short 4 v))
+    (either-short 64 (eqb e 137) _ _ (omega (arith, hex-short 2 v)) (omega (arith, decimal-short v h))))))))
 
 -- ---- phrases
 
@@ -126,7 +126,7 @@ module _ (shown : ℕ → Bool) (element : ℕ → ℕ → List Word) (each : (e
   unfolding phraseFrom added
   phrase-short [] skip passed = omega (arith, size-none)
   phrase-short (e ∷ p) skip passed =
-      let one : size (added shown element skip passed e) ≤ 64 = either-short 64 (eqb skip 0) _ _ (either-short 64 (eqb e 90) _ _ (omega (arith, size-none)) (either-short 64 (ltb e NAME) _ _ (omega (arith, lexeme-short e)) (each e passed))) (omega (arith, size-none)) in
+      let one : size (added shown element skip passed e) ≤ 64 = either-short 64 (eqb skip 0) _ _ (either-short 64 (eqb e 138) _ _ (omega (arith, size-none)) (either-short 64 (ltb e NAME) _ _ (omega (arith, lexeme-short e)) (each e passed))) (omega (arith, size-none)) in
       let more = phrase-short p (skipAfter shown element skip e (getD p 0 0)) (passedAfter shown element skip passed e (getD p 0 0)) in
       omega (arith, size-append (added shown element skip passed e) (phraseFrom shown element p (skipAfter shown element skip e (getD p 0 0)) (passedAfter shown element skip passed e (getD p 0 0))))
 

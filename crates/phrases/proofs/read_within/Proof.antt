@@ -24,4 +24,4 @@ read-within-spec =
     (λ c. search needs)
     (λ c. search needs)
     (λ c κs. search needs)
-    (λ c. rw (c .standing .ensures) (read-nothing (c .before .if5 .left))))
+    (λ c. rw (c .standing .ensures) (read-nothing _ (c .before .if5 .left))))

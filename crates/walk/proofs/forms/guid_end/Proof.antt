@@ -1,6 +1,7 @@
 -- `walk::forms::guid_end` meets its contract, with the inner brace and without.
 -- Assumes nothing.
 use borrow.Author.Needs.{needs}
+use Rattle.phrases.proofs.Theorems.{phrase-passed}
 use Rattle.walk.proofs.SetSteps.{braced-passed, plain-passed}
 use Rattle.walk.proofs.forms.guid_end.Statement.{statement}
 use Rattle.walk.proofs.forms.guid_end.Tie as tie
@@ -15,7 +16,7 @@ returns : tie.Need-returns
 returns c =
     let pre = c .before .before .before .before .before .before .before .before .before .pre in
     let if1 = c .before .before .before .before .if1 in
-    braced-passed (if1 .taken) (c .before .before .read .ensures pre)
+    braced-passed (if1 .taken) (phrase-passed _ pre (c .before .before .read .ensures))
 
 read-requires-2 : tie.Need-read-requires-2
 read-requires-2 c κs = search needs
@@ -27,7 +28,7 @@ returns-2 : tie.Need-returns-2
 returns-2 c =
     let pre = c .before .before .before .before .before .before .before .before .before .pre in
     let if1 = c .before .before .before .before .if1 in
-    plain-passed (if1 .left) (c .before .before .read2 .ensures pre)
+    plain-passed (if1 .left) (phrase-passed _ pre (c .before .before .read2 .ensures))
 
 pub guid-end-spec : {M : Type 1} → statement M
 guid-end-spec =

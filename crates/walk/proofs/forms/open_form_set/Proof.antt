@@ -1,6 +1,7 @@
 -- `walk::forms::open_form_set` meets its contract: the two phrases are the opening of a form set.
 -- Assumes nothing.
 use borrow.Author.Needs.{needs}
+use Rattle.phrases.proofs.Theorems.{phrase-passed}
 use Rattle.walk.proofs.SetSteps.{set-opens-off, set-opens-on, first-within}
 use Rattle.walk.proofs.forms.open_form_set.Statement.{statement}
 use Rattle.walk.proofs.forms.open_form_set.Tie as tie
@@ -21,14 +22,14 @@ guid-end-requires : tie.Need-guid-end-requires
 guid-end-requires c κs =
     let token-at = c .before .before .before .before .token-at in
     let within = first-within _ (token-at .ensures) in
-    c .before .before .read .ensures within .within within
+    phrase-passed _ within (c .before .before .read .ensures) .within within
 
 returns : tie.Need-returns
 returns c =
     let token-at = c .before .before .before .before .before .before .before .before .before .token-at in
     let read = c .before .before .before .before .before .before .before .read in
     let guid-end = c .before .before .before .before .guid-end in
-    set-opens-off (token-at .ensures) (read .ensures (first-within _ (token-at .ensures))) (guid-end .ensures) (c .if1 .taken)
+    set-opens-off (token-at .ensures) (phrase-passed _ (first-within _ (token-at .ensures)) (read .ensures)) (guid-end .ensures) (c .if1 .taken)
 
 form-set-row-requires : tie.Need-form-set-row-requires
 form-set-row-requires c κs = search needs
@@ -45,7 +46,7 @@ returns-2 c =
     let read = c .before .before .before .before .before .before .before .before .before .before .before .before .read in
     let guid-end = c .before .before .before .before .before .before .before .before .before .guid-end in
     let if1 = c .before .before .before .before .before .if1 in
-    set-opens-on (token-at .ensures) (read .ensures (first-within _ (token-at .ensures))) (guid-end .ensures) (if1 .left) (c .before .before .before .form-set-row .ensures) (c .before .before .put-row .ensures)
+    set-opens-on (token-at .ensures) (phrase-passed _ (first-within _ (token-at .ensures)) (read .ensures)) (guid-end .ensures) (if1 .left) (c .before .before .before .form-set-row .ensures) (c .before .before .put-row .ensures)
 
 pub open-form-set-spec : {M : Type 1} → statement M
 open-form-set-spec =

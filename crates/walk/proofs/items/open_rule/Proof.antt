@@ -2,6 +2,7 @@
 -- Assumes nothing.
 use borrow.Author.Needs.{needs}
 use native.Mathlib.Omega.{arith}
+use Rattle.phrases.proofs.Theorems.{phrase-passed}
 use Rattle.walk.proofs.PhraseSteps.{rule-off, rule-on}
 use Rattle.walk.proofs.items.open_rule.Statement.{statement}
 use Rattle.walk.proofs.items.open_rule.Tie as tie
@@ -19,14 +20,14 @@ returns : tie.Need-returns
 returns c =
     let pre = c .before .before .before .before .before .before .before .before .before .pre in
     let read = c .before .before .before .before .read in
-    rw (c .at-end .ensures) (rule-off _ _ _ (read .ensures (pre .within)) (c .before .if1 .taken))
+    rw (c .at-end .ensures) (rule-off _ _ _ (phrase-passed _ (pre .within) (read .ensures)) (c .before .if1 .taken))
 
 add-own : tie.Need-add-own
 add-own c =
     let read = c .before .before .before .before .before .read in
     let pre = c .before .before .before .before .before .before .before .before .before .before .pre in
     let good = c .before .before .before .before .before .before .before .before .before .before .good in
-    let z = read .ensures (pre .within) .got (c .before .before .if1 .left) .before in
+    let z = phrase-passed _ (pre .within) (read .ensures) .got (c .before .before .if1 .left) .before in
     omega (arith, pre .rows z, pre .rules z, good)
 
 array-read-rule-row : tie.Need-array-read-rule-row
@@ -44,7 +45,7 @@ add-t21 c =
     let read = c .before .before .before .before .before .before .before .before .before .before .before .read in
     let if1 = c .before .before .before .before .before .before .before .before .if1 in
     let good = c .before .before .before .before .before .before .before .before .before .before .before .before .before .before .before .before .good in
-    omega (arith, pre .rows (read .ensures (pre .within) .got (if1 .left) .before), good)
+    omega (arith, pre .rows (phrase-passed _ (pre .within) (read .ensures) .got (if1 .left) .before), good)
 
 same-length : tie.Need-same-length
 same-length c = search needs
@@ -55,7 +56,7 @@ returns-2 c =
     let read = c .before .before .before .before .before .before .before .before .before .before .before .read in
     let if1 = c .before .before .before .before .before .before .before .before .if1 in
     let rule-row = c .before .before .before .before .rule-row in
-    rule-on _ _ _ (read .ensures (pre .within)) (if1 .left) (rule-row .ensures) (c .before .before .before .put-row .ensures)
+    rule-on _ _ _ (phrase-passed _ (pre .within) (read .ensures)) (if1 .left) (rule-row .ensures) (c .before .before .before .put-row .ensures)
 
 pub open-rule-spec : {M : Type 1} → statement M
 open-rule-spec =

@@ -2,6 +2,7 @@
 -- Assumes nothing.
 use borrow.Author.Needs.{needs}
 use native.Mathlib.Omega.{arith}
+use Rattle.phrases.proofs.Theorems.{phrase-passed}
 use Rattle.walk.proofs.PhraseSteps.{row-off, row-on}
 use Rattle.walk.proofs.steps.flat.Statement.{statement}
 use Rattle.walk.proofs.steps.flat.Tie as tie
@@ -19,7 +20,7 @@ returns : tie.Need-returns
 returns c =
     let pre = c .before .before .before .before .before .before .before .before .before .pre in
     let read = c .before .before .before .before .read in
-    rw (c .at-end .ensures) (row-off _ _ _ (pre .1) (read .ensures (pre .0 .within)) (c .before .if1 .taken))
+    rw (c .at-end .ensures) (row-off _ _ _ (pre .1) (phrase-passed _ (pre .0 .within) (read .ensures)) (c .before .if1 .taken))
 
 put-phrase-row-requires : tie.Need-put-phrase-row-requires
 put-phrase-row-requires c κs = search needs
@@ -30,7 +31,7 @@ add-t17 c =
     let read = c .before .before .before .before .before .before .before .before .before .read in
     let if1 = c .before .before .before .before .before .before .if1 in
     let good = c .before .before .before .before .before .before .before .before .before .before .before .before .before .before .good in
-    omega (arith, pre .0 .rows (read .ensures (pre .0 .within) .got (if1 .left) .before), good)
+    omega (arith, pre .0 .rows (phrase-passed _ (pre .0 .within) (read .ensures) .got (if1 .left) .before), good)
 
 same-length : tie.Need-same-length
 same-length c = search needs
@@ -41,7 +42,7 @@ returns-2 c =
     let read = c .before .before .before .before .before .before .before .before .before .read in
     let if1 = c .before .before .before .before .before .before .if1 in
     let put-phrase-row = c .before .before .before .before .put-phrase-row in
-    row-on _ _ _ (pre .1) (read .ensures (pre .0 .within)) (if1 .left) (put-phrase-row .ensures)
+    row-on _ _ _ (pre .1) (phrase-passed _ (pre .0 .within) (read .ensures)) (if1 .left) (put-phrase-row .ensures)
 
 pub flat-spec : {M : Type 1} → statement M
 flat-spec =

@@ -17,10 +17,10 @@ use Rattle.answers.specs.Stages.{ownNumbers, finished}
 use Rattle.answers.specs.Drafts.{draftsFrom}
 use Rattle.answers.specs.Answer.{Answer, refuses, accepts, answerOf}
 use Rattle.names.specs.Names.{BUCKETS, namesIn, indexed, Indexes}
-use Rattle.names.proofs.NameFaults.{index-made, names-few}
+use Rattle.names.proofs.NameFaults.{index-made}
 use Rattle.read.specs.declared.Fault.{Fault}
 use Rattle.read.specs.Faults.{firstFaultOf, writtenAfter}
-use Rattle.read.specs.Drafted.{Drafted, Ready, tableAfter}
+use Rattle.read.specs.Drafted.{NAMES, Drafted, Ready, tableAfter}
 use Rattle.read.proofs.FaultLaws.{answered, stages-answer, stages-passed}
 use Rattle.read.proofs.AcceptLaws.{length-drafts}
 
@@ -78,6 +78,6 @@ module _ {s t : List ℕ} {count : ℕ} (pre : Drafted t count) (n : ℕ) {ys : 
   pub index-few : BUCKETS + namesIn (draftsFrom t 0 count) ≤ n → Indexes s (draftsFrom t 0 count) ys
   index-few h = index-made (pre .sound) s (replicate n 0) (λ b l. getD-replicate {A = ℕ} n b 0 0 (omega arith)) (rw (length-replicate {A = ℕ} n 0) h) made
 
-  -- where there is room for all rows
-  pub index-all : BUCKETS + count ≤ n → Indexes s (draftsFrom t 0 count) ys
-  index-all h = index-few (omega (arith, names-few (draftsFrom t 0 count), length-drafts t 0 count))
+  -- where there is room for as many as there can be
+  pub index-most : BUCKETS + NAMES ≤ n → Indexes s (draftsFrom t 0 count) ys
+  index-most h = index-few (omega (arith, pre .few))

@@ -83,7 +83,7 @@ module _ {s t t′ : List ℕ} {count : ℕ} (v : Derived s count t t′) where
 
       -- the table holds the drafts
       pub drafted : Drafted t′ count
-      drafted = record { sound = rw same (v .sound); room = omega arith; held = held ∙ rw same }
+      drafted = record { sound = rw same (v .sound); room = omega arith; held = held ∙ rw same; few = rw same (v .few) }
 
       -- and what the later stages answer is the answer
       pub finished-read : {a : Answer} {u : List ℕ} → (a ≡ answerOf s (draftsFrom t′ 0 count) (length t′ / ROW)) × (u ≡ tableAfter s (draftsFrom t′ 0 count) (length t′)) → Read s (length t) a u

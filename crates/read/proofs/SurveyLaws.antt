@@ -23,6 +23,7 @@ use Rattle.answers.specs.Demand3.{Grammatical}
 use Rattle.grammar.proofs.Theorems.{verdict-right, accepted-exactly, one-derivation}
 use Rattle.answers.proofs.Checks.{checked-1, checked-2, checked-parsed, checked-5, checked-derived}
 use Rattle.sound.proofs.DraftsSound.{drafts-sound}
+use Rattle.sound.proofs.NameCount.{names-six}
 use Rattle.elements.specs.Marks.{firstMark}
 use Rattle.walk.specs.declared.Outcome.{Outcome}
 use Rattle.walk.specs.Whole.{refusalNumber, refusalPlace, Derived, Walks}
@@ -111,7 +112,7 @@ module _ {s t t′ : List ℕ} {w : Outcome} (short : length s ≤ LIMIT) (v : W
                   is = checked-derived s tree grammatical e;
                   sound = drafts-sound s tree short (walked .derives) e;
                   many = walked .rows;
-                  few = omega (arith, walked .few);
+                  few = omega (arith, names-six s tree (walked .derives));
                   table = walked .table;
                 },
               );

@@ -15,13 +15,18 @@ use Rattle.answers.specs.Drafts.{encoded, draftsFrom}
 use Rattle.answers.specs.Stages.{unfound, ownNumbers, finished}
 use Rattle.answers.specs.Answer.{answerOf}
 use Rattle.drafts.specs.Sound.{SoundRows}
-use Rattle.names.specs.Names.{Indexes}
+use Rattle.names.specs.Names.{namesIn, Indexes}
+
+-- a source declares at most so many names: it has at most 65,536 bytes, and each name six of its tokens
+abbrev pub NAMES : ℕ
+NAMES = 10922
 
 -- the first rows of the table t are drafts that passed stages 1 to 6
 pub record Drafted (t : List ℕ) (count : ℕ) : Type 0 where
   pub sound : SoundRows (draftsFrom t 0 count)
   pub room : count ≤ wholeRows t
   pub held : rowsFrom t 0 count ≡ map encoded (draftsFrom t 0 count)
+  pub few : namesIn (draftsFrom t 0 count) ≤ NAMES
 
 -- no stage refuses the drafts in the first rows of the table t; the index es is of their declared names by the source s, and the map ws has
 -- their written question numbers

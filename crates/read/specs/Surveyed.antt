@@ -13,7 +13,9 @@ use Rattle.answers.specs.Drafts.{encoded}
 use Rattle.answers.specs.Answer.{drafts}
 use Rattle.answers.specs.WholeAnswer.{refusal, derived, checked}
 use Rattle.drafts.specs.Sound.{SoundRows}
+use Rattle.names.specs.Names.{namesIn}
 use Rattle.read.specs.declared.Survey.{Survey}
+use Rattle.read.specs.Drafted.{NAMES}
 
 abbrev pub refusing : ℕ → ℕ → Survey
 refusing number place = record { number = number; place = place; rows = 0 }
@@ -29,7 +31,7 @@ pub record Derived (s : List ℕ) (count : ℕ) (t t′ : List ℕ) : Type 0 whe
   pub is : checked s ≡ derived tree
   pub sound : SoundRows (drafts s tree)
   pub many : count ≡ length (drafts s tree)
-  pub few : count ≤ 65536
+  pub few : namesIn (drafts s tree) ≤ NAMES
   pub table : t′ ≡ put t 0 (map encoded (drafts s tree))
 
 -- what a survey of the source s answers, where the table was t and is t′; where it refuses, nothing is said of the table

@@ -5,7 +5,7 @@ use finish::number_rows;
 use finish::resolve_references;
 use finish::strip;
 ghost use mathlib.Core.Path.{_≡_};
-ghost use Prim.Native.Nat.{_≤_, _/_};
+ghost use Prim.Native.Nat.{_/_};
 ghost use lib.ListN.{length};
 ghost use Rattle.numbers.specs.Numbers.{numbered, freeCount};
 ghost use Rattle.rows.specs.Columns.{ROW};
@@ -17,13 +17,12 @@ ghost use Rattle.names.specs.Names.{Indexes};
 ghost use Rattle.read.specs.Answers.{told};
 ghost use Rattle.read.specs.Drafted.{Drafted, Ready, tableAfter};
 
-// An index on the stack: the heads of the buckets, and room for few names, or for as many as there can be rows (a source has
-// no more rows than bytes).
+// An index on the stack: the heads of the buckets, and room for few names, or for as many as a source can declare.
 const FEW: usize = 1024;
 
 const SMALL: usize = 2048;
 
-const LARGE: usize = 66560;
+const LARGE: usize = 11946;
 
 // The finished rows from the drafts, and 0 past them.
 fn accept(
@@ -59,9 +58,9 @@ fn finish_with(src: &[u8], table: &mut [u64], count: usize, index: &[u64]) -> An
     accept(src, table, count, index, &mut used)
 }
 
-// With room for as many names as there can be rows.
+// With room for as many names as a source can declare.
 fn finish_large(src: &[u8], table: &mut [u64], count: usize) -> Answer
-    requires { ⌜ Drafted (now table) count × (count ≤ 65536) ⌝ }
+    requires { ⌜ Drafted (now table) count ⌝ }
     ensures { λ r. ⌜ told r ≡ answerOf (now (src .entry)) (draftsFrom (now (table .entry)) 0 count) (length (now (table .entry)) / ROW) ⌝ }
     ensures { λ _. ⌜ now (table .exit) ≡ tableAfter (now (src .entry)) (draftsFrom (now (table .entry)) 0 count) (length (now (table .entry))) ⌝ }
 {
@@ -72,7 +71,7 @@ fn finish_large(src: &[u8], table: &mut [u64], count: usize) -> Answer
 
 // Stages 7 to 12 and the finished rows.
 pub fn finish(src: &[u8], table: &mut [u64], count: usize) -> Answer
-    requires { ⌜ Drafted (now table) count × (count ≤ 65536) ⌝ }
+    requires { ⌜ Drafted (now table) count ⌝ }
     ensures { λ r. ⌜ told r ≡ answerOf (now (src .entry)) (draftsFrom (now (table .entry)) 0 count) (length (now (table .entry)) / ROW) ⌝ }
     ensures { λ _. ⌜ now (table .exit) ≡ tableAfter (now (src .entry)) (draftsFrom (now (table .entry)) 0 count) (length (now (table .entry))) ⌝ }
 {

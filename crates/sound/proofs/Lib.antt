@@ -6,3 +6,4 @@ pub mod Expressions
 pub mod Statements
 pub mod Options
 pub mod DraftsSound
+pub mod NameCount

@@ -30,7 +30,7 @@ returns-2 : tie.Need-returns-2
 returns-2 c = short-read (c .before .before .before .before .before .before .before .before .before .before .before .survey .ensures .passed (c .before .before .before .before .before .before .before .if1 .left) .1) (c .before .before .before .before .before .whole-rows .ensures) (c .before .before .before .before .if2 .taken) (c .before .before .clear2 .ensures)
 
 finish-requires : tie.Need-finish-requires
-finish-requires c κs = (drafted (c .before .before .before .before .before .before .before .before .survey .ensures .passed (c .before .before .before .before .if1 .left) .1) (c .before .before .whole-rows .ensures) (c .before .if2 .left), (c .before .before .before .before .before .before .before .before .survey .ensures .passed (c .before .before .before .before .if1 .left) .1) .few)
+finish-requires c κs = drafted (c .before .before .before .before .before .before .before .before .survey .ensures .passed (c .before .before .before .before .if1 .left) .1) (c .before .before .whole-rows .ensures) (c .before .if2 .left)
 
 same-length-3 : tie.Need-same-length-3
 same-length-3 c = search needs

@@ -25,7 +25,7 @@ slice-aggregate-finish-with : tie.Need-slice-aggregate-finish-with
 slice-aggregate-finish-with c = search needs
 
 finish-with-requires : tie.Need-finish-with-requires
-finish-with-requires c κs = (c .before .before .before .before .before .before .before .before .before .pre .0, index-few (c .before .before .before .before .before .before .before .before .before .pre .0) 2048 (c .before .before .before .before .index-names .ensures .1) (omega (arith, c .before .before .before .before .index-names .ensures .0, c .before .before .if1 .left)))
+finish-with-requires c κs = (c .before .before .before .before .before .before .before .before .before .pre, index-few (c .before .before .before .before .before .before .before .before .before .pre) 2048 (c .before .before .before .before .index-names .ensures .1) (omega (arith, c .before .before .before .before .index-names .ensures .0, c .before .before .if1 .left)))
 
 same-length-2 : tie.Need-same-length-2
 same-length-2 c = search needs

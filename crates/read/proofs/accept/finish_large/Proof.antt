@@ -1,8 +1,8 @@
--- `read::accept::finish_large` meets its contract: the index has room for all rows.
+-- `read::accept::finish_large` meets its contract: the index has room for as many names as a source can declare.
 -- Assumes nothing.
 use borrow.Author.Needs.{needs}
 use native.Mathlib.Omega.{arith}
-use Rattle.read.proofs.FinishLaws.{index-all}
+use Rattle.read.proofs.FinishLaws.{index-most}
 use Rattle.read.proofs.accept.finish_large.Statement.{statement}
 use Rattle.read.proofs.accept.finish_large.Tie as tie
 
@@ -16,7 +16,9 @@ slice-aggregate-finish-with : tie.Need-slice-aggregate-finish-with
 slice-aggregate-finish-with c = search needs
 
 finish-with-requires : tie.Need-finish-with-requires
-finish-with-requires c κs = (c .before .before .before .before .before .before .before .before .pre .0, index-all (c .before .before .before .before .before .before .before .before .pre .0) 66560 (c .before .before .before .index-names .ensures .1) (omega (arith, c .before .before .before .before .before .before .before .before .pre .1)))
+finish-with-requires c κs =
+    let pre = c .before .before .before .before .before .before .before .before .pre in
+    (pre, index-most pre 11946 (c .before .before .before .index-names .ensures .1) (omega arith))
 
 same-length : tie.Need-same-length
 same-length c = search needs

@@ -14,11 +14,10 @@ use Rattle.rows.specs.Codes as code
 use Rattle.rows.specs.Codes.{isQuestion}
 use Rattle.rows.specs.Columns as column
 use Rattle.rows.proofs.ColumnLaws.{isPlace, same-besides}
-use Rattle.grammar.specs.Source.{numberAt}
 use Rattle.answers.specs.Rows.{Draft}
-use Rattle.answers.specs.Stages.{cell, is, asks, placeOf}
+use Rattle.answers.specs.Stages.{cell, is, asks}
 use Rattle.drafts.proofs.RowTests.{other-code}
-use Rattle.again.specs.Matches.{Settled, final, Match}
+use Rattle.again.specs.Matches.{Settled, named, final, Match}
 use Rattle.again.proofs.NumberedDrafts.{other-asks}
 
 -- ---- cells
@@ -32,14 +31,14 @@ module _ (t : List ℕ) (look : ℕ → List ℕ) {d′ d : Draft} (m : Match t 
   pub same-cell : (c : ℕ) → isPlace c ≡ false → (c ≡ column.A → ⊥) → cell c d′ ≡ getD (look (cell column.PLACE d)) c 0
   same-cell c h n =
       either (is code.RULE-REF d′)
-      (λ e. sym (getD-set-other (d′ .row) column.A c (numberAt t (placeOf (d′ .ownAt))) 0 n) ∙ (rw e at (final-cell c h)))
+      (λ e. sym (getD-set-other (d′ .row) column.A c (named t d′) 0 n) ∙ (rw e at (final-cell c h)))
       (λ e. rw e at (final-cell c h))
 
   pub same-number : is code.RULE-REF d′ ≡ false → cell column.A d′ ≡ getD (look (cell column.PLACE d)) column.A 0
   same-number e = rw e at (final-cell column.A refl)
 
-  pub rule-number : is code.RULE-REF d′ ≡ true → numberAt t (placeOf (d′ .ownAt)) ≡ getD (look (cell column.PLACE d)) column.A 0
-  rule-number e = sym (getD-set-same (d′ .row) column.A (numberAt t (placeOf (d′ .ownAt))) 0 (omega (arith, m .whole))) ∙ (rw e at (final-cell column.A refl))
+  pub rule-number : is code.RULE-REF d′ ≡ true → named t d′ ≡ getD (look (cell column.PLACE d)) column.A 0
+  rule-number e = sym (getD-set-same (d′ .row) column.A (named t d′) 0 (omega (arith, m .whole))) ∙ (rw e at (final-cell column.A refl))
 
 -- the rows agree in what is neither a question's number nor what a reference has found
 pub record Like (d′ d : Draft) : Type 0 where

@@ -17,14 +17,14 @@ use Rattle.answers.specs.Rows.{Draft}
 use Rattle.answers.specs.Stages.{cell, is, asks, writes, any, placeOf, unfound, ownNumbers, withNumbers, numberedRows, declares, finds, refers, ownOfFirst, finished}
 use Rattle.drafts.proofs.RowTests.{other-code}
 use Rattle.sound.proofs.Lists.{All}
-use Rattle.again.specs.Matches.{Pairs, final}
+use Rattle.again.specs.Matches.{Pairs, named, final}
 use Rattle.again.proofs.Lists.{all-then, all-with, map-each, any-pairs, pairs-second, firsts}
 use Rattle.again.proofs.Faults.{faults-none, clean-each}
 use Rattle.again.proofs.Owns.{owns-questions, some-bears, first-same}
 use Rattle.again.proofs.SettledRows.{Finds}
 use Rattle.again.proofs.Likeness.{Like, is-same, a-of}
 use Rattle.again.proofs.LikeStages.{form-like}
-use Rattle.again.proofs.TextRows.{named, Says}
+use Rattle.again.proofs.TextRows.{Says}
 use Rattle.again.proofs.TextNames.{name-injective}
 
 module _ (t : List ℕ) {ds : List Draft} (all : All (Says t ds) ds) {d : Draft} (v : Says t ds d) where

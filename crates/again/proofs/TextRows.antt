@@ -13,14 +13,13 @@ use Rattle.numbers.proofs.FreeNumbers.{number-range}
 use Rattle.numbers.proofs.Numbering.{Own}
 use Rattle.rows.specs.Codes as code
 use Rattle.rows.specs.Columns as column
-use Rattle.grammar.specs.Source.{numberAt}
 use Rattle.answers.specs.Rows.{Draft}
 use Rattle.answers.specs.Stages.{cell, is, asks, placeOf, ownNumbers}
 use Rattle.answers.specs.Demand3.{questionNumbers}
 use Rattle.drafts.proofs.RowTests.{other-code}
 use Rattle.sound.proofs.Lists.{All}
 use Rattle.printing.specs.Spelling.{nameWord}
-use Rattle.again.specs.Matches.{Pairs, no-pairs, pair, Match}
+use Rattle.again.specs.Matches.{Pairs, no-pairs, pair, named, Match}
 use Rattle.again.specs.RuleNumbers.{ruleNumbers}
 use Rattle.again.proofs.Lists.{pairs-second, firsts}
 use Rattle.again.proofs.Owns.{owns-like}
@@ -42,10 +41,6 @@ pub rules-same : {ds′ ds : List Draft} → Pairs Like ds′ ds → ruleNumbers
 rules-same p = owns-like {P = Like} (is code.RULE) (is code.RULE) (λ d′ d l. is-same l code.RULE) (λ d′ d l e. l .own-same (other-asks code.RULE rule-not d e)) p
 
 -- ---- one row
-
--- the name in a ruleref, by its number
-abbrev pub named : List ℕ → Draft → ℕ
-named t d = numberAt t (placeOf (d .ownAt))
 
 pub record Says (t : List ℕ) (ds : List Draft) (d : Draft) : Type 0 where
   pub written : asks d ≡ true → ltb 0 (d .ownAt) ≡ true

@@ -3,7 +3,7 @@
 use mathlib.Core.Path.{_≡_}
 use mathlib.Core.List.{List, [], _∷_}
 use mathlib.Core.Bool.{true, false, cond, _||_}
-use Prim.Native.Nat.{ℕ, _<_}
+use Prim.Native.Nat.{ℕ, suc, _<_}
 use lib.Dec.{ltb}
 use lib.ListN.{length, set, drop}
 use Rattle.lexemes.specs.Words as words
@@ -35,9 +35,13 @@ pub record Settled (look : ℕ → List ℕ) (d : Draft) : Type 0 where
 -- ---- a draft row of the text and the one of the source
 
 module _ (t : List ℕ) where
+  -- the number in the name of a ruleref: the digits after its `R`
+  abbrev pub named : Draft → ℕ
+  named d = numberAt t (suc (placeOf (d .ownAt)))
+
   -- what the text's row becomes: only a ruleref is by name
   abbrev pub final : Draft → List ℕ
-  final d = cond (is code.RULE-REF d) (set (d .row) column.A (numberAt t (placeOf (d .ownAt)))) (d .row)
+  final d = cond (is code.RULE-REF d) (set (d .row) column.A (named d)) (d .row)
 
   pub record Match (look : ℕ → List ℕ) (d′ d : Draft) : Type 0 where
     pub whole : length (d′ .row) ≡ column.ROW
@@ -48,4 +52,4 @@ module _ (t : List ℕ) where
     pub question : asks d′ ≡ true → (ltb 0 (d′ .ownAt) ≡ true) × (cell column.NAME d′ ≡ 0)
     -- a rule's name is R and its number, and so is the name in a ruleref
     pub rule : is code.RULE d′ ≡ true → (ltb 0 (cell column.NAME d′) ≡ true) × (words.word (drop (placeOf (cell column.NAME d′)) t) ≡ nameWord (cell column.OWN d′))
-    pub reference : is code.RULE-REF d′ ≡ true → words.word (drop (placeOf (d′ .ownAt)) t) ≡ nameWord (numberAt t (placeOf (d′ .ownAt)))
+    pub reference : is code.RULE-REF d′ ≡ true → words.word (drop (placeOf (d′ .ownAt)) t) ≡ nameWord (named d′)

@@ -43,7 +43,12 @@ answerOf s ds whole =
     elim (ltb whole (length ds)) [
       | true ↦ needs (length ds)
       | false ↦
-          stage 7 (repeatedForms ds) (stage 8 (repeatedQuestions ds) (stage 9 (repeatedNames s ds) (stage 10 (rulesOverLimit ds) (stage 11 (unfound s ds) (stage 12 (badChoices ds)
+          stage 7 (repeatedForms ds)
+          (stage 8 (repeatedQuestions ds)
+          (stage 9 (repeatedNames s ds)
+          (stage 10 (rulesOverLimit ds)
+          (stage 11 (unfound s ds)
+          (stage 12 (badChoices ds)
           (accepts (length ds) (freeCount (numbered (ownNumbers ds)))))))))
     ]
 

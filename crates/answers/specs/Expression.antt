@@ -160,7 +160,13 @@ atom i c inner =
     i inner
 
 -- trees beside one another: `left` is the operand so far, `pending` the operator that waits for its right one.
--- Each level groups to the left
+-- Each level groups to the left. So `1 - 2 * 3 - 4`, a sum of the product `1` and the tail `- 2 * 3 - 4`, goes by these steps:
+--   the product `1`      nothing waits: left is 1
+--   its tail, from there
+--     `-`                waits
+--     `2 * 3`            is a product by itself, 2 * 3; with what waits, left is 1 - 2 * 3
+--     the tail `- 4`     from there: `-` waits, 4 comes, left is (1 - 2 * 3) - 4
+--     the empty tail     leaves it so
 abbrev pub spelled : Expression → Pending → Trees → Expression
 spelled left pending nil = left
 spelled left pending (leaf t f) = spelled left (operatorAmong operators t) f

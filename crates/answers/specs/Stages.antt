@@ -56,9 +56,43 @@ repeatedForms ds = faultsIn (λ before d. faultIf (is code.FORM d && any (λ e. 
 unfoldable pub repeatedQuestions : List Draft → List ℕ
 repeatedQuestions ds = faultsIn (λ before d. faultIf (writes d && any (λ e. writes e && eqb (cell column.OWN e) (cell column.OWN d)) before) (d .ownAt)) ds
 
+module _ (s : List ℕ) where
+  -- two rows of a sort, both questions or both rules
+  abbrev pub sameSort : Draft → Draft → Bool
+  sameSort d e = asks d && asks e || is code.RULE d && is code.RULE e
+
+  -- the row declares the name at a place
+  abbrev pub declares : ℕ → Draft → Bool
+  declares p d = ltb 0 (cell column.NAME d) && sameWord s (placeOf (cell column.NAME d)) p
+
+  -- 9: question name repeated among questions, or rule name among rules
+  unfoldable pub repeatedNames : List Draft → List ℕ
+  repeatedNames ds =
+      faultsIn (λ before d. faultIf (ltb 0 (cell column.NAME d) && any (λ e. sameSort d e && declares (placeOf (cell column.NAME d)) e) before) (cell column.NAME d)) ds
+
 -- 10: a 256th rule
 unfoldable pub rulesOverLimit : List Draft → List ℕ
 rulesOverLimit ds = faultsIn (λ before d. faultIf (is code.RULE d && ltb 255 (cell column.OWN d)) (mark (cell column.PLACE d))) ds
+
+module _ (s : List ℕ) where
+  -- the rows that a reference finds: by a number, the question that writes it; by a name, the question or rule that declares it
+  abbrev pub finds : Draft → Draft → Bool
+  finds d e =
+      cond (is code.RULE-REF d) (is code.RULE e && declares s (placeOf (d .ownAt)) e)
+      (cond (ltb 0 (cell column.A d)) (writes e && eqb (cell column.OWN e) (cell column.A d))
+      (asks e && declares s (placeOf (d .ownAt)) e))
+
+  abbrev pub refers : Draft → Bool
+  refers d = is code.QUESTION-REF d || is code.RULE-REF d
+
+  -- 11: goto, questionref or ruleref finds nothing; names and numbers are found anywhere in the form set
+  unfoldable pub unfound : List Draft → List ℕ
+  unfound ds =
+      faultsIn
+      (λ before d.
+      faultIf (is code.GOTO d && not (any (λ e. is code.FORM e && eqb (cell column.OWN e) (cell column.A d)) ds)) (d .limitAt)
+      ++ faultIf (refers d && not (any (finds d) ds)) (d .ownAt))
+      ds
 
 -- 12: of a numeric, maximum below minimum, or default outside them; of an option, its value or DEFAULT repeated in its oneof
 abbrev pub outside : Draft → Bool
@@ -97,41 +131,9 @@ withNumbers ns (d ∷ ds) = cond (asks d) (withCell column.OWN (getD ns 0 0) d �
 unfoldable pub numberedRows : List Draft → List Draft
 numberedRows ds = withNumbers (numbered (ownNumbers ds)) ds
 
--- ---- names and references
+-- ---- the finished rows
 
 module _ (s : List ℕ) where
-  -- two rows of a sort, both questions or both rules
-  abbrev pub sameSort : Draft → Draft → Bool
-  sameSort d e = asks d && asks e || is code.RULE d && is code.RULE e
-
-  -- the row declares the name at a place
-  abbrev pub declares : ℕ → Draft → Bool
-  declares p d = ltb 0 (cell column.NAME d) && sameWord s (placeOf (cell column.NAME d)) p
-
-  -- 9: question name repeated among questions, or rule name among rules
-  unfoldable pub repeatedNames : List Draft → List ℕ
-  repeatedNames ds =
-      faultsIn (λ before d. faultIf (ltb 0 (cell column.NAME d) && any (λ e. sameSort d e && declares (placeOf (cell column.NAME d)) e) before) (cell column.NAME d)) ds
-
-  -- the rows that a reference finds: by a number, the question that writes it; by a name, the question or rule that declares it
-  abbrev pub finds : Draft → Draft → Bool
-  finds d e =
-      cond (is code.RULE-REF d) (is code.RULE e && declares (placeOf (d .ownAt)) e)
-      (cond (ltb 0 (cell column.A d)) (writes e && eqb (cell column.OWN e) (cell column.A d))
-      (asks e && declares (placeOf (d .ownAt)) e))
-
-  abbrev pub refers : Draft → Bool
-  refers d = is code.QUESTION-REF d || is code.RULE-REF d
-
-  -- 11: goto, questionref or ruleref finds nothing; names and numbers are found anywhere in the form set
-  unfoldable pub unfound : List Draft → List ℕ
-  unfound ds =
-      faultsIn
-      (λ before d.
-      faultIf (is code.GOTO d && not (any (λ e. is code.FORM e && eqb (cell column.OWN e) (cell column.A d)) ds)) (d .limitAt)
-      ++ faultIf (refers d && not (any (finds d) ds)) (d .ownAt))
-      ds
-
   -- the own number of the first row that passes the test, 0 where none does
   unfoldable pub ownOfFirst : (Draft → Bool) → List Draft → ℕ
   ownOfFirst p [] = 0
@@ -141,4 +143,4 @@ module _ (s : List ℕ) where
   unfoldable pub finished : List Draft → List (List ℕ)
   finished ds =
       let numberedOnes = numberedRows ds in
-      map (λ d. cond (refers d) (set (d .row) column.A (ownOfFirst (finds d) numberedOnes)) (d .row)) numberedOnes
+      map (λ d. cond (refers s d) (set (d .row) column.A (ownOfFirst (finds s d) numberedOnes)) (d .row)) numberedOnes

@@ -1,21 +1,24 @@
 -- Numbers and rule names as printed: what the tokens' rules make of them.
 -- Assumes nothing.
-use mathlib.Core.Path.{_≡_, refl}
+use mathlib.Core.Path.{_≡_, refl, ap, sym, _∙_}
 use mathlib.Core.List.{List, [], _∷_}
 use mathlib.Core.Bool.{Bool, true, false, _&&_}
 use Prim.Native.Nat.{ℕ, suc, _%_, _^_, _<_}
+use native.Mathlib.Numerals.{add-one}
 use native.Mathlib.Omega.{arith}
 use lib.Dec.{eqb, leb}
-use lib.ListN.{length, getD}
+use lib.ListN.{length, getD, drop}
+use lib.Seq.{drop-drop}
 use borrow.Author.Tests.{lt-ltb, le-leb, lt-leb, leb-true, eqb-true, eqb-false}
 use Rattle.lexemes.specs.Bytes.{isDigit, isHexDigit, isWordByte}
 use Rattle.lexemes.specs.Classes.{NAME, HEX, DECIMAL}
 use Rattle.lexemes.specs.Lexemes.{reserved}
-use Rattle.lexemes.specs.Words.{all, same, placeOf}
+use Rattle.lexemes.specs.Words.{run, all, same, placeOf, word}
 use Rattle.values.specs.Numbers.{isHex}
 use Rattle.lex.specs.Tokens.{wordClass}
-use Rattle.values.specs.Numbers.{valueFrom, numeral}
+use Rattle.values.specs.Numbers.{valueFrom, numeral, fitted, valueAt}
 use Rattle.lexemes.proofs.Lists.{either, and-true}
+use Rattle.ll1.proofs.Basics.{clash}
 use Rattle.lexemes.proofs.Equality.{same-refl, same-true}
 use Rattle.answers.specs.Text.{hexDigits}
 use Rattle.printing.specs.Spelling.{decimalWord, hexWord, nameWord}
@@ -118,6 +121,20 @@ no-mark-first (b ∷ w) h = not-byte isDigit b 120 (and-true (isDigit b) (all is
 pub name-numeral : (n : ℕ) → numeral (nameWord n) ≡ n
 unfolding numeral valueFrom
 name-numeral n = rw (no-mark-first (decimalWord n) (decimal-bytes n)) (decimal-value n)
+
+-- what comes after the first byte of a word
+after-first : (l : List ℕ) (b : ℕ) (w : List ℕ) → word l ≡ b ∷ w → word (drop 1 l) ≡ w
+unfolding run
+after-first [] b w e = clash cc
+after-first (x ∷ l) b w e = either (isWordByte x) (λ y. let h : x ∷ word l ≡ b ∷ w = rw y at e in cc) (λ y. let h : [] ≡ b ∷ w = rw y at e in clash cc)
+
+-- so the digits after the R of a rule's name have its value too
+pub after-r : (t : List ℕ) (q n : ℕ) → word (drop q t) ≡ nameWord n → valueAt t (suc q) ≡ valueAt t q
+unfolding valueAt
+after-r t q n w =
+    let next : drop (suc q) t ≡ drop 1 (drop q t) = rw add-one at (sym (drop-drop 1 q t)) in
+    let digits : word (drop (suc q) t) ≡ decimalWord n = ap word next ∙ after-first (drop q t) 82 (decimalWord n) w in
+    ap (λ x. fitted (numeral x)) digits ∙ ap fitted (decimal-numeral n ∙ sym (name-numeral n)) ∙ ap (λ x. fitted (numeral x)) (sym w)
 
 pub same-names : (m n : ℕ) → same (nameWord m) (nameWord n) ≡ eqb m n
 unfolding same

@@ -17,7 +17,7 @@ use Rattle.grammar.specs.Grammar.{rules}
 use Rattle.grammar.specs.Source.{numberAt}
 use Rattle.answers.specs.Rows.{Draft, rulesIn, draftsOf}
 use Rattle.grammar.specs.Parts.{when}
-use Rattle.answers.specs.Stages.{cell, is, placeOf}
+use Rattle.answers.specs.Stages.{cell, is}
 use Rattle.answers.specs.Text.{Word, opening, around, wordsOf}
 use Rattle.sound.proofs.Lists.{All}
 use Rattle.formulas.specs.Shapes.{word, Shape, s-nil, s-leaf, s-node, flat, lexed, spelling, Over, over-nil, over-leaf, over-node}
@@ -26,7 +26,7 @@ use Rattle.formulas.proofs.Fitted.{to-fits, over-fitted}
 use Rattle.grammar.proofs.Statements.{states}
 use Rattle.roundtrip.proofs.Core.{core, within, Told, told}
 use Rattle.roundtrip.proofs.Expressions.{all-parts}
-use Rattle.again.specs.Matches.{final, Match, Pairs, no-pairs}
+use Rattle.again.specs.Matches.{named, final, Match, Pairs, no-pairs}
 use Rattle.roundtrip.proofs.Canon.{under, canon, Found, pairs-append, pairs-length, opening-besides}
 
 -- ---- words
@@ -61,7 +61,7 @@ module _ (t : List ℕ) (look look′ : ℕ → List ℕ) (source : ℕ → ℕ)
   -- ---- one phrase, again
 
   final-length : (d : Draft) → length (d .row) ≡ column.ROW → length (final t d) ≡ column.ROW
-  final-length d h = either (is code.RULE-REF d) (λ e. rw e (length-set (d .row) column.A (numberAt t (placeOf (d .ownAt))) ∙ h)) (λ e. rw e h)
+  final-length d h = either (is code.RULE-REF d) (λ e. rw e (length-set (d .row) column.A (named t d) ∙ h)) (λ e. rw e h)
 
   pub open-again : {d′ d : Draft} → Match t look d′ d → Found t look′ d′ → opening (look′ (cell column.PLACE d′)) ≡ opening (look (cell column.PLACE d))
   open-again {d′} {d} m f =

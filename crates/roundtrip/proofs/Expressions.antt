@@ -3,10 +3,12 @@
 use mathlib.Core.Path.{_≡_, refl, ap, ap₂, sym, _∙_, subst}
 use mathlib.Core.List.{List, [], _∷_, _++_}
 use mathlib.Core.Bool.{Bool, true, false, _||_}
-use Prim.Native.Nat.{ℕ, _-_}
+use Prim.Native.Nat.{ℕ, suc, _-_}
 use native.Mathlib.Omega.{arith}
 use lib.Dec.{eqb}
 use lib.ListN.{getD, drop}
+use Rattle.values.specs.declared.Value.the-variants.{Fits as FitsWord}
+use Rattle.values.specs.Numbers.{valueAt}
 use Rattle.lexemes.specs.Words as words
 use Rattle.rows.specs.Codes as code
 use Rattle.rows.specs.Codes.{member, questions, isQuestion}
@@ -21,6 +23,7 @@ use Rattle.answers.specs.Rows.{Draft, rowWith, operand, expressionRows}
 use Rattle.grammar.specs.Parts.{mark}
 use Rattle.answers.specs.Text.{held}
 use Rattle.sound.proofs.Lists.{All, none, more}
+use Rattle.printing.proofs.Numbers.{after-r}
 use Rattle.formulas.specs.Shapes.{ruleWord}
 use Rattle.formulas.specs.Formula.{Formula, f-number, f-question, f-rule, f-not, f-binary, formula}
 use Rattle.formulas.specs.Tree.{Rel, rel-number, rel-constant, rel-question, rel-rule, rel-not, rel-binary}
@@ -77,6 +80,10 @@ dull-number : (k : ℕ) → k ≡ code.NUMBER → Dull k
 unfolding isQuestion member questions
 dull-number k e = rw e (record { asks-not = refl; no-rule = refl; no-question-ref = refl; no-rule-ref = refl })
 
+-- the digits after the R of a rule's name
+rule-value : (t : List ℕ) (q : ℕ) {n : ℕ} → valueAt t q ≡ FitsWord n → words.word (drop q t) ≡ ruleWord n → numberAt t (suc q) ≡ n
+rule-value t q {n} h w = value-of t (suc q) (after-r t q n w ∙ h)
+
 false-true : {P : Type 0} (b : Bool) → b ≡ false → b ≡ true → P
 false-true b e h = clash cc
 
@@ -122,18 +129,18 @@ module _ (t : List ℕ) (look : ℕ → List ℕ) (source : ℕ → ℕ) (at : �
   back : (q : ℕ) → mark q - 1 ≡ q
   back q = omega arith
 
-  rule-ref-match : (p q′ p′ q : ℕ) → Settled look (operand source at code.RULE-REF 0 p (mark q)) → N q′ ≡ held look p → words.word (drop q′ t) ≡ ruleWord (N q′) → Match t look (operand N at code.RULE-REF 0 p′ (mark q′)) (operand source at code.RULE-REF 0 p (mark q))
+  rule-ref-match : (p q′ p′ q : ℕ) → Settled look (operand source at code.RULE-REF 0 p (mark q)) → N (suc q′) ≡ held look p → words.word (drop q′ t) ≡ ruleWord (N (suc q′)) → Match t look (operand N at code.RULE-REF 0 p′ (mark q′)) (operand source at code.RULE-REF 0 p (mark q))
   unfolding isQuestion member questions
   rule-ref-match p q′ p′ q s h w =
       let e : look p ≡ rowWith code.RULE-REF at p (column.A ≔ s .a ∷ []) = s .is-row ∙ (λ j. rowWith code.RULE-REF at p (column.OWN ≔ s .own-same refl j ∷ column.A ≔ s .a ∷ [])) in
       record {
         whole = refl;
-        same = (λ j. withoutPlaces (rowWith code.RULE-REF at 0 (column.A ≔ N (back q′ j) ∷ []))) ∙ (λ j. withoutPlaces (rowWith code.RULE-REF at 0 (column.A ≔ h j ∷ []))) ∙ subst (λ r. withoutPlaces (rowWith code.RULE-REF at 0 (column.A ≔ getD r column.A 0 ∷ [])) ≡ withoutPlaces r) (sym e) refl;
+        same = (λ j. withoutPlaces (rowWith code.RULE-REF at 0 (column.A ≔ N (suc (back q′ j)) ∷ []))) ∙ (λ j. withoutPlaces (rowWith code.RULE-REF at 0 (column.A ≔ h j ∷ []))) ∙ subst (λ r. withoutPlaces (rowWith code.RULE-REF at 0 (column.A ≔ getD r column.A 0 ∷ [])) ≡ withoutPlaces r) (sym e) refl;
         code-same = refl;
         default = refl;
         question = false-true false refl;
         rule = false-true false refl;
-        reference = λ z. ap (λ x. words.word (drop x t)) (back q′) ∙ w ∙ ap (λ x. ruleWord (N x)) (sym (back q′));
+        reference = λ z. ap (λ x. words.word (drop x t)) (back q′) ∙ w ∙ ap (λ x. ruleWord (N (suc x))) (sym (back q′));
       }
 
   -- ---- every expression
@@ -146,7 +153,7 @@ module _ (t : List ℕ) (look : ℕ → List ℕ) (source : ℕ → ℕ) (at : �
   rows-match (constant c′ p′) (constant c p) rel-constant s = pair (dull-match (constantCode c) 0 0 p′ p (constant-dull c) (first-of s) (zero-held (constantCode c) p (constant-dull c) (first-of s))) no-pairs
   rows-match (question-numbered p′ q′) (question-named p q) (rel-question h) s = pair (question-match 0 p q′ p′ q (first-of s) (value-of t q′ h)) no-pairs
   rows-match (question-numbered p′ q′) (question-numbered p q) (rel-question h) s = pair (question-match (source q) p q′ p′ q (first-of s) (value-of t q′ h)) no-pairs
-  rows-match (rule-named p′ q′) (rule-named p q) (rel-rule h w) s = pair (rule-ref-match p q′ p′ q (first-of s) (value-of t q′ h) (w ∙ ap ruleWord (sym (value-of t q′ h)))) no-pairs
+  rows-match (rule-named p′ q′) (rule-named p q) (rel-rule h w) s = let v = rule-value t q′ h w in pair (rule-ref-match p q′ p′ q (first-of s) v (w ∙ ap ruleWord (sym v))) no-pairs
   rows-match (negation p′ x′) (negation p x) (rel-not h) s =
       let u = all-parts (expressionRows source at x) _ s in
       let d = dull-not code.NOT refl in
@@ -167,7 +174,7 @@ module _ (t : List ℕ) (look : ℕ → List ℕ) (at : ℕ) where
   formula-again (rel-number {p = p} h) f = ap f-number (ap (λ r. getD r column.A 0) (found-of f) ∙ value-of t p h)
   formula-again rel-constant f = refl
   formula-again (rel-question {q = q} h) f = ap f-question (ap (λ r. getD r column.A 0) (found-of f) ∙ value-of t q h)
-  formula-again (rel-rule {q = q} h w) f = let back : mark q - 1 ≡ q = omega arith in ap f-rule (ap (λ r. getD r column.A 0) (found-of f) ∙ ap (numberAt t) back ∙ value-of t q h)
+  formula-again (rel-rule {q = q} h w) f = let back : mark q - 1 ≡ q = omega arith in ap f-rule (ap (λ r. getD r column.A 0) (found-of f) ∙ ap (λ x. numberAt t (suc x)) back ∙ rule-value t q h w)
   formula-again (rel-not {e = e} h) f = ap f-not (formula-again h (all-parts (expressionRows (numberAt t) at e) _ f .0))
   formula-again (rel-binary {o = o} {l = l} {r = r} h k) f =
       let u = all-parts (expressionRows (numberAt t) at l) _ f in

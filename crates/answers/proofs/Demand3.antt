@@ -59,7 +59,7 @@ module _ (s : List ℕ) where
       found (refusing r) e = absurd (refused-number r e)
 
   -- whatever table is lent, reading accepts exactly when the source is no longer than 65,536 bytes, has a derivation whose depths, ranges, 255-rule
-  -- limit, uniqueness, reference and choice rules hold, and the whole rows lent are as many as its rows
+  -- limit, uniqueness, reference and choice rules hold, and its rows are no more than the whole rows lent
   pub accepts-with-room : (n : ℕ) → (readAnswer s n .number ≡ 0) ↔ ((tree : Trees) × Sound s tree × (length s ≤ LIMIT) × (length (drafts s tree) ≤ n / ROW))
   accepts-with-room n =
       let w = accepts-passing n in (

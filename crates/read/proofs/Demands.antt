@@ -61,7 +61,7 @@ module _ {s : List ℕ} {n : ℕ} {r : Answer} {t′ : List ℕ} (v : Reading s 
   pub accepted-exactly : length s ≤ LIMIT → length s * ROW ≤ n → (told r .number ≡ 0) ↔ ((tree : Trees) × Sound s tree)
   accepted-exactly short large = rw (v .answer) (Demand3.accepts-exactly s n short large)
 
-  -- for every other too: so, and where the whole rows lent are as many as the rows
+  -- and for every other source and table: exactly so, where its rows are no more than the whole rows lent
   pub accepted-with-room : (told r .number ≡ 0) ↔ ((tree : Trees) × Sound s tree × (length s ≤ LIMIT) × (length (drafts s tree) ≤ n / ROW))
   accepted-with-room = rw (v .answer) (Demand3.accepts-with-room s n)
 

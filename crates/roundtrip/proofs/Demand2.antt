@@ -92,7 +92,7 @@ resolved s n m h = either (eqb (readAnswer s n .number) 0) accepted refused
         (λ z. passed (w .1) (ltb-false (room m) (length (textOfSource s)) z) r)
 
 -- a source resolves exactly when it is no longer than 65,536 bytes, has a derivation whose depths, ranges, 255-rule limit, uniqueness, reference and
--- choice rules hold, the whole rows lent are as many as its rows, and its text is no longer than the bytes lent and 65,536
+-- choice rules hold, its rows are no more than the whole rows lent, and its text no longer than the bytes lent and than 65,536
 pub resolves-with-room :
     (s : List ℕ) (n m : ℕ)
     → (resolution s n m .number ≡ 0)

@@ -1,6 +1,6 @@
 -- What reading answers: each refusal of `Refuses`, or acceptance of a source that passes every stage, and nothing else.
 -- Assumes nothing.
-use mathlib.Core.Path.{_≡_, _∙_}
+use mathlib.Core.Path.{_≡_, ap, _∙_}
 use mathlib.Core.List.{List}
 use mathlib.Core.Logic.{_≢_}
 use Prim.Native.Nat.{ℕ, _/_, _≤_}
@@ -18,6 +18,8 @@ use Rattle.answers.specs.Rows.{Draft}
 use Rattle.answers.specs.Stages.{repeatedForms, repeatedQuestions, repeatedNames, rulesOverLimit, unfound, badChoices, ownNumbers, finished}
 use Rattle.answers.specs.Answer.{LIMIT, Answer, refuses, accepts, stage, answerOf, drafts}
 use Rattle.answers.specs.WholeAnswer.{Checked, refusal, derived, checked, readAnswer, rowsOf, readTable}
+use Rattle.answers.specs.Text.{resolvedText}
+use Rattle.answers.specs.Resolution.{textOfSource}
 use Rattle.answers.specs.Demand3.{Sound, Grammatical, Passes, PassesAll, to-4, to-5, to-6, to-7, to-8, to-9, to-10, to-11, to-12}
 use Rattle.answers.specs.Demand3.{Refuses, source-too-long, bad-token, no-text-starts-so, source-ends-early, opens-too-many, number-outside, more-rows, form-repeated, question-repeated, name-repeated, rule-over-limit, nothing-found, bad-choice}
 use Rattle.answers.proofs.Checks.{listed, checked-1, checked-2, checked-parsed, checked-5, checked-derived, Decided, stopped, passed, decided}
@@ -52,6 +54,15 @@ passes-sound (to-12 (to-11 (to-10 (to-9 (to-8 (to-7 (to-6 (to-5 (to-4 g) e₅) h
 -- the stages that a source alone decides find its derivation
 pub passes-derived : {s : List ℕ} {n : ℕ} {tree : Trees} → PassesAll s n tree → checked s ≡ derived tree
 passes-derived {s} {n} {tree} p = checked-derived s tree (passes-grammatical p) (passes-sound p .ranges)
+
+-- its rows and its text are those of the derivation
+pub passes-rows : {s : List ℕ} {n : ℕ} {tree : Trees} → PassesAll s n tree → rowsOf s ≡ finished s (drafts s tree)
+unfolding rowsOf
+passes-rows p = rw (passes-derived p, rowsOf)
+
+pub passes-text : {s : List ℕ} {n : ℕ} {tree : Trees} → PassesAll s n tree → textOfSource s ≡ resolvedText tree (finished s (drafts s tree))
+unfolding textOfSource
+passes-text {tree = tree} p = rw (passes-derived p, textOfSource) (ap (resolvedText tree) (passes-rows p))
 
 -- ---- what the stages from a number on answer
 
@@ -110,8 +121,8 @@ module _ (s : List ℕ) (n : ℕ) (tree : Trees) where
 
   -- and its rows are laid into the table
   pub laid-rows : PassesAll s n tree → readTable s n ≡ laid (finished s ds) n
-  unfolding readTable rowsOf
-  laid-rows p = rw (accepted-answer p, passes-derived p, rowsOf)
+  unfolding readTable
+  laid-rows p = rw (accepted-answer p, passes-rows p)
 
 -- ---- refusals
 

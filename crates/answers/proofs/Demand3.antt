@@ -1,32 +1,36 @@
 -- Demand 3: which sources reading accepts, with which rows and numbers, and when each refusal is given. The terms are those of `specs/Demand3`.
 -- Assumes nothing.
-use Prim.Native.Nat.{ℕ, _+_, _*_, _^_, _≤_, _<_}
+use Prim.Native.Nat.{ℕ, _+_, _-_, _*_, _/_, _^_, _≤_, _<_}
 use native.Mathlib.Omega.{arith}
-use mathlib.Core.Path.{_≡_, sym, ap}
-use mathlib.Core.List.{List}
+use mathlib.Core.Path.{_≡_, sym, ap, _∙_}
+use mathlib.Core.List.{List, flatten}
 use mathlib.Core.Logic.{_⊎_, _↔_, _≢_}
-use lib.ListN.{length}
+use lib.ListN.{length, drop, replicate}
+use lib.Seq.{drop-at}
 use Rattle.lex.specs.declared.Found.the-variants.{At}
 use Rattle.lex.specs.Tokens.{firstBad}
-use Rattle.numbers.specs.Numbers.{numbered, freeCount, unwritten}
-use Rattle.numbers.proofs.Numbering.{Numbering, numbering, enough-free}
+use Rattle.numbers.specs.Numbers.{numbered, freeCount}
+use Rattle.numbers.proofs.Numbering.{numbering}
 use Rattle.rows.specs.Columns.{ROW}
-use Rattle.rows.specs.Rows.{AreRows, laid}
+use Rattle.rows.specs.Rows.{AreRows, rowsFrom, laid}
+use Rattle.rows.proofs.FlatLaws.{length-flatten}
+use Rattle.rows.proofs.RunLaws.{rows-flat}
 use Rattle.ll1.specs.Trees.{Trees}
 use Rattle.grammar.specs.Derivation.{Derives}
 use Rattle.grammar.specs.Source.{sourceTokens, numberAt}
 use Rattle.answers.specs.Stages.{ownNumbers, finished}
 use Rattle.answers.specs.Answer.{LIMIT, Answer, refuses, accepts, drafts}
-use Rattle.answers.specs.WholeAnswer.{quickCheck, readAnswer, readTable}
-use Rattle.answers.specs.Demand3.{Sound, PassesAll, Refuses, questionNumbers}
+use Rattle.answers.specs.WholeAnswer.{quickCheck, readAnswer, rowsOf, readTable}
+use Rattle.answers.specs.Demand3.{Sound, PassesAll, Refuses, questionNumbers, GetsSmallest}
 use Rattle.grammar.proofs.Theorems.{one-derivation}
 use Rattle.grammar.proofs.SourceTokens.{tokens-few}
 use Rattle.answers.proofs.RowCount as RowCount
+use Rattle.answers.proofs.FoundRows.{finished-count}
 use Rattle.answers.proofs.RowShape.{Wide, rows-wide, finished-wide}
 use Rattle.answers.proofs.Checks as Checks
-use Rattle.answers.proofs.Answers.{sound-passes, passes-sound, accepted-answer, laid-rows, refused-answer, refused-number, Right, accepting, refusing, answer-right}
+use Rattle.answers.proofs.Answers.{sound-passes, passes-grammatical, passes-room, passes-sound, passes-rows, accepted-answer, laid-rows, refused-answer, refused-number, Right, accepting, refusing, answer-right}
 use Rattle.answers.proofs.QuickCheck as QuickCheck
-use Rattle.answers.proofs.QuestionNumbers.{question-numbers, questions-few}
+use Rattle.answers.proofs.QuestionNumbers.{question-numbers, questions-few, gets-smallest}
 
 module _ (s : List ℕ) where
   -- ---- derivations
@@ -54,21 +58,20 @@ module _ (s : List ℕ) where
       found (accepting {tree = tree} p) e = (tree, p)
       found (refusing r) e = absurd (refused-number r e)
 
-  -- a source of at most 65,536 bytes, and a table of at least as many whole rows as the source has bytes
-  module _ (n : ℕ) (short : length s ≤ LIMIT) (large : length s * ROW ≤ n) where
-    passing : (tree : Trees) → Sound s tree → PassesAll s n tree
-    passing tree d = sound-passes d short (omega (arith, rows-few tree (d .derives)))
+  -- whatever table is lent, reading accepts exactly when the source is no longer than 65,536 bytes, has a derivation whose depths, ranges, 255-rule
+  -- limit, uniqueness, reference and choice rules hold, and its rows are no more than the whole rows lent
+  pub accepts-with-room : (n : ℕ) → (readAnswer s n .number ≡ 0) ↔ ((tree : Trees) × Sound s tree × (length s ≤ LIMIT) × (length (drafts s tree) ≤ n / ROW))
+  accepts-with-room n =
+      let w = accepts-passing n in (
+        λ e. let f = w .0 e in (f .0, passes-sound (f .1), passes-grammatical (f .1) .short, passes-room (f .1)),
+        λ f. w .1 (f .0, sound-passes (f .1) (f .2) (f .3)),
+      )
 
-    -- reading accepts exactly when there is a derivation and its depths, ranges, 255-rule limit, uniqueness, reference and choice rules hold
-    pub accepts-exactly : (readAnswer s n .number ≡ 0) ↔ ((tree : Trees) × Sound s tree)
-    accepts-exactly =
-        let w = accepts-passing n in
-        (λ e. let f = w .0 e in (f .0, passes-sound (f .1)), λ f. w .1 (f .0, passing (f .0) (f .1)))
-
-    -- the rows are exactly those of the derivation: the counts, and the table afterwards
-    pub rows-exactly : (tree : Trees) → Sound s tree
-        → (readAnswer s n ≡ accepts (length (drafts s tree)) (freeCount (numbered (ownNumbers (drafts s tree))))) × (readTable s n ≡ laid (finished s (drafts s tree)) n)
-    rows-exactly tree d = let p = passing tree d in (accepted-answer s n tree p, laid-rows s n tree p)
+  -- a source of at most 65,536 bytes, and a table of at least as many whole rows as the source has bytes: then there is room
+  pub accepts-exactly : (n : ℕ) → length s ≤ LIMIT → length s * ROW ≤ n → (readAnswer s n .number ≡ 0) ↔ ((tree : Trees) × Sound s tree)
+  accepts-exactly n short large =
+      let w = accepts-with-room n in
+      (λ e. let f = w .0 e in (f .0, f .1), λ f. w .1 (f .0, f .1, short, omega (arith, rows-few (f .0) (f .1 .derives))))
 
   -- ---- refusals
 
@@ -103,12 +106,56 @@ module _ (s : List ℕ) where
     pub numbers-exactly : questionNumbers (finished s (drafts s tree)) ≡ numbered (ownNumbers (drafts s tree))
     numbers-exactly = question-numbers s (drafts s tree) wide
 
-    -- a written number stands, and the i-th question without one gets the i-th smallest number of 1 to 65,535 that no question writes: in `numbers`,
-    -- `free-exactly` and `free-ascend` say that `freeNumbers` are these
-    pub numbers-given : Numbering (ownNumbers (drafts s tree)) (questionNumbers (finished s (drafts s tree)))
-    numbers-given = rw numbers-exactly (numbering (ownNumbers (drafts s tree)))
-
-    -- and they do not run out
-    pub numbers-suffice : length s ≤ LIMIT → unwritten (ownNumbers (drafts s tree)) ≤ freeCount (ownNumbers (drafts s tree))
+    own-few : length s ≤ LIMIT → length (ownNumbers (drafts s tree)) ≤ 65535
     unfolding drafts
-    numbers-suffice short = enough-free (ownNumbers (drafts s tree)) (omega (arith, questions-few (numberAt s) (derives .fits), rows-few tree derives))
+    own-few short = omega (arith, questions-few (numberAt s) (derives .fits), rows-few tree derives)
+
+    -- "The i-th question without a written number gets the i-th smallest number, from 1 up, that no question writes, later lines included"
+    pub numbers-smallest : length s ≤ LIMIT → GetsSmallest (ownNumbers (drafts s tree)) (questionNumbers (finished s (drafts s tree)))
+    numbers-smallest short = rw numbers-exactly (gets-smallest (ownNumbers (drafts s tree)) _ (own-few short) (numbering (ownNumbers (drafts s tree))))
+
+  -- ---- an accepted source, whatever table is lent
+
+  module _ (n : ℕ) (accepted : readAnswer s n .number ≡ 0) (tree : Trees) (derives : Derives (sourceTokens s) tree) where
+    -- an accepted source passes every stage with its derivation, for it has no other
+    pub accepted-passes : PassesAll s n tree
+    accepted-passes =
+        let other = accepts-passing n .0 accepted in
+        let same = one-derivation-of-source (other .0) tree (passes-grammatical (other .1) .derives) derives in
+        rw same at (other .1)
+
+    -- the rows are exactly those of the derivation: the counts, and the table afterwards
+    pub counts-exactly : readAnswer s n ≡ accepts (length (drafts s tree)) (freeCount (numbered (ownNumbers (drafts s tree))))
+    counts-exactly = accepted-answer s n tree accepted-passes
+
+    pub rows-exactly : readTable s n ≡ laid (finished s (drafts s tree)) n
+    rows-exactly = laid-rows s n tree accepted-passes
+
+    -- in the table stand these rows
+    pub rows-in-table : rowsFrom (readTable s n) 0 (length (drafts s tree)) ≡ finished s (drafts s tree)
+    unfolding laid
+    rows-in-table = rw (rows-exactly, ← finished-count s (drafts s tree)) (rows-flat (finished-wide s (wide tree derives)) _)
+
+    -- and zeros past them
+    pub zeros-past-rows : drop (length (drafts s tree) * ROW) (readTable s n) ≡ replicate (n - length (drafts s tree) * ROW) 0
+    unfolding laid
+    zeros-past-rows =
+        let size = length-flatten (finished-wide s (wide tree derives)) in
+        let same : length (flatten (finished s (drafts s tree))) ≡ length (drafts s tree) * ROW = size ∙ ap (λ k. k * ROW) (finished-count s (drafts s tree)) in
+        rw (rows-exactly, same) (drop-at (flatten (finished s (drafts s tree))) _ (length (drafts s tree) * ROW) same)
+
+  -- told by the answer
+  module _ (n : ℕ) (accepted : readAnswer s n .number ≡ 0) where
+    pub table-rows : rowsFrom (readTable s n) 0 (readAnswer s n .rows) ≡ rowsOf s
+    table-rows =
+        let f = accepts-passing n .0 accepted in
+        let derives = passes-grammatical (f .1) .derives in
+        ap (λ a. rowsFrom (readTable s n) 0 (a .rows)) (counts-exactly n accepted (f .0) derives)
+        ∙ rows-in-table n accepted (f .0) derives ∙ sym (passes-rows (f .1))
+
+    pub table-past-rows : drop (readAnswer s n .rows * ROW) (readTable s n) ≡ replicate (n - readAnswer s n .rows * ROW) 0
+    table-past-rows =
+        let f = accepts-passing n .0 accepted in
+        let derives = passes-grammatical (f .1) .derives in
+        let count : readAnswer s n .rows ≡ length (drafts s (f .0)) = ap (λ a. a .rows) (counts-exactly n accepted (f .0) derives) in
+        rw count (zeros-past-rows n accepted (f .0) derives)

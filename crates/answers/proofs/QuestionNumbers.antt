@@ -1,17 +1,21 @@
 -- The finished rows give the questions the numbers of `numbered`, in source order.
 -- Assumes nothing.
-use mathlib.Core.Path.{_≡_, refl, _∙_}
+use mathlib.Core.Path.{_≡_, refl, sym, ap, _∙_}
 use mathlib.Core.List.{List, [], _∷_, map}
-use mathlib.Core.Bool.{true, false, cond, _||_}
-use Prim.Native.Nat.{ℕ, suc, _≤_, _<_}
+use mathlib.Core.Bool.{Bool, true, false, not, cond, _&&_, _||_}
+use Prim.Native.Nat.{ℕ, zero, suc, _+_, _-_, _≤_, _<_}
+use native.Mathlib.Nat.{zero-add}
 use native.Mathlib.Omega.{arith}
-use lib.Dec.{eqb}
-use lib.ListN.{length, getD, set}
+use lib.Dec.{eqb, ltb}
+use lib.ListN.{length, getD, set, take}
 use lib.Seq.{getD-set-same, getD-set-other}
-use borrow.Author.Tests.{ne-eqb}
+use borrow.Author.Tests.{ne-eqb, lt-ltb, not-true}
 use Rattle.lexemes.proofs.Lists.{either}
-use Rattle.numbers.specs.Numbers.{numbered}
-use Rattle.numbers.proofs.Numbering.{numbering}
+use Rattle.numbers.specs.Numbers.{limit, isNumber, picked, freeFrom, mem, borne, freeNumbers, freeCount, unwritten, numbered}
+use Rattle.numbers.proofs.Ranges.{and-yes, one, pick-no, count-none, count-next, count-add, pick-index}
+use Rattle.numbers.proofs.FreeNumbers.{number-range, free-exactly}
+use Rattle.numbers.proofs.Lists.{mem-getD, unwritten-before}
+use Rattle.numbers.proofs.Numbering.{Numbering, numbering, enough-free}
 use Rattle.rows.specs.Codes as code
 use Rattle.rows.specs.Codes.{member, questions, isQuestion}
 use Rattle.rows.specs.Columns as column
@@ -22,7 +26,7 @@ use Rattle.grammar.specs.Rules.{<source>}
 use Rattle.grammar.specs.Grammar.{rules}
 use Rattle.answers.specs.Rows.{Draft, formSet, draftsOf}
 use Rattle.answers.specs.Stages.{cell, asks, refers, finds, ownOfFirst, ownNumbers, withCell, withNumbers, numberedRows, finished}
-use Rattle.answers.specs.Demand3.{questionNumbers}
+use Rattle.answers.specs.Demand3.{questionNumbers, unwrittenBelow, GetsSmallest}
 use Rattle.answers.proofs.RowShape.{Wide, no-wide, add-wide}
 
 -- a question is no reference
@@ -90,3 +94,68 @@ after-other d ds e = rw e (omega (arith, own-few ds))
 pub questions-few : {f : Trees} (value : ℕ → ℕ) → Fits rules (nonterminal <source> ∷ []) f → length (ownNumbers (draftsOf value f 0 0 0)) < length (draftsOf value f 0 0 0)
 unfolding isQuestion questions member
 questions-few value (fits-node {c = c} e r₁ r₂) = after-other (formSet value c) _ refl
+
+-- ---- the i-th without a number gets the i-th smallest that none writes
+
+module _ (l : List ℕ) where
+  -- no question writes the number k
+  abbrev isFree : ℕ → Bool
+  isFree k = isNumber k && not (borne l k)
+
+  free-test : (k : ℕ) → k < limit → (ltb 0 k && not (mem k l)) ≡ isFree k
+  free-test k h = rw (lt-ltb k limit h) (go (ltb 0 k))
+    where
+      go : (b : Bool) → (b && not (mem k l)) ≡ (b && true && not (b && true && mem k l))
+      go true = refl
+      go false = refl
+
+  one-more : (b : Bool) (n : ℕ) → cond b (suc n) n ≡ n + one b
+  one-more true n = omega arith
+  one-more false n = omega arith
+
+  below-picked : (n : ℕ) → n ≤ limit → unwrittenBelow l n ≡ length (picked isFree 0 n)
+  unfolding unwrittenBelow
+  below-picked zero h = sym (count-none isFree 0)
+  below-picked (suc n) h =
+      let more : unwrittenBelow l (suc n) ≡ unwrittenBelow l n + one (isFree n) = rw (free-test n (omega arith)) (one-more (isFree n) (unwrittenBelow l n)) in
+      let e : n + 1 ≡ suc n = omega arith in
+      let counts : length (picked isFree 0 (suc n)) ≡ length (picked isFree 0 n) + length (picked isFree n 1) = rw (zero-add n, e) at (count-add isFree n 1 0) in
+      omega (arith, more, counts, count-next isFree n 0, count-none isFree (n + 1), below-picked n (omega arith))
+
+  -- of the free numbers, the one with i before it has i below it
+  below-free : (k i : ℕ) → isNumber k ≡ true → i < freeCount l → k ≡ getD (freeNumbers l) i 0 → unwrittenBelow l k ≡ i
+  unfolding freeFrom
+  below-free k i number h e =
+      let range = number-range k number in
+      let m : k ≡ suc (k - 1) = omega arith in
+      let from-1 : length (picked isFree 0 k) ≡ length (picked isFree 1 (k - 1)) = ap (λ (c : ℕ). length (picked isFree 0 c)) m ∙ ap length (pick-no isFree 0 (k - 1) refl) in
+      let index : length (picked isFree 1 (k - 1)) ≡ i = rw (← e) at (pick-index isFree 65535 1 i h) in
+      below-picked k (omega arith) ∙ (from-1 ∙ index)
+
+module _ (l n : List ℕ) (few : length l ≤ 65535) (v : Numbering l n) where
+  module _ (j : ℕ) (h : j < length l) (z : getD l j 0 ≡ 0) where
+    abbrev i : ℕ
+    i = unwritten (take j l)
+
+    there : i < freeCount l
+    there = omega (arith, unwritten-before l j h z, enough-free l few)
+
+    number : (isNumber (getD n j 0) ≡ true) × (mem (getD n j 0) l ≡ false)
+    number =
+        let k = getD (freeNumbers l) i 0 in
+        let e = and-yes (isNumber k) (not (mem k l)) (sym (free-exactly l k) ∙ mem-getD (freeNumbers l) i there) in
+        rw (v .gets j h z) (e .0, not-true (mem k l) (e .1))
+
+    below : unwrittenBelow l (getD n j 0) ≡ i
+    below = below-free l (getD n j 0) i (number .0) there (v .gets j h z)
+
+  pub gets-smallest : GetsSmallest l n
+  gets-smallest =
+      record {
+        each = v .long;
+        stays = v .stands;
+        from-1 = λ j h z. number-range (getD n j 0) (number j h z .0) .0;
+        to-65535 = λ j h z. omega (arith, number-range (getD n j 0) (number j h z .0) .1);
+        free = λ j h z. number j h z .1;
+        i-th = below;
+      }

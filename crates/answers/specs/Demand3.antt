@@ -1,12 +1,15 @@
 -- Demand 3 in document 01's own terms: what a source must be for reading to accept it, and what it is where reading refuses it. "Written without our
 -- reader": no parser is named here, nor in what this imports. Assumes nothing.
-use Prim.Native.Nat.{ℕ, _/_, _≤_, _<_}
+use Prim.Native.Nat.{ℕ, zero, suc, _/_, _≤_, _<_}
 use mathlib.Core.Path.{_≡_}
-use mathlib.Core.Bool.{cond}
+use mathlib.Core.Bool.{false, not, cond, _&&_}
+use mathlib.Core.Logic.{_≢_}
 use mathlib.Core.List.{List, [], _∷_}
-use lib.ListN.{length, getD}
+use lib.Dec.{ltb}
+use lib.ListN.{length, getD, take}
 use Rattle.lex.specs.declared.Found.the-variants.{At, Nothing}
 use Rattle.lex.specs.Tokens.{firstBad}
+use Rattle.numbers.specs.Numbers.{mem, unwritten}
 use Rattle.rows.specs.Codes.{isQuestion}
 use Rattle.rows.specs.Columns as column
 use Rattle.rows.specs.Columns.{ROW}
@@ -96,3 +99,22 @@ pub data Refuses (s : List ℕ) (n : ℕ) : Answer → Type 0 where
 unfoldable pub questionNumbers : List (List ℕ) → List ℕ
 questionNumbers [] = []
 questionNumbers (r ∷ rs) = let later = questionNumbers rs in cond (isQuestion (getD r column.CODE 0)) (getD r column.OWN 0 ∷ later) later
+
+-- how many numbers from 1 up and below n no question writes, where `own` is what each question writes
+unfoldable pub unwrittenBelow : List ℕ → ℕ → ℕ
+unwrittenBelow own zero = 0
+unwrittenBelow own (suc n) = let below = unwrittenBelow own n in cond (ltb 0 n && not (mem n own)) (suc below) below
+
+-- "The i-th question without a written number gets the i-th smallest number, from 1 up, that no question writes, later lines included". Of the
+-- questions in source order, `own` is the number that each writes, 0 where it writes none, and `has` the number that it has; j counts questions from 0
+pub record GetsSmallest (own has : List ℕ) : Type 0 where
+  pub each : length has ≡ length own
+  -- a written number stays
+  pub stays : (j : ℕ) → getD own j 0 ≢ 0 → getD has j 0 ≡ getD own j 0
+  -- a question without one has a number from 1 to 65,535
+  pub from-1 : (j : ℕ) → j < length own → getD own j 0 ≡ 0 → 1 ≤ getD has j 0
+  pub to-65535 : (j : ℕ) → j < length own → getD own j 0 ≡ 0 → getD has j 0 ≤ 65535
+  -- that no question writes
+  pub free : (j : ℕ) → j < length own → getD own j 0 ≡ 0 → mem (getD has j 0) own ≡ false
+  -- and that has as many numbers below it that no question writes as there are questions without a written number before this one
+  pub i-th : (j : ℕ) → j < length own → getD own j 0 ≡ 0 → unwrittenBelow own (getD has j 0) ≡ unwritten (take j own)

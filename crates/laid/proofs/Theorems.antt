@@ -12,9 +12,7 @@ use Rattle.answers.specs.Stages.{finished}
 use Rattle.answers.specs.Answer.{drafts}
 use Rattle.answers.specs.WholeAnswer.{readAnswer, readTable}
 use Rattle.answers.specs.Text.{rowFirstAt}
-use Rattle.answers.specs.Demand3.{PassesAll}
-use Rattle.answers.proofs.Answers.{accepted-answer, laid-rows, passes-sound}
-use Rattle.answers.proofs.Demand3.{one-derivation-of-source, accepts-passing}
+use Rattle.answers.proofs.Demand3.{counts-exactly, rows-exactly}
 use Rattle.laid.specs.Laid.{FormSetLaid}
 use Rattle.laid.proofs.Forests.{form-set-laid}
 use Rattle.laid.proofs.FinishedRows.{drafts-held}
@@ -31,8 +29,4 @@ module _ (s : List ℕ) (n : ℕ) (tree : Trees) (derives : Derives (sourceToken
 
   -- of an accepted one: so has the table of n numbers that reading leaves, in as many rows as reading answers
   pub statements-laid : readAnswer s n .number ≡ 0 → FormSetLaid (readTable s n) (readAnswer s n .rows) rowOf tree
-  statements-laid accepted =
-      let other = accepts-passing s n .0 accepted in
-      let same = one-derivation-of-source s (other .0) tree (passes-sound (other .1) .derives) derives in
-      let passes : PassesAll s n tree = rw same at (other .1) in
-      rw (laid-rows s n tree passes, accepted-answer s n tree passes) finished-laid
+  statements-laid accepted = rw (rows-exactly s n accepted tree derives, counts-exactly s n accepted tree derives) finished-laid

@@ -89,6 +89,15 @@ pub unwritten-given : {q : ℕ} (l : List ℕ) → q ≡ 0 → unwritten (q ∷ 
 unfolding unwritten
 unwritten-given l e = rw e
 
+-- before a zero stand fewer zeros than in the whole list
+pub unwritten-before : (l : List ℕ) (j : ℕ) → j < length l → getD l j 0 ≡ 0 → unwritten (take j l) < unwritten l
+unfolding unwritten
+unwritten-before [] j h z = absurd (omega arith)
+unwritten-before (zero ∷ l) zero h z = omega arith
+unwritten-before (zero ∷ l) (suc j) h z = omega (arith, unwritten-before l j (omega arith) z)
+unwritten-before (suc q ∷ l) zero h z = absurd (omega arith)
+unwritten-before (suc q ∷ l) (suc j) h z = unwritten-before l j (omega arith) z
+
 -- ---- the filled list
 
 pub fill-length : (fs l : List ℕ) → length (fill fs l) ≡ length l

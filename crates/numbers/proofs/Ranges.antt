@@ -188,6 +188,26 @@ pick-low p (suc m) n i h = go (p n) i h (λ j g. pick-low p m (n + 1) j g)
     go true (suc i) h ih = omega (arith, ih i (omega arith))
     go false i h ih = omega (arith, ih i h)
 
+-- below the i-th that is picked, counted from 0, i are picked
+pub pick-index : (p : ℕ → Bool) (m n i : ℕ) → i < length (picked p n m) → length (picked p n (getD (picked p n m) i 0 - n)) ≡ i
+unfolding picked
+pick-index p zero n i h = absurd (omega arith)
+pick-index p (suc m) n i h = go (p n) refl i h (λ j g. pick-index p m (n + 1) j g) (λ j g. pick-low p m (n + 1) j g)
+  where
+    more : List ℕ
+    more = picked p (n + 1) m
+
+    past : (v : ℕ) → n + 1 ≤ v → length (picked p n (v - n)) ≡ one (p n) + length (picked p (n + 1) (v - (n + 1)))
+    past v l = let e : v - n ≡ suc (v - (n + 1)) = omega arith in rw e (count-next p n (v - (n + 1)))
+
+    go : (b : Bool) → p n ≡ b → (i : ℕ) → i < length (cond b (n ∷ more) more)
+        → ((j : ℕ) → j < length more → length (picked p (n + 1) (getD more j 0 - (n + 1))) ≡ j)
+        → ((j : ℕ) → j < length more → n + 1 ≤ getD more j 0)
+        → length (picked p n (getD (cond b (n ∷ more) more) i 0 - n)) ≡ i
+    go true e zero h ih low = let z : n - n ≡ 0 = omega arith in rw z (count-none p n)
+    go true e (suc i) h ih low = omega (arith, past (getD more i 0) (low i (omega arith)), ap one e, ih i (omega arith))
+    go false e i h ih low = omega (arith, past (getD more i 0) (low i h), ap one e, ih i h)
+
 pub pick-ascends : (p : ℕ → Bool) (m n i j : ℕ) → i < j → j < length (picked p n m) → getD (picked p n m) i 0 < getD (picked p n m) j 0
 unfolding picked
 pick-ascends p zero n i j l h = absurd (omega arith)

@@ -1,60 +1,115 @@
--- Demands 1 and 3 of the function `read`: what its contract says of every source and every table lent, in document 01's terms. The two premises
--- are the contract's two sentences; the terms are those of `grammar`'s `specs/Demand3`.
+-- Demands 1 and 3 of the functions `read` and `quick_check`: what their contracts say of every source and every table lent, in document 01's terms,
+-- which are those of `answers`' `specs/Demand3`.
 -- Assumes nothing.
-use Prim.Native.Nat.{ℕ, _*_, _≤_}
-use mathlib.Core.Path.{_≡_, _∙_}
-use mathlib.Core.Logic.{_↔_, _≢_}
+use Prim.Native.Nat.{ℕ, _+_, _-_, _*_, _/_, _^_, _≤_, _<_}
+use mathlib.Core.Path.{_≡_, sym, ap, _∙_}
+use mathlib.Core.Logic.{_⊎_, _↔_, _≢_}
 use mathlib.Core.List.{List}
-use lib.ListN.{length, replicate}
+use lib.ListN.{length, drop, replicate}
 use borrow.Author.Tests.{ne-eqb}
+use borrow.Fn.Kinds.{Dens, endedOf}
+use contract.Lifetimes.{Lfts}
+use denote.Triple.Clauses.{AtExit}
 use Rattle.numbers.specs.Numbers.{numbered, freeCount}
-use Rattle.numbers.proofs.Numbering.{Numbering}
 use Rattle.rows.specs.Columns.{ROW}
 use Rattle.rows.specs.Rows.{rowsFrom, laid}
-use Rattle.rows.proofs.RunLaws.{rows-flat}
 use Rattle.ll1.specs.Trees.{Trees}
 use Rattle.answers.specs.Stages.{ownNumbers, finished}
 use Rattle.answers.specs.Answer as grammar
-use Rattle.answers.specs.Answer.{LIMIT, accepts, drafts}
-use Rattle.answers.specs.WholeAnswer.{readAnswer, readTable}
-use Rattle.answers.specs.Demand3.{Sound, Refuses, questionNumbers}
+use Rattle.answers.specs.Answer.{LIMIT, accepts, refuses, drafts}
+use Rattle.answers.specs.WholeAnswer.{quickCheck, readAnswer, readTable}
+use Rattle.answers.specs.Demand3.{Sound, Refuses, questionNumbers, GetsSmallest}
+use Rattle.answers.proofs.Answers.{passes-grammatical}
 use Rattle.answers.proofs.Demand3 as Demand3
 use Rattle.read.specs.declared.Answer.{Answer}
 use Rattle.read.specs.Answers.{told}
+use Rattle.read.proofs.read.Kinds as kinds
+use Rattle.read.proofs.read.Reads as promise
+use Rattle.read.proofs.quick_check.Kinds as quick-kinds
+use Rattle.read.proofs.quick_check.Reads as quick-promise
 
--- the source s is read into a table of n numbers; r is the answer, and t′ the table afterwards
-module _ (s : List ℕ) (n : ℕ) (r : Answer) (t′ : List ℕ) (answer : told r ≡ readAnswer s n) (table : t′ ≡ readTable s n) where
+-- what a call of `read` does: the source s is read into a table of n numbers; r is the answer, and t′ the table afterwards
+pub record Reading (s : List ℕ) (n : ℕ) (r : Answer) (t′ : List ℕ) : Type 0 where
+  pub answer : told r ≡ readAnswer s n
+  pub table : t′ ≡ readTable s n
+
+-- every call does so: what the contract of `read` promises a caller who lends a and finds e lent back
+pub reading :
+    (κs : Lfts 2) (a : Dens κs kinds.ps) (r : Answer) (e : AtExit (endedOf 2 kinds.ps kinds.r) κs)
+    → promise.Learnt κs a r e → Reading (a .0 .now) (length (a .1 .0 .now)) r (e .1 .0 .now)
+reading κs a r e p = record { answer = p .0; table = p .1 }
+
+module _ {s : List ℕ} {n : ℕ} {r : Answer} {t′ : List ℕ} (v : Reading s n r t′) where
+  number : told r .number ≡ readAnswer s n .number
+  number = ap (λ a. a .number) (v .answer)
+
   -- ---- demand 1
 
   -- "the lent table [is] then all zeros"
   pub refused-zeros : told r .number ≢ 0 → t′ ≡ replicate n 0
   unfolding readTable
-  refused-zeros h = table ∙ rw (← answer, ne-eqb (told r .number) 0 h)
+  refused-zeros h = v .table ∙ rw (ne-eqb (readAnswer s n .number) 0 (λ e. h (number ∙ e)))
 
   -- a refusal is given with an answer exactly when a line of document 01's table says so
   pub refused-exactly : (a : grammar.Answer) → Refuses s n a ↔ ((told r ≡ a) × (a .number ≢ 0))
-  refused-exactly a = rw answer (Demand3.refuses-exactly s n a)
+  refused-exactly a = rw (v .answer) (Demand3.refuses-exactly s n a)
 
-  -- ---- demand 3: a source of at most 65,536 bytes, and a table of at least as many whole rows as the source has bytes
+  -- ---- demand 3
 
-  module _ (short : length s ≤ LIMIT) (large : length s * ROW ≤ n) where
-    -- accepted exactly when the grammar derives it "and its depths, ranges, 255-rule limit, uniqueness, reference and choice rules hold"
-    pub accepted-exactly : (told r .number ≡ 0) ↔ ((tree : Trees) × Sound s tree)
-    accepted-exactly = rw answer (Demand3.accepts-exactly s n short large)
+  -- "For every source of at most 65,536 bytes and every table of at least as many whole rows as the source has bytes": accepted exactly when the
+  -- grammar derives it "and its depths, ranges, 255-rule limit, uniqueness, reference and choice rules hold"
+  pub accepted-exactly : length s ≤ LIMIT → length s * ROW ≤ n → (told r .number ≡ 0) ↔ ((tree : Trees) × Sound s tree)
+  accepted-exactly short large = rw (v .answer) (Demand3.accepts-exactly s n short large)
+
+  -- and for every other source and table: exactly so, where its rows are no more than the whole rows lent
+  pub accepted-with-room : (told r .number ≡ 0) ↔ ((tree : Trees) × Sound s tree × (length s ≤ LIMIT) × (length (drafts s tree) ≤ n / ROW))
+  accepted-with-room = rw (v .answer) (Demand3.accepts-with-room s n)
+
+  module _ (accepted : told r .number ≡ 0) where
+    accepted′ : readAnswer s n .number ≡ 0
+    accepted′ = sym number ∙ accepted
 
     module _ (tree : Trees) (sound : Sound s tree) where
       -- the row count and the free count
       pub counts-exactly : told r ≡ accepts (length (drafts s tree)) (freeCount (numbered (ownNumbers (drafts s tree))))
-      counts-exactly = answer ∙ Demand3.rows-exactly s n short large tree sound .0
+      counts-exactly = v .answer ∙ Demand3.counts-exactly s n accepted′ tree (sound .derives)
 
       -- "Exactly the derivation's rows then stand in the table", and zeros past them
       pub rows-exactly : t′ ≡ laid (finished s (drafts s tree)) n
-      rows-exactly = table ∙ Demand3.rows-exactly s n short large tree sound .1
+      rows-exactly = v .table ∙ Demand3.rows-exactly s n accepted′ tree (sound .derives)
 
-      pub rows-in-table : rowsFrom t′ 0 (length (finished s (drafts s tree))) ≡ finished s (drafts s tree)
-      unfolding laid
-      rows-in-table = rw rows-exactly (rows-flat (Demand3.rows-whole s tree (sound .derives)) _)
+      pub rows-in-table : rowsFrom t′ 0 (length (drafts s tree)) ≡ finished s (drafts s tree)
+      rows-in-table = rw (v .table) (Demand3.rows-in-table s n accepted′ tree (sound .derives))
+
+      pub zeros-past-rows : drop (length (drafts s tree) * ROW) t′ ≡ replicate (n - length (drafts s tree) * ROW) 0
+      zeros-past-rows = rw (v .table) (Demand3.zeros-past-rows s n accepted′ tree (sound .derives))
 
       -- "The i-th question without a written number gets the i-th smallest number, from 1 up, that no question writes, later lines included"
-      pub numbers-in-table : Numbering (ownNumbers (drafts s tree)) (questionNumbers (rowsFrom t′ 0 (length (finished s (drafts s tree)))))
-      numbers-in-table = rw rows-in-table (Demand3.numbers-given s tree (sound .derives))
+      pub numbers-in-table : GetsSmallest (ownNumbers (drafts s tree)) (questionNumbers (rowsFrom t′ 0 (length (drafts s tree))))
+      numbers-in-table =
+          let passes = Demand3.accepted-passes s n accepted′ tree (sound .derives) in
+          rw rows-in-table (Demand3.numbers-smallest s tree (sound .derives) (passes-grammatical passes .short))
+
+    -- whatever table is lent, an accepted source has such a derivation, and its rows stand in the table
+    pub accepted-rows :
+        (tree : Trees) × Sound s tree
+        × (told r ≡ accepts (length (drafts s tree)) (freeCount (numbered (ownNumbers (drafts s tree)))))
+        × (t′ ≡ laid (finished s (drafts s tree)) n)
+    accepted-rows = let f = accepted-with-room .0 accepted in (f .0, f .1, counts-exactly (f .0) (f .1), rows-exactly (f .0) (f .1))
+
+-- ---- the quick check: "over stages 1 to 5 alone"
+
+-- what a call of `quick_check` answers
+pub quick-checking :
+    (κs : Lfts 1) (a : Dens κs quick-kinds.ps) (q : ℕ) (e : AtExit (endedOf 1 quick-kinds.ps quick-kinds.r) κs)
+    → quick-promise.Learnt κs a q e → q ≡ quickCheck (a .0 .now)
+quick-checking κs a q e p = p
+
+module _ (s : List ℕ) {q : ℕ} (v : q ≡ quickCheck s) where
+  -- "refusal number times 2^32 plus place" exactly where reading refuses with one of 1 to 5, whatever table is lent
+  pub quick-check-refuses : (k p : ℕ) → 1 ≤ k → k ≤ 5 → p < 2 ^ 32 → (q ≡ k * 2 ^ 32 + p) ↔ ((n : ℕ) → readAnswer s n ≡ refuses k p)
+  quick-check-refuses = rw v (Demand3.quick-check-refuses s)
+
+  -- and 0 where it does not
+  pub quick-check-passes : (q ≡ 0) ↔ ((n : ℕ) → (readAnswer s n .number ≡ 0) ⊎ (6 ≤ readAnswer s n .number))
+  quick-check-passes = rw v (Demand3.quick-check-passes s)

@@ -3,11 +3,12 @@
 use mathlib.Core.Path.{_≡_, refl, ap, ap₂, sym, _∙_, subst}
 use mathlib.Core.List.{List, [], _∷_, map}
 use mathlib.Core.Bool.{true, false}
+use mathlib.Core.Logic.{_↔_}
 use Prim.Native.Nat.{ℕ, _/_, _≤_}
 use native.Mathlib.Omega.{arith}
 use lib.Dec.{eqb, ltb}
 use lib.ListN.{length}
-use borrow.Author.Tests.{eqb-true, eqb-false, ltb-false}
+use borrow.Author.Tests.{eq-eqb, eqb-true, eqb-false, le-ltb, ltb-false}
 use Rattle.lexemes.proofs.Lists.{either}
 use Rattle.numbers.specs.Numbers.{numbered, freeCount}
 use Rattle.rows.specs.Columns as column
@@ -16,19 +17,19 @@ use Rattle.ll1.specs.Trees.{Trees}
 use Rattle.answers.specs.Rows.{Draft}
 use Rattle.answers.specs.Stages.{cell, ownNumbers, finished}
 use Rattle.answers.specs.Answer.{LIMIT, accepts, drafts}
-use Rattle.answers.specs.WholeAnswer.{derived, checked, readAnswer, rowsOf}
-use Rattle.answers.specs.Text.{wordsOf, textOf, rowFirstAt, resolvedText}
-use Rattle.answers.specs.Resolution.{textOfSource, room, resolvedInto, resolution, resolvedOutput}
+use Rattle.answers.specs.WholeAnswer.{derived, checked, readAnswer, rowsOf, readTable}
+use Rattle.answers.specs.Text.{textOf, rowFirstAt, resolvedText}
+use Rattle.answers.specs.Resolution.{textOfSource, room, resolvedInto, resolution, resolvedTable, resolvedOutput}
 use Rattle.answers.specs.Demand3.{Sound, PassesAll}
-use Rattle.answers.proofs.Answers.{sound-passes, passes-grammatical, passes-room, passes-sound, passes-derived, accepted-answer}
-use Rattle.answers.proofs.Demand3.{accepts-passing}
+use Rattle.answers.proofs.Answers.{sound-passes, passes-grammatical, passes-room, passes-sound, passes-derived, passes-rows, passes-text, accepted-answer}
+use Rattle.answers.proofs.Demand3.{accepts-passing, table-rows, table-past-rows}
 use Rattle.sound.proofs.Lists.{All, none, more}
 use Rattle.answers.proofs.RowPlaces.{rows-by-place}
 use Rattle.again.specs.Matches.{final, Match, Pairs, no-pairs, pair}
 use Rattle.roundtrip.proofs.Canon.{Found, pairs-length}
 use Rattle.again.proofs.Lists.{all-with}
 use Rattle.again.proofs.Theorems.{settled, rules-below, free-again, finished-again, sound-again}
-use Rattle.roundtrip.specs.Demand2.{besidesPlaces, ReadsAgain}
+use Rattle.roundtrip.specs.Demand2.{besidesPlaces, ReadsAgain, SameTables}
 use Rattle.roundtrip.proofs.Trip.{textFrom, Trip, trip}
 
 -- the finished row whose first token stands at a place
@@ -52,18 +53,20 @@ same-but-places (pair m p) = ap₂ (λ x y. x ∷ y) (m .same) (same-but-places 
 
 pub record Resolved (s : List ℕ) (n m : ℕ) : Type 0 where
   pub tree : Trees
+  pub passes : PassesAll s n tree
   pub short : length s ≤ LIMIT
   pub sound : Sound s tree
   pub rows-fit : length (drafts s tree) ≤ n / ROW
-  pub text-fits : length (textOfSource s) ≤ LIMIT
+  pub text-fits : length (textOfSource s) ≤ room m
   pub is-tree : checked s ≡ derived tree
   pub answer : readAnswer s n ≡ accepts (length (drafts s tree)) (freeCount (numbered (ownNumbers (drafts s tree))))
   pub resolves : resolution s n m ≡ resolvedInto m (length (textOfSource s)) (readAnswer s n)
 
-passed : {s : List ℕ} {n m : ℕ} {tree : Trees} → PassesAll s n tree → length (textOfSource s) ≤ LIMIT → resolution s n m ≡ resolvedInto m (length (textOfSource s)) (readAnswer s n) → Resolved s n m
+passed : {s : List ℕ} {n m : ℕ} {tree : Trees} → PassesAll s n tree → length (textOfSource s) ≤ room m → resolution s n m ≡ resolvedInto m (length (textOfSource s)) (readAnswer s n) → Resolved s n m
 passed {s} {n} {m} {tree} p l r =
     record {
       tree = tree;
+      passes = p;
       short = passes-grammatical p .short;
       sound = passes-sound p;
       rows-fit = passes-room p;
@@ -86,7 +89,28 @@ resolved s n m h = either (eqb (readAnswer s n .number) 0) accepted refused
         let w = accepts-passing s n .0 (eqb-true (readAnswer s n .number) 0 e) in
         either (ltb (room m) (length (textOfSource s)))
         (λ z. let q : _≡_ {A = ℕ} 13 0 = rw (r, z, resolvedInto) at h in absurd (omega arith))
-        (λ z. passed (w .1) (omega (arith, ltb-false (room m) (length (textOfSource s)) z)) r)
+        (λ z. passed (w .1) (ltb-false (room m) (length (textOfSource s)) z) r)
+
+-- a source resolves exactly when it is no longer than 65,536 bytes, has a derivation whose depths, ranges, 255-rule limit, uniqueness, reference and
+-- choice rules hold, its rows are no more than the whole rows lent, and its text no longer than the bytes lent and than 65,536
+pub resolves-with-room :
+    (s : List ℕ) (n m : ℕ)
+    → (resolution s n m .number ≡ 0)
+    ↔ ((tree : Trees) × Sound s tree × (length s ≤ LIMIT) × (length (drafts s tree) ≤ n / ROW)
+    × (length (resolvedText tree (finished s (drafts s tree))) ≤ room m))
+unfolding resolution
+resolves-with-room s n m =
+    (λ h. let r = resolved s n m h in (r .tree, r .sound, r .short, r .rows-fit, rw (passes-text (r .passes)) at (r .text-fits)), found)
+  where
+    found :
+        ((tree : Trees) × Sound s tree × (length s ≤ LIMIT) × (length (drafts s tree) ≤ n / ROW) × (length (resolvedText tree (finished s (drafts s tree))) ≤ room m))
+        → resolution s n m .number ≡ 0
+    found f =
+        let p : PassesAll s n (f .0) = sound-passes (f .1) (f .2) (f .3) in
+        let short : length (textOfSource s) ≤ room m = rw (passes-text p) (f .4) in
+        let number : readAnswer s n .number ≡ 0 = ap (λ a. a .number) (accepted-answer s n (f .0) p) in
+        let e : resolution s n m ≡ resolvedInto m (length (textOfSource s)) (readAnswer s n) = rw (number, resolution) in
+        ap (λ a. a .number) e ∙ rw (le-ltb (room m) (length (textOfSource s)) short, resolvedInto)
 
 -- ---- the round trip
 
@@ -101,8 +125,7 @@ module _ (s : List ℕ) (n m : ℕ) (r : Resolved s n m) where
   t = textFrom look tree
 
   rows-of : rowsOf s ≡ finished s (drafts s tree)
-  unfolding rowsOf
-  rows-of = rw (r .is-tree, rowsOf)
+  rows-of = passes-rows (r .passes)
 
   the-trip : Trip s look tree
   the-trip = trip s look tree (r .short) (r .sound .derives) (r .sound .depths) (r .sound .ranges) (all-with (λ d z l. (z, l)) (settled s tree (r .sound) (r .short)) (rules-below s tree (r .sound) (r .short)))
@@ -112,8 +135,8 @@ module _ (s : List ℕ) (n m : ℕ) (r : Resolved s n m) where
 
   -- the text is that of the trip
   text-is : textOfSource s ≡ t
-  unfolding textOfSource resolvedText
-  text-is = rw (r .is-tree, textOfSource) (ap (λ rs. textOf (wordsOf (rowFirstAt rs) tree)) rows-of ∙ sym (the-trip .same-text))
+  unfolding resolvedText
+  text-is = passes-text (r .passes) ∙ sym (the-trip .same-text)
 
   short′ : length t ≤ LIMIT
   short′ = omega (arith, ap length text-is, r .text-fits)
@@ -133,12 +156,8 @@ module _ (s : List ℕ) (n m : ℕ) (r : Resolved s n m) where
   answer′ : readAnswer t n ≡ readAnswer s n
   answer′ = accepted-answer t n tree′ passes′ ∙ ap₂ accepts count (free-again s tree (r .sound) (r .short) t (the-trip .rows)) ∙ sym (r .answer)
 
-  is-tree′ : checked t ≡ derived tree′
-  is-tree′ = passes-derived passes′
-
   rows-of′ : rowsOf t ≡ finished t (drafts t tree′)
-  unfolding rowsOf
-  rows-of′ = rw (is-tree′, rowsOf)
+  rows-of′ = passes-rows passes′
 
   rows′ : besidesPlaces (rowsOf t) ≡ besidesPlaces (rowsOf s)
   rows′ =
@@ -149,8 +168,8 @@ module _ (s : List ℕ) (n m : ℕ) (r : Resolved s n m) where
   found′ = same-all (λ d. looked t tree′ (cell column.PLACE d)) (final t) (drafts t tree′) (rows-by-place t tree′ (the-trip .derives) ∙ finished′)
 
   text′ : textOfSource t ≡ t
-  unfolding textOfSource resolvedText
-  text′ = rw (is-tree′, textOfSource) (ap (λ rs. textOf (wordsOf (rowFirstAt rs) tree′)) rows-of′ ∙ ap textOf (the-trip .again (looked t tree′) found′) ∙ sym (the-trip .same-text))
+  unfolding resolvedText
+  text′ = passes-text passes′ ∙ (ap textOf (the-trip .again (looked t tree′) found′) ∙ sym (the-trip .same-text))
 
   resolution′ : resolution t n m ≡ resolution s n m
   unfolding resolution
@@ -173,6 +192,9 @@ module _ (s : List ℕ) (n m : ℕ) (r : Resolved s n m) where
 
 -- a source that resolves through a table of n numbers into m bytes: demand 2 holds of its text
 module _ (s : List ℕ) (n m : ℕ) (h : resolution s n m .number ≡ 0) where
+  reads : readAnswer s n .number ≡ 0
+  reads = ap (λ a. a .number) (resolved s n m h .answer)
+
   pub reads-again : ReadsAgain textOfSource s n
   reads-again = again s n m (resolved s n m h)
 
@@ -184,3 +206,21 @@ module _ (s : List ℕ) (n m : ℕ) (h : resolution s n m .number ≡ 0) where
   pub same-output : resolvedOutput (textOfSource s) n m ≡ resolvedOutput s n m
   unfolding resolvedOutput
   same-output = rw (resolves-again, reads-again .same-text)
+
+  -- the table of a source that resolves is the one that reading leaves
+  pub resolved-table : resolvedTable s n m ≡ readTable s n
+  unfolding resolvedTable readTable
+  resolved-table = rw (eq-eqb (resolution s n m .number) 0 h, eq-eqb (readAnswer s n .number) 0 reads)
+
+  -- reading the text leaves the same rows in its table, but the places
+  pub same-tables : SameTables n (readAnswer s n .rows) (readTable (textOfSource s) n) (readTable s n)
+  same-tables =
+      let w = reads-again in
+      let again : readAnswer (textOfSource s) n .number ≡ 0 = ap (λ a. a .number) (w .same-answer) ∙ reads in
+      record {
+        same-rows =
+            ap besidesPlaces (rw (w .same-answer) at (table-rows (textOfSource s) n again))
+            ∙ (w .same-rows ∙ ap besidesPlaces (sym (table-rows s n reads)));
+        zeros = rw (w .same-answer) at (table-past-rows (textOfSource s) n again);
+        zeros′ = table-past-rows s n reads;
+      }

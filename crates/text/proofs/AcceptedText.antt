@@ -19,10 +19,10 @@ use Rattle.grammar.specs.Source.{sourceTokens, numberAt}
 use Rattle.answers.specs.Rows.{Draft, draftsOf}
 use Rattle.answers.specs.Stages.{finished}
 use Rattle.answers.specs.Answer.{Answer, refuses, accepts, drafts}
-use Rattle.answers.specs.WholeAnswer.{derived, checked, rowsOf, readAnswer, readTable}
+use Rattle.answers.specs.WholeAnswer.{readAnswer, readTable}
 use Rattle.answers.specs.Text.{opening, wordsOf, textOf, rowFirstAt, resolvedText}
 use Rattle.answers.specs.Resolution.{textOfSource}
-use Rattle.answers.proofs.Answers.{passes-grammatical, passes-derived, accepted-answer, laid-rows}
+use Rattle.answers.proofs.Answers.{passes-grammatical, passes-text, accepted-answer, laid-rows}
 use Rattle.answers.proofs.Demand3.{rows-few, accepts-passing}
 use Rattle.spellings.specs.Output.{MOST}
 use Rattle.statements.specs.Statements.{closing}
@@ -97,14 +97,6 @@ cells-small t h n c =
     (λ l. either-less c 12 (λ m. rw (← cell-inside t n c l m) (h (n * 12 + c))) (λ m. rw (cell-past t n c m) (omega arith)))
     (λ l. rw (cell-outside t n c l) (omega arith))
 
-rows-of : (s : List ℕ) (tree : Trees) → checked s ≡ derived tree → rowsOf s ≡ finished s (drafts s tree)
-unfolding rowsOf
-rows-of s tree e = rw (e, rowsOf)
-
-text-is : (s : List ℕ) (tree : Trees) → checked s ≡ derived tree → textOfSource s ≡ resolvedText tree (finished s (drafts s tree))
-unfolding textOfSource
-text-is s tree e = rw (e, textOfSource) (ap (λ (rs : List (List ℕ)). resolvedText tree rs) (rows-of s tree e))
-
 moved : {t u x y : List ℕ} {k j : ℕ} → t ≡ u → k ≡ j → x ≡ y → HasText u j y → HasText t k x
 moved a b c h = rw (a, b, c) h
 
@@ -121,7 +113,7 @@ accepted-text s n count free t e f small =
     let table : t ≡ laid (finished s (drafts s tree)) n = f ∙ laid-rows s n tree passes in
     let cells = cells-small t small in
     let whole-text = tree-text s n tree (g .derives) (rw table at cells) in
-    let is : textOfSource s ≡ resolvedText tree (finished s (drafts s tree)) = text-is s tree (passes-derived passes) in
+    let is : textOfSource s ≡ resolvedText tree (finished s (drafts s tree)) = passes-text passes in
     let few = rows-few s tree (g .derives) in
     (moved table many is (whole-text .0), omega (arith, ap length is, whole-text .1, few, g .short))
 

@@ -1,7 +1,6 @@
 // The resolved text of a source (document 01, Resolved text).
 mod expressions;
 mod items;
-mod operators;
 
 use crate::items::put_text;
 ghost use mathlib.Core.Path.{_≡_};

@@ -1,6 +1,8 @@
 // The interface for C: the quick check, reading and resolving, on slices and numbers. A slice passes as a pointer and a
 // length.
 use read::Answer;
+use text::TOO_FEW_ROWS;
+use text::TOO_LONG;
 ghost use mathlib.Core.Path.{_≡_};
 ghost use lib.ListN.{length, set};
 ghost use Rattle.answers.specs.WholeAnswer.{quickCheck, readAnswer, readTable};
@@ -34,7 +36,7 @@ fn put_answer(out: &mut [u64], answer: Answer)
     match answer {
         Answer::Accepted(rows, free) => put_four(out, 0, 0, rows as u64, free),
         Answer::Refused(number, place) => put_four(out, number, place as u64, 0, 0),
-        Answer::Short(need) => put_four(out, 6, 0, need as u64, 0),
+        Answer::Short(need) => put_four(out, TOO_FEW_ROWS, 0, need as u64, 0),
     }
 }
 
@@ -70,11 +72,11 @@ fn put_resolution(out: &mut [u64], answer: text::Answer)
             put(out, 4, 0);
         }
         text::Answer::Short(need) => {
-            put_four(out, 6, 0, need as u64, 0);
+            put_four(out, TOO_FEW_ROWS, 0, need as u64, 0);
             put(out, 4, 0);
         }
         text::Answer::Long(need) => {
-            put_four(out, 13, 0, need as u64, 0);
+            put_four(out, TOO_LONG, 0, need as u64, 0);
             put(out, 4, 0);
         }
     }

@@ -2,6 +2,8 @@
 use libc::STDIN_FILENO;
 use libc::STDOUT_FILENO;
 use text::Answer;
+use text::TOO_FEW_ROWS;
+use text::TOO_LONG;
 
 // One more than the longest source has.
 const INPUT: usize = 65537;
@@ -35,7 +37,7 @@ fn main() {
     match answer {
         Answer::Resolved(_, _, bytes) => print_text(&out, bytes),
         Answer::Refused(number, place) => print_refusal(number, place),
-        Answer::Short(_) => print_refusal(6, 0),
-        Answer::Long(_) => print_refusal(13, 0),
+        Answer::Short(_) => print_refusal(TOO_FEW_ROWS, 0),
+        Answer::Long(_) => print_refusal(TOO_LONG, 0),
     }
 }

@@ -10,7 +10,7 @@ use Rattle.fields.specs.Operators.{LEVELS, operatorLevels, levelOf, codeClasses
 use Rattle.text.specs.Operators.{codeLevel}
 
 pub operator-level : (o : Operator) → codeLevel (operatorCode o) ≡ level o
-unfolding codeLevel levelOf operatorLevels codeClass codeClasses
+unfolding levelOf operatorLevels codeClass codeClasses
 operator-level or = refl
 operator-level and = refl
 operator-level bit-or = refl
@@ -59,7 +59,7 @@ constant-class ones′ = refl
 constant-class undefined′ = refl
 
 pub constant-level : (c : Constant) → codeLevel (constantCode c) ≡ LEVELS
-unfolding codeLevel levelOf operatorLevels codeClass codeClasses
+unfolding levelOf operatorLevels codeClass codeClasses
 constant-level true′ = refl
 constant-level false′ = refl
 constant-level zero′ = refl
@@ -124,19 +124,19 @@ constant-not undefined′ e = omega arith
 -- NOT, numbers and references
 
 pub not-level : codeLevel code.NOT ≡ LEVELS
-unfolding codeLevel levelOf operatorLevels codeClass codeClasses
+unfolding levelOf operatorLevels codeClass codeClasses
 not-level = refl
 
 pub number-level : codeLevel code.NUMBER ≡ LEVELS
-unfolding codeLevel levelOf operatorLevels codeClass codeClasses
+unfolding levelOf operatorLevels codeClass codeClasses
 number-level = refl
 
 pub question-level : codeLevel code.QUESTION-REF ≡ LEVELS
-unfolding codeLevel levelOf operatorLevels codeClass codeClasses
+unfolding levelOf operatorLevels codeClass codeClasses
 question-level = refl
 
 pub rule-level : codeLevel code.RULE-REF ≡ LEVELS
-unfolding codeLevel levelOf operatorLevels codeClass codeClasses
+unfolding levelOf operatorLevels codeClass codeClasses
 rule-level = refl
 
 pub number-class : codeClass code.NUMBER ≡ NAME

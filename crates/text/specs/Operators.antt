@@ -12,7 +12,7 @@ use Rattle.fields.specs.Operators.{levelOf, codeClass}
 use Rattle.statements.specs.Statements.{operandWords}
 
 -- the level of an operator of two operands, the loosest being 0; LEVELS for any other row
-unfoldable pub codeLevel : ℕ → ℕ
+abbrev pub codeLevel : ℕ → ℕ
 codeLevel k = levelOf (codeClass k)
 
 -- an operand that is no operator's: a constant's word, a number or a reference

@@ -1,8 +1,8 @@
 // Expressions from their rows, with the fewest parentheses. The rows stand operands before operator, so that from the
 // last one back they are the operator, its right operand and then its left one: an expression is printed from its end.
-use crate::operators::level_of;
 use fields::operators::LEVELS;
 use fields::operators::class_of;
+use fields::operators::level_of;
 use lexemes::classes::*;
 use rows::cell;
 use rows::codes;
@@ -74,7 +74,8 @@ fn put_before(out: &mut [u8], a: Ahead, table: &[u64], least: u8) -> Ahead
             return a;
         }
         let code = cell(table, row - 1, CODE);
-        let level = level_of(code);
+        let class = class_of(code);
+        let level = level_of(class);
         let inner = Ahead {
             row: row - 1,
             at: a.at,
@@ -92,7 +93,7 @@ fn put_before(out: &mut [u8], a: Ahead, table: &[u64], least: u8) -> Ahead
             return put_word_before(out, whole, OPEN_PAREN);
         }
         let right = put_before(out, inner, table, level + 1);
-        a = put_word_before(out, right, class_of(code));
+        a = put_word_before(out, right, class);
         least = level;
     }
 }

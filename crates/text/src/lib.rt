@@ -1,7 +1,6 @@
 // The resolved text of a source (document 01, Resolved text).
 mod expressions;
 mod items;
-mod operators;
 
 use crate::items::put_text;
 ghost use mathlib.Core.Path.{_≡_};
@@ -12,6 +11,12 @@ ghost use Rattle.text.specs.Answers.{told, RowsPrinted};
 
 // The longest text.
 const LONGEST: usize = 65536;
+
+// The number of a table with fewer whole rows than are needed, and that of an output or a longest text that is shorter
+// than the text (document 01, Refusal numbers).
+pub const TOO_FEW_ROWS: u64 = 6;
+
+pub const TOO_LONG: u64 = 13;
 
 // What resolving answers: rows, free numbers and bytes; a refusal's number and place; the rows needed, where fewer whole
 // ones are lent (No. 6); the bytes needed, where the output or the longest text is shorter (No. 13).

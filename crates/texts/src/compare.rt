@@ -2,17 +2,14 @@
 use crate::line::LINE;
 use crate::line::put_refusal;
 use text::Answer;
+use text::TOO_FEW_ROWS;
+use text::TOO_LONG;
 use trials::differ::first_byte;
 use trials::differ::first_number;
 ghost use mathlib.Core.Path.{_≡_};
 ghost use mathlib.Core.Bool.{true};
 ghost use Rattle.texts.specs.Line.{Line};
 ghost use Rattle.texts.specs.Agreement.{Text, Agrees};
-
-// The numbers of a table that is too short and of a text that is too long.
-const SHORT: u64 = 6;
-
-const LONG: u64 = 13;
 
 pub fn is_resolved(answer: Answer) -> bool {
     match answer {
@@ -67,7 +64,7 @@ pub fn agrees(answer: Answer, table: &[u64], out: &[u8], expected: &[u8]) -> boo
     match answer {
         Answer::Resolved(_, _, bytes) => is_text(bytes, out, expected),
         Answer::Refused(number, place) => is_refusal(number, place, table, out, expected),
-        Answer::Short(_need) => is_refusal(SHORT, 0, table, out, expected),
-        Answer::Long(_need) => is_refusal(LONG, 0, table, out, expected),
+        Answer::Short(_need) => is_refusal(TOO_FEW_ROWS, 0, table, out, expected),
+        Answer::Long(_need) => is_refusal(TOO_LONG, 0, table, out, expected),
     }
 }

@@ -25,7 +25,13 @@ same-length-2 : tie.Need-same-length-2
 same-length-2 c = search needs
 
 returns : tie.Need-returns
-returns c = too-long (c .before .before .before .before .before .before .before .before .before .before .before .before .put-text .ensures) (search needs) (rw (c .before .before .before .before .before .before .before .before .before .room .ensures) at (c .before .before .before .before .before .before .before .before .if1 .taken)) (c .before .before .before .before .before .before .clear .ensures) (c .before .before .clear2 .ensures)
+returns c =
+    let put-text = c .before .before .before .before .before .before .before .before .before .before .before .before .put-text in
+    let room = c .before .before .before .before .before .before .before .before .before .room in
+    let if1 = c .before .before .before .before .before .before .before .before .if1 in
+    let clear = c .before .before .before .before .before .before .clear in
+    let clear2 = c .before .before .clear2 in
+    too-long (put-text .ensures) (search needs) (rw (room .ensures) at (if1 .taken)) (clear .ensures) (clear2 .ensures)
 
 clear-requires-3 : tie.Need-clear-requires-3
 clear-requires-3 c κs = search needs
@@ -37,7 +43,12 @@ same-length-4 : tie.Need-same-length-4
 same-length-4 c = search needs
 
 returns-2 : tie.Need-returns-2
-returns-2 c = long-enough (c .before .before .before .before .before .before .before .before .put-text .ensures) (search needs) (rw (c .before .before .before .before .before .room .ensures) at (c .before .before .before .before .if1 .left)) refl (c .before .before .clear3 .ensures)
+returns-2 c =
+    let put-text = c .before .before .before .before .before .before .before .before .put-text in
+    let room = c .before .before .before .before .before .room in
+    let if1 = c .before .before .before .before .if1 in
+    let clear3 = c .before .before .clear3 in
+    long-enough (put-text .ensures) (search needs) (rw (room .ensures) at (if1 .left)) refl (clear3 .ensures)
 
 pub print-rows-spec : {M : Type 1} → statement M
 print-rows-spec =

@@ -36,7 +36,14 @@ same-length-2 : tie.Need-same-length-2
 same-length-2 c = search needs
 
 returns : tie.Need-returns
-returns c = resolved (c .before .before .before .before .before .before .before .before .before .before .before .before .before .before .before .before .before .args .src .now) _ (ap read.told (sym (c .before .before .before .before .before .before .before .before .answer .given .1)) ∙ c .before .before .before .before .before .before .before .before .before .before .before .before .read .ensures .0) (c .before .before .before .before .before .before .before .before .before .before .before .before .read .ensures .1) (search needs) (λ i. omega (arith, c .before .before .before .before .before .before .before .before .before .before .slice-known3 .given i)) (c .before .before .before .before .print-rows .ensures)
+returns c =
+    let args = c .before .before .before .before .before .before .before .before .before .before .before .before .before .before .before .before .before .args in
+    let reading = c .before .before .before .before .before .before .before .before .before .before .before .before .read in
+    let slice-known3 = c .before .before .before .before .before .before .before .before .before .before .slice-known3 in
+    let answer = c .before .before .before .before .before .before .before .before .answer in
+    let print-rows = c .before .before .before .before .print-rows in
+    resolved (args .src .now) _ (ap read.told (sym (answer .given .1)) ∙ reading .ensures .0) (reading .ensures .1) (search needs)
+    (λ i. omega (arith, slice-known3 .given i)) (print-rows .ensures)
 
 same-length-3 : tie.Need-same-length-3
 same-length-3 c = search needs
@@ -45,7 +52,12 @@ same-length-4 : tie.Need-same-length-4
 same-length-4 c = search needs
 
 returns-2 : tie.Need-returns-2
-returns-2 c = unresolved-refused (c .before .before .before .before .before .before .before .before .before .before .before .before .before .before .args .src .now) _ (c .before .before .before .before .before .before .before .before .before .before .before .before .before .before .args .out .now) (ap read.told (sym (c .before .before .before .before .before .answer2 .given .1)) ∙ c .before .before .before .before .before .before .before .before .before .read .ensures .0) (c .before .before .before .before .before .before .before .before .before .read .ensures .1) (c .before .before .clear .ensures)
+returns-2 c =
+    let args = c .before .before .before .before .before .before .before .before .before .before .before .before .before .before .args in
+    let reading = c .before .before .before .before .before .before .before .before .before .read in
+    let answer2 = c .before .before .before .before .before .answer2 in
+    let clear = c .before .before .clear in
+    unresolved-refused (args .src .now) _ (args .out .now) (ap read.told (sym (answer2 .given .1)) ∙ reading .ensures .0) (reading .ensures .1) (clear .ensures)
 
 same-length-5 : tie.Need-same-length-5
 same-length-5 c = search needs
@@ -54,7 +66,12 @@ same-length-6 : tie.Need-same-length-6
 same-length-6 c = search needs
 
 returns-3 : tie.Need-returns-3
-returns-3 c = unresolved-short (c .before .before .before .before .before .before .before .before .before .before .before .before .before .before .args .src .now) _ (c .before .before .before .before .before .before .before .before .before .before .before .before .before .before .args .out .now) (ap read.told (sym (c .before .before .before .before .before .answer3 .given .1)) ∙ c .before .before .before .before .before .before .before .before .before .read .ensures .0) (c .before .before .before .before .before .before .before .before .before .read .ensures .1) (c .before .before .clear2 .ensures)
+returns-3 c =
+    let args = c .before .before .before .before .before .before .before .before .before .before .before .before .before .before .args in
+    let reading = c .before .before .before .before .before .before .before .before .before .read in
+    let answer3 = c .before .before .before .before .before .answer3 in
+    let clear2 = c .before .before .clear2 in
+    unresolved-short (args .src .now) _ (args .out .now) (ap read.told (sym (answer3 .given .1)) ∙ reading .ensures .0) (reading .ensures .1) (clear2 .ensures)
 
 pub resolve-spec : {M : Type 1} → statement M
 resolve-spec =

@@ -20,7 +20,12 @@ same-length c = search needs
 
 returns : tie.Need-returns
 unfolding atomWords
-returns c = rw (← c .before .before .before .before .before .before .cell .ensures, ← c .before .before .before .before .before .class-of .ensures, lt-ltb _ 72 (c .before .before .before .before .if1 .taken)) (c .before .before .put-word .ensures)
+returns c =
+    let cell = c .before .before .before .before .before .before .cell in
+    let class-of = c .before .before .before .before .before .class-of in
+    let if1 = c .before .before .before .before .if1 in
+    let put-word = c .before .before .put-word in
+    rw (← cell .ensures, ← class-of .ensures, lt-ltb _ 72 (if1 .taken)) (put-word .ensures)
 
 put-operand-requires : tie.Need-put-operand-requires
 put-operand-requires c κs = search needs
@@ -30,7 +35,12 @@ same-length-2 c = search needs
 
 returns-2 : tie.Need-returns-2
 unfolding atomWords
-returns-2 c = rw (← c .before .before .before .before .before .before .cell .ensures, ← c .before .before .before .before .before .class-of .ensures, le-ltb _ 72 (c .before .before .before .before .if1 .left)) (c .before .before .put-operand .ensures)
+returns-2 c =
+    let cell = c .before .before .before .before .before .before .cell in
+    let class-of = c .before .before .before .before .before .class-of in
+    let if1 = c .before .before .before .before .if1 in
+    let put-operand = c .before .before .put-operand in
+    rw (← cell .ensures, ← class-of .ensures, le-ltb _ 72 (if1 .left)) (put-operand .ensures)
 
 pub put-atom-spec : {M : Type 1} → statement M
 put-atom-spec =

@@ -24,7 +24,13 @@ same-length : tie.Need-same-length
 same-length c = search needs
 
 returns : tie.Need-returns
-returns c = operand-before (c .before .before .before .before .before .before .before .before .before .before .before .args .table .now) _ (c .before .before .before .before .before .before .before .before .start-of .ensures) (c .before .before .before .before .before .before .put-atom .ensures) (c .before .before .before .before .start-of2 .ensures) (c .before .before .put-atom2 .ensures)
+returns c =
+    let args = c .before .before .before .before .before .before .before .before .before .before .before .args in
+    let start-of = c .before .before .before .before .before .before .before .before .start-of in
+    let put-atom = c .before .before .before .before .before .before .put-atom in
+    let start-of2 = c .before .before .before .before .start-of2 in
+    let put-atom2 = c .before .before .put-atom2 in
+    operand-before (args .table .now) _ (start-of .ensures) (put-atom .ensures) (start-of2 .ensures) (put-atom2 .ensures)
 
 pub put-atom-before-spec : {M : Type 1} → statement M
 put-atom-before-spec =

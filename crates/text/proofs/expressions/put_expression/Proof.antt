@@ -18,7 +18,11 @@ same-length : tie.Need-same-length
 same-length c = search needs
 
 returns : tie.Need-returns
-returns c = expression-printed (c .before .before .before .before .before .expression-length .ensures) (c .before .before .before .before .end-of .ensures) (c .before .before .put-before .ensures)
+returns c =
+    let expression-length = c .before .before .before .before .before .expression-length in
+    let end-of = c .before .before .before .before .end-of in
+    let put-before = c .before .before .put-before in
+    expression-printed (expression-length .ensures) (end-of .ensures) (put-before .ensures)
 
 pub put-expression-spec : {M : Type 1} → statement M
 put-expression-spec =

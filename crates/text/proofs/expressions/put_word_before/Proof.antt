@@ -18,7 +18,11 @@ same-length : tie.Need-same-length
 same-length c = search needs
 
 returns : tie.Need-returns
-returns c = word-before _ (c .before .before .before .before .before .word-length .ensures) (c .before .before .before .before .start-of .ensures) (c .before .before .put-word .ensures)
+returns c =
+    let word-length = c .before .before .before .before .before .word-length in
+    let start-of = c .before .before .before .before .start-of in
+    let put-word = c .before .before .put-word in
+    word-before _ (word-length .ensures) (start-of .ensures) (put-word .ensures)
 
 pub put-word-before-spec : {M : Type 1} → statement M
 put-word-before-spec =

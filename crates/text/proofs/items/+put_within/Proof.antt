@@ -58,7 +58,12 @@ put-within-put-statement-requires : (t : ℕ) → put-within-lts.Need-put-statem
 put-within-put-statement-requires t c κs = omega (arith, c .before .before .before .if1 .left)
 
 put-within-put-within-requires : (t : ℕ) → put-within-lts.Need-put-within-requires (put-within-claims t) (put-within-at t) put-within.Post put-within-Inv-loop put-within-μ-loop
-put-within-put-within-requires t c κs = omega (arith, c .before .before .before .before .before .before .before .before .loop .inv .more, c .before .before .before .before .before .before .before .before .before .before .before .pre, c .before .before .before .before .before .before .before .if1 .left, c .before .before .before .put-statement .ensures .more)
+put-within-put-within-requires t c κs =
+    let pre = c .before .before .before .before .before .before .before .before .before .before .before .pre in
+    let loop = c .before .before .before .before .before .before .before .before .loop in
+    let if1 = c .before .before .before .before .before .before .before .if1 in
+    let put-statement = c .before .before .before .put-statement in
+    omega (arith, loop .inv .more, pre, if1 .left, put-statement .ensures .more)
 
 put-within-cell-requires-2 : (t : ℕ) → put-within-lts.Need-cell-requires-2 (put-within-claims t) (put-within-at t) put-within.Post put-within-Inv-loop put-within-μ-loop
 put-within-cell-requires-2 t c κs = search needs
@@ -67,10 +72,24 @@ put-within-put-closing-requires : (t : ℕ) → put-within-lts.Need-put-closing-
 put-within-put-closing-requires t c κs = search needs
 
 put-within-loop-less : (t : ℕ) → put-within-lts.Need-loop-less (put-within-claims t) (put-within-at t) put-within.Post put-within-Inv-loop put-within-μ-loop
-put-within-loop-less t c = omega (arith, c .before .before .before .before .before .before .before .before .before .before .before .before .before .before .before .if1 .left, c .before .before .before .before .before .before .before .before .before .before .before .put-statement .ensures .more, c .before .before .before .before .before .before .before .put-within .ensures .more)
+put-within-loop-less t c =
+    let if1 = c .before .before .before .before .before .before .before .before .before .before .before .before .before .before .before .if1 in
+    let put-statement = c .before .before .before .before .before .before .before .before .before .before .before .put-statement in
+    let put-within = c .before .before .before .before .before .before .before .put-within in
+    omega (arith, if1 .left, put-statement .ensures .more, put-within .ensures .more)
 
 put-within-loop-again : (t : ℕ) → put-within-lts.Need-loop-again (put-within-claims t) (put-within-at t) put-within.Post put-within-Inv-loop put-within-μ-loop
-put-within-loop-again t c = loop-more (c .before .before .before .before .before .before .before .before .before .before .before .before .before .before .before .before .loop .inv) (search needs) (omega (arith, c .before .before .before .before .before .before .before .before .before .before .before .put-statement .ensures .more, c .before .before .before .before .before .before .before .put-within .ensures .more)) (λ o r. items-next (omega (arith, c .before .before .before .before .before .before .before .before .before .before .before .before .before .before .before .if1 .left)) (c .before .before .before .before .before .before .before .before .before .before .before .before .before .before .cell .ensures) (c .before .before .before .before .before .before .before .before .before .before .before .before .before .if2 .left) (c .before .before .before .before .before .before .before .before .before .before .before .put-statement .ensures) (c .before .before .before .before .before .before .before .put-within .ensures) (c .before .before .before .cell2 .ensures) (c .before .before .put-closing .ensures))
+put-within-loop-again t c =
+    let loop = c .before .before .before .before .before .before .before .before .before .before .before .before .before .before .before .before .loop in
+    let if1 = c .before .before .before .before .before .before .before .before .before .before .before .before .before .before .before .if1 in
+    let cell = c .before .before .before .before .before .before .before .before .before .before .before .before .before .before .cell in
+    let if2 = c .before .before .before .before .before .before .before .before .before .before .before .before .before .if2 in
+    let put-statement = c .before .before .before .before .before .before .before .before .before .before .before .put-statement in
+    let put-within = c .before .before .before .before .before .before .before .put-within in
+    let cell2 = c .before .before .before .cell2 in
+    let put-closing = c .before .before .put-closing in
+    loop-more (loop .inv) (search needs) (omega (arith, put-statement .ensures .more, put-within .ensures .more))
+    (λ o r. items-next (omega (arith, if1 .left)) (cell .ensures) (if2 .left) (put-statement .ensures) (put-within .ensures) (cell2 .ensures) (put-closing .ensures))
 
 pub +put-within-spec : {M : Type 1} → statement M
 +put-within-spec = close μ-put-within λ t. put-within-lts.spec (put-within-claims t)

@@ -31,7 +31,13 @@ loop-less : tie.Need-loop-less Inv-loop μ-loop
 loop-less c = search needs
 
 loop-again : tie.Need-loop-again Inv-loop μ-loop
-loop-again c = scanned-more (c .before .before .before .before .loop .inv) (c .before .before .cell .ensures) (c .before .is-expression .ensures) (c .before .before .before .loop-test .taken) (c .if1 .left)
+loop-again c =
+    let loop = c .before .before .before .before .loop in
+    let loop-test = c .before .before .before .loop-test in
+    let cell = c .before .before .cell in
+    let is-expression = c .before .is-expression in
+    let if1 = c .if1 in
+    scanned-more (loop .inv) (cell .ensures) (is-expression .ensures) (loop-test .taken) (if1 .left)
 
 returns-2 : tie.Need-returns-2 Inv-loop μ-loop
 returns-2 c = scanned-all (c .before .loop .inv) (c .loop-test .left)

@@ -21,7 +21,12 @@ same-length : tie.Need-same-length
 same-length c = search needs
 
 returns : tie.Need-returns
-returns c = opened-plain (c .before .before .before .before .before .before .before .before .pre) (c .before .before .before .before .put-opening .ensures) (c .before .expression-end .ensures) (c .if1 .taken)
+returns c =
+    let pre = c .before .before .before .before .before .before .before .before .pre in
+    let put-opening = c .before .before .before .before .put-opening in
+    let expression-end = c .before .expression-end in
+    let if1 = c .if1 in
+    opened-plain pre (put-opening .ensures) (expression-end .ensures) (if1 .taken)
 
 put-expression-requires : tie.Need-put-expression-requires
 put-expression-requires c κs = search needs
@@ -36,7 +41,15 @@ same-length-2 : tie.Need-same-length-2
 same-length-2 c = search needs
 
 returns-2 : tie.Need-returns-2
-returns-2 c = opened-expressed (c .before .before .before .before .before .before .before .before .before .before .before .before .before .before .before .before .before .pre) (c .before .before .before .before .before .before .before .before .before .before .before .before .before .put-opening .ensures) (c .before .before .before .before .before .before .before .before .before .before .expression-end .ensures) (c .before .before .before .before .before .before .before .before .before .if1 .left) (c .before .before .before .before .before .before .before .put-expression .ensures) (c .before .before .before .cell .ensures) (c .before .before .put-expression-end .ensures)
+returns-2 c =
+    let pre = c .before .before .before .before .before .before .before .before .before .before .before .before .before .before .before .before .before .pre in
+    let put-opening = c .before .before .before .before .before .before .before .before .before .before .before .before .before .put-opening in
+    let expression-end = c .before .before .before .before .before .before .before .before .before .before .expression-end in
+    let if1 = c .before .before .before .before .before .before .before .before .before .if1 in
+    let put-expression = c .before .before .before .before .before .before .before .put-expression in
+    let cell = c .before .before .before .cell in
+    let put-expression-end = c .before .before .put-expression-end in
+    opened-expressed pre (put-opening .ensures) (expression-end .ensures) (if1 .left) (put-expression .ensures) (cell .ensures) (put-expression-end .ensures)
 
 pub put-statement-spec : {M : Type 1} → statement M
 put-statement-spec =

@@ -18,7 +18,11 @@ same-length : tie.Need-same-length
 same-length c = search needs
 
 returns : tie.Need-returns
-returns c = text-printed (c .before .before .before .before .before .before .before .before .before .before .put-opening .ensures) (c .before .before .before .before .before .before .put-within .ensures) (c .before .before .put-closing .ensures)
+returns c =
+    let put-opening = c .before .before .before .before .before .before .before .before .before .before .put-opening in
+    let put-within = c .before .before .before .before .before .before .put-within in
+    let put-closing = c .before .before .put-closing in
+    text-printed (put-opening .ensures) (put-within .ensures) (put-closing .ensures)
 
 pub put-text-spec : {M : Type 1} → statement M
 put-text-spec =

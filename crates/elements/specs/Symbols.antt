@@ -179,7 +179,8 @@ phraseElements =
     -- checkbox HEAD , [flags = FL ,] [default = TRUE or FALSE ,] endcheckbox ;
     ∷ («checkbox» ∷ head ++ comma ∷ flagsMaybe ++ MAYBE ∷ «default» ∷ «=» ∷ TRUTH ∷ comma ∷ «endcheckbox» ∷ semicolon ∷ [])
     -- numeric HEAD , [flags = FL ,] minimum = N , maximum = N , [step = N ,] [default = N ,] endnumeric ;
-    ∷ («numeric» ∷ head ++ comma ∷ flagsMaybe ++ «minimum» ∷ «=» ∷ LARGE ∷ comma ∷ «maximum» ∷ «=» ∷ LARGE ∷ comma ∷ MAYBE ∷ «step» ∷ «=» ∷ LARGE ∷ comma ∷ MAYBE ∷ «default» ∷ «=» ∷ LARGE ∷ comma ∷ «endnumeric» ∷ semicolon ∷ [])
+    ∷ («numeric» ∷ head ++ comma ∷ flagsMaybe ++ «minimum» ∷ «=» ∷ LARGE ∷ comma ∷ «maximum» ∷ «=» ∷ LARGE ∷ comma
+    ∷ MAYBE ∷ «step» ∷ «=» ∷ LARGE ∷ comma ∷ MAYBE ∷ «default» ∷ «=» ∷ LARGE ∷ comma ∷ «endnumeric» ∷ semicolon ∷ [])
     -- oneof HEAD , [flags = FL ,]
     ∷ («oneof» ∷ head ++ comma ∷ flagsMaybe)
     ∷ («endoneof» ∷ semicolon ∷ [])

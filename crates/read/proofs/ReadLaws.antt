@@ -5,7 +5,7 @@ use native.Mathlib.Omega.{arith}
 use mathlib.Core.Path.{_≡_, sym, _∙_}
 use mathlib.Core.Logic.{_≢_}
 use mathlib.Core.List.{List, map}
-use lib.ListN.{length, length-map}
+use lib.ListN.{length, replicate, length-map}
 use native.Mathlib.Decide.{ℕ-discrete}
 use borrow.Author.Tests.{ne-eqb, lt-ltb}
 use Rattle.rows.specs.Columns.{ROW}
@@ -31,20 +31,18 @@ use Rattle.read.specs.Drafted.{Drafted, tableAfter}
 abbrev Read : List ℕ → ℕ → Answer → List ℕ → Type 0
 Read s n a u = (a ≡ readAnswer s n) × (u ≡ readTable s n)
 
-refused-table : (s t : List ℕ) {a : Answer} → a ≡ readAnswer s (length t) → a .number ≢ 0 → {u : List ℕ} → u ≡ cleared t 0 → u ≡ readTable s (length t)
+refused-table : (s : List ℕ) (n : ℕ) {a : Answer} → a ≡ readAnswer s n → a .number ≢ 0 → {u : List ℕ} → u ≡ replicate n 0 → u ≡ readTable s n
 unfolding readTable
-refused-table s t e h f = f ∙ rw (← e, ne-eqb _ 0 h) (cleared-whole t)
+refused-table s n e h f = f ∙ rw (← e, ne-eqb _ 0 h)
 
 refusal-read : (s : List ℕ) (n k p : ℕ) → checked s ≡ refusal k p → refuses k p ≡ readAnswer s n
 unfolding readAnswer
 refusal-read s n k p e = sym (rw (e, readAnswer))
 
-pub refused-read : {s t t′ u : List ℕ} {r : Survey} → Surveyed s r t t′ → r .number ≢ 0 → length t′ ≡ length t → u ≡ cleared t′ 0 → Read s (length t) (refuses (r .number) (r .place)) u
-refused-read {s} {t} {t′} {u} {r} v h l f =
-    rw (← l) (
-      refusal-read s (length t′) (r .number) (r .place) (v .refused h),
-      refused-table s t′ (refusal-read s (length t′) (r .number) (r .place) (v .refused h)) h f,
-    )
+pub refused-read : {s t t′ : List ℕ} {r : Survey} → Surveyed s r t t′ → r .number ≢ 0 → Read s (length t) (refuses (r .number) (r .place)) t′
+refused-read {s} {t} {r = r} v h =
+    let e = refusal-read s (length t) (r .number) (r .place) (v .refused h) in
+    (e, refused-table s (length t) e h (v .zeros h .1))
 
 -- ---- stages 1 to 5 passed
 
@@ -72,7 +70,7 @@ module _ {s t t′ : List ℕ} {count : ℕ} (v : Derived s count t t′) where
     short-read h f =
         let less : wholeRows t′ < length ds = omega (arith, v .many) in
         let e : needs count ≡ readAnswer s (length t) = sym (answer-is ∙ rw (lt-ltb (length t′ / ROW) (length ds) less, answerOf, v .many)) in
-        (e, rw (← long) (refused-table s t′ {a = needs count} (rw long e) (λ z. omega arith) f))
+        (e, refused-table s (length t) {a = needs count} e (λ z. omega arith) (f ∙ (cleared-whole t′ ∙ rw long)))
 
     module _ (room : count ≤ whole) where
       held : rowsFrom t′ 0 count ≡ map encoded ds

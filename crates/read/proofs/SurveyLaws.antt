@@ -6,10 +6,12 @@ use mathlib.Core.Path.{_≡_, refl, sym, _∙_}
 use mathlib.Core.Logic.{_≢_}
 use mathlib.Core.List.{List, [], _∷_}
 use mathlib.Core.Option.{Option}
-use lib.ListN.{length}
+use lib.ListN.{length, replicate}
 use Rattle.lex.specs.declared.Found.{Found}
 use Rattle.lex.specs.declared.Found.the-variants.{At, Nothing}
 use Rattle.lex.specs.Tokens.{firstBad}
+use Rattle.rows.specs.Table.{cleared}
+use Rattle.rows.proofs.ClearLaws.{cleared-whole}
 use Rattle.ll1.specs.Trees.{Trees}
 use Rattle.ll1.specs.Verdict.{Verdict, accepted, ends-early, refused, Accepted}
 use Rattle.grammar.specs.Derivation.{tooDeep, NowhereTooDeep}
@@ -31,12 +33,12 @@ use Rattle.read.specs.declared.Survey.{Survey}
 use Rattle.read.specs.Surveyed.{refusing, unlessBad, Surveyed}
 
 -- a survey that refuses
-refuses : {s t t′ : List ℕ} (n p : ℕ) → n ≢ 0 → checked s ≡ refusal n p → Surveyed s (refusing n p) t t′
-refuses n p h e = record { refused = λ z. e; passed = λ z. absurd (h z) }
+refuses : {s t t′ : List ℕ} (n p : ℕ) → n ≢ 0 → checked s ≡ refusal n p → t′ ≡ replicate (length t) 0 → Surveyed s (refusing n p) t t′
+refuses n p h e f = record { refused = λ z. e; zeros = λ z. (refl, f); passed = λ z. absurd (h z) }
 
 -- 1: source over 65,536 bytes
-pub too-long : {s t : List ℕ} → LIMIT < length s → Surveyed s (refusing 1 0) t t
-too-long {s} h = refuses 1 0 (λ z. omega arith) (checked-1 s h)
+pub too-long : {s t t′ : List ℕ} → LIMIT < length s → t′ ≡ cleared t 0 → Surveyed s (refusing 1 0) t t′
+too-long {s} {t} h f = refuses 1 0 (λ z. omega arith) (checked-1 s h) (f ∙ cleared-whole t)
 
 -- ---- a walk that refuses
 
@@ -64,11 +66,12 @@ module _ {s t t′ : List ℕ} {w : Outcome} (short : length s ≤ LIMIT) (v : W
       number z = h (v .number ∙ z)
 
       by : (b : Found) → firstBad s ≡ b → Surveyed s (unlessBad b (w .no) (w .place)) t t′
-      by (At p) e = refuses 2 p (λ z. omega arith) (checked-2 s p short e)
+      by (At p) e = refuses 2 p (λ z. omega arith) (checked-2 s p short e) (v .zeros h)
       by Nothing e =
           refuses (w .no) (w .place) h
           (checked-parsed s tokens-verdict short e (verdict-right (sourceTokens s))
           ∙ (parsed-refusal s tokens-verdict (derivation (sourceTokens s)) number ∙ rw (v .number, v .place)))
+          (v .zeros h)
 
   -- ---- a walk that accepts
 
@@ -87,14 +90,14 @@ module _ {s t t′ : List ℕ} {w : Outcome} (short : length s ≤ LIMIT) (v : W
     grammatical = record { short = short; derives = walked .derives; depths = shallow (accepted-exactly (sourceTokens s) .0 (walked .accepts)) }
 
     -- 5: the first number out of its range
-    pub number-outside : w .bad ≢ 0 → Surveyed s (refusing 5 (w .bad - 1)) t t′
-    number-outside z = by (outOfRange s tree) refl
+    pub number-outside : {u : List ℕ} → w .bad ≢ 0 → length t′ ≡ length t → u ≡ cleared t′ 0 → Surveyed s (refusing 5 (w .bad - 1)) t u
+    number-outside {u} z k f = by (outOfRange s tree) refl
       where
-        by : (l : List ℕ) → outOfRange s tree ≡ l → Surveyed s (refusing 5 (w .bad - 1)) t t′
+        by : (l : List ℕ) → outOfRange s tree ≡ l → Surveyed s (refusing 5 (w .bad - 1)) t u
         by [] e = absurd (z (walked .bad ∙ rw e))
         by (p ∷ ps) e =
             let place : w .bad - 1 ≡ p = rw (walked .bad, e) (omega arith) in
-            rw place (refuses 5 p (λ z. omega arith) (checked-5 s tree p ps grammatical e))
+            rw place (refuses 5 p (λ z. omega arith) (checked-5 s tree p ps grammatical e) (f ∙ (cleared-whole t′ ∙ rw k)))
 
     -- no stage refuses
     pub walk-passes : w .bad ≡ 0 → Surveyed s (record { number = 0; place = 0; rows = w .rows }) t t′
@@ -105,6 +108,7 @@ module _ {s t t′ : List ℕ} {w : Outcome} (short : length s ≤ LIMIT) (v : W
         by [] e =
             record {
               refused = λ n. absurd (n refl);
+              zeros = λ n. absurd (n refl);
               passed = λ n. (
                 refl,
                 record {

@@ -4,7 +4,7 @@ use Prim.Native.Nat.{ℕ, _≤_}
 use mathlib.Core.Path.{_≡_}
 use mathlib.Core.Logic.{_≢_}
 use mathlib.Core.List.{List, map}
-use lib.ListN.{length}
+use lib.ListN.{length, replicate}
 use Rattle.lex.specs.declared.Found.{Found}
 use Rattle.lex.specs.declared.Found.the-variants.{At, Nothing}
 use Rattle.rows.specs.Rows.{put}
@@ -34,7 +34,8 @@ pub record Derived (s : List ℕ) (count : ℕ) (t t′ : List ℕ) : Type 0 whe
   pub few : namesIn (drafts s tree) ≤ NAMES
   pub table : t′ ≡ put t 0 (map encoded (drafts s tree))
 
--- what a survey of the source s answers, where the table was t and is t′; where it refuses, nothing is said of the table
+-- what a survey of the source s answers, where the table was t and is t′; where it refuses, there are no rows, and the table is all zeros
 pub record Surveyed (s : List ℕ) (r : Survey) (t t′ : List ℕ) : Type 0 where
   pub refused : r .number ≢ 0 → checked s ≡ refusal (r .number) (r .place)
+  pub zeros : r .number ≢ 0 → (r .rows ≡ 0) × (t′ ≡ replicate (length t) 0)
   pub passed : r .number ≡ 0 → (r .place ≡ 0) × Derived s (r .rows) t t′

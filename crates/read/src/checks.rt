@@ -3,6 +3,7 @@ use crate::Survey;
 use lex::Found;
 ghost use mathlib.Core.Path.{_≡_};
 ghost use Rattle.lex.specs.Tokens.{firstBad};
+ghost use Rattle.rows.specs.Table.{cleared};
 ghost use Rattle.read.specs.Surveyed.{refusing, unlessBad, Surveyed};
 
 // The longest source.
@@ -29,12 +30,20 @@ fn walk_refused(src: &[u8], number: u64, place: usize) -> Survey
     }
 }
 
-// The refusal, or the rows needed and the draft rows in the table, as far as whole rows fit.
+// A refusal that leaves the table all zeros.
+fn refused_cleared(table: &mut [u64], number: u64, place: usize) -> Survey
+    ensures { λ r. ⌜ (r ≡ refusing number place) × (now (table .exit) ≡ cleared (now (table .entry)) 0) ⌝ }
+{
+    rows::clear(table, 0);
+    refused(number, place)
+}
+
+// The refusal, with the table all zeros; or the rows needed and the draft rows in the table, as far as whole rows fit.
 pub fn survey(src: &[u8], table: &mut [u64]) -> Survey
     ensures { λ r. ⌜ Surveyed (now (src .entry)) r (now (table .entry)) (now (table .exit)) ⌝ }
 {
     if LONGEST < src.len() {
-        return refused(1, 0);
+        return refused_cleared(table, 1, 0);
     }
     let w = walk::walk(src, table);
     if w.no != 0 {
@@ -42,7 +51,7 @@ pub fn survey(src: &[u8], table: &mut [u64]) -> Survey
     }
     let bad = w.bad;
     if bad != 0 {
-        return refused(5, bad - 1);
+        return refused_cleared(table, 5, bad - 1);
     }
     Survey {
         number: 0,

@@ -52,7 +52,6 @@ pub fn read(src: &[u8], table: &mut [u64]) -> Answer
     let s = survey(src, table);
     let count = s.rows;
     if s.number != 0 {
-        rows::clear(table, 0);
         return Answer::Refused(s.number, s.place);
     }
     if whole_rows(table) < count {

@@ -30,7 +30,10 @@ use Rattle.elements.specs.Symbols.{symbolsOf, phraseSymbols, FORM-SET-CLOSE}
 use Rattle.phrases.proofs.Streams.{stream-source, stream-end, stream-first, stream-few, rest, within-at}
 use Rattle.phrases.proofs.Resume.{resume-on, resume-no}
 use Rattle.grammar.proofs.Equations.{verdict-all, verdict-extra}
+use Rattle.rows.specs.Table.{cleared}
+use Rattle.rows.proofs.ClearLaws.{cleared-whole}
 use Rattle.walk.specs.declared.State.{State}
+use Rattle.walk.specs.declared.Outcome.{Outcome}
 use Rattle.walk.specs.Meanings.{Counted, Opening, rowsIn}
 use Rattle.walk.specs.Walked.{Room, Walked, Closes, starting, setOpen, WalkedUnder}
 use Rattle.walk.specs.Whole.{refusalNumber, refusalPlace, Derived, Walks, refusing, ended}
@@ -76,12 +79,19 @@ rows-few m w q =
 
 -- ---- what it ends with
 
+-- the outcome, but for the table where it is refused
+record Ends (s : List ℕ) (r : Outcome) (t t′ : List ℕ) : Type 0 where
+  number : r .no ≡ refusalNumber (verdict (sourceTokens s))
+  place : r .place ≡ refusalPlace s (verdict (sourceTokens s))
+  nothing : r .no ≢ 0 → (r .rows ≡ 0) × (r .rules ≡ 0) × (r .bad ≡ 0)
+  derived : r .no ≡ 0 → Derived s r t t′
+
 module _ {s : List ℕ} {k : lex.Token} {r′ : State} {t₀ t₁ : List ℕ} (e : k ≡ tokenAt s 0) (w : WalkedUnder s (depth 0 0) (r <source> ∷ []) 0 (starting k) r′ t₀ t₁) (few : r′ .no ≡ 0 → r′ .rows ≤ length s) where
   begins : verdict (sourceTokens s) ≡ resume s [] (r′ .no) (r′ .token)
   begins = rw (← stream-source s, ← e) (sym (resume-on s (due (depth 0 0) (r <source>) ∷ []) 0 k refl) ∙ w .verdict [])
 
   refuses :
-      (n p : ℕ) → n ≢ 0 → n ≡ refusalNumber (verdict (sourceTokens s)) → p ≡ refusalPlace s (verdict (sourceTokens s)) → Walks s (refusing n p) t₀ t₁
+      (n p : ℕ) → n ≢ 0 → n ≡ refusalNumber (verdict (sourceTokens s)) → p ≡ refusalPlace s (verdict (sourceTokens s)) → Ends s (refusing n p) t₀ t₁
   refuses n p h a b = record { number = a; place = b; nothing = λ q. (refl, refl, refl); derived = λ q. absurd (h q) }
 
   derive :
@@ -103,7 +113,7 @@ module _ {s : List ℕ} {k : lex.Token} {r′ : State} {t₀ t₁ : List ℕ} (e
         few = few z;
       }
 
-  walk-ends : Dec (r′ .no ≡ 0) → Dec (r′ .token .class ≡ END) → Walks s (ended (length s) r′) t₀ t₁
+  walk-ends : Dec (r′ .no ≡ 0) → Dec (r′ .token .class ≡ END) → Ends s (ended (length s) r′) t₀ t₁
   unfolding ended refusal
   walk-ends (no z) (yes q) =
       let v : verdict (sourceTokens s) ≡ ends-early = begins ∙ (resume-no s [] (r′ .no) (r′ .token) z ∙ rw (eq-eqb _ _ q)) in
@@ -118,6 +128,23 @@ module _ {s : List ℕ} {k : lex.Token} {r′ : State} {t₀ t₁ : List ℕ} (e
       let v : verdict (sourceTokens s) ≡ accepted = begins ∙ (resume-on s [] (r′ .no) (r′ .token) z ∙ rw (stream-end s (r′ .token) q) verdict-all) in
       rw (eq-eqb _ _ z, eq-eqb _ _ q) (record { number = rw v; place = rw v; nothing = λ h. absurd (h refl); derived = λ h. derive v q z })
 
-  -- the outcome of the walk that ends at r′
-  pub walk-outcome : Walks s (ended (length s) r′) t₀ t₁
-  walk-outcome = walk-ends (ℕ-discrete (r′ .no) 0) (ℕ-discrete (r′ .token .class) END)
+  ends : Ends s (ended (length s) r′) t₀ t₁
+  ends = walk-ends (ℕ-discrete (r′ .no) 0) (ℕ-discrete (r′ .token .class) END)
+
+  module _ {o : Outcome} (f : o ≡ ended (length s) r′) where
+    -- the walk that ends at r′ is refused, and the table is cleared
+    pub walk-refused : o .no ≢ 0 → length t₁ ≡ length t₀ → {t₂ : List ℕ} → t₂ ≡ cleared t₁ 0 → Walks s o t₀ t₂
+    walk-refused h l c =
+        rw f
+        (record {
+          number = ends .number;
+          place = ends .place;
+          nothing = ends .nothing;
+          zeros = λ q. c ∙ (cleared-whole t₁ ∙ rw l);
+          derived = λ q. absurd (h (rw f q));
+        })
+
+    -- it accepts
+    pub walk-accepts : o .no ≡ 0 → Walks s o t₀ t₁
+    walk-accepts h =
+        rw f (record { number = ends .number; place = ends .place; nothing = ends .nothing; zeros = λ q. absurd (q (rw f at h)); derived = ends .derived })

@@ -7,7 +7,7 @@ use mathlib.Core.Bool.{cond}
 use mathlib.Core.Logic.{_≢_}
 use lib.Dec.{eqb}
 use mathlib.Core.List.{List, map}
-use lib.ListN.{length}
+use lib.ListN.{length, replicate}
 use Rattle.lexemes.specs.Classes.{END}
 use Rattle.rows.specs.Rows.{put}
 use Rattle.ll1.specs.Trees.{Trees}
@@ -48,11 +48,12 @@ pub record Derived (s : List ℕ) (r : Outcome) (t t′ : List ℕ) : Type 0 whe
   -- each row has a token of its own
   pub few : r .rows ≤ length s
 
--- the outcome r of a walk over the source s, where the table was t and is t′; where it is refused, nothing is said of the table
+-- the outcome r of a walk over the source s, where the table was t and is t′; where it is refused, there is nothing, and the table is all zeros
 pub record Walks (s : List ℕ) (r : Outcome) (t t′ : List ℕ) : Type 0 where
   pub number : r .no ≡ refusalNumber (verdict (sourceTokens s))
   pub place : r .place ≡ refusalPlace s (verdict (sourceTokens s))
   pub nothing : r .no ≢ 0 → (r .rows ≡ 0) × (r .rules ≡ 0) × (r .bad ≡ 0)
+  pub zeros : r .no ≢ 0 → t′ ≡ replicate (length t) 0
   pub derived : r .no ≡ 0 → Derived s r t t′
 
 -- ---- what the end of a walk over a source of n bytes means

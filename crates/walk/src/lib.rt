@@ -74,11 +74,16 @@ fn finish(src: &[u8], s: State) -> Outcome
     }
 }
 
-// A whole source.
+// A whole source. Where it is refused, the table is all zeros.
 pub fn walk(src: &[u8], table: &mut [u64]) -> Outcome
     ensures { λ r. ⌜ Walks (now (src .entry)) r (now (table .entry)) (now (table .exit)) ⌝ }
 {
     let open = open_form_set(src, table);
     let all = form_list(src, table, open);
-    finish(src, close(src, all, phrase::FORM_SET_CLOSE))
+    let w = finish(src, close(src, all, phrase::FORM_SET_CLOSE));
+    if w.no != 0 {
+        rows::clear(table, 0);
+        return w;
+    }
+    w
 }

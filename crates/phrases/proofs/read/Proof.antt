@@ -19,4 +19,6 @@ read-spec =
     let args = c .before .before .before .before .before .before .before .args in
     else-within (now (args .src)) (args .token) (c .before .if2 .left))
     (λ c. search needs)
-    (λ c. c .before .before .read-within .ensures ∙ sym (read-on _ _ _ _ _ _ (c .before .before .before .before .before .before .before .if1 .left) (c .before .before .before .before .if2 .left))))
+    (λ c.
+    let if1 = c .before .before .before .before .before .before .before .if1 in
+    c .before .before .read-within .ensures ∙ sym (read-on _ _ _ _ _ _ (if1 .left) (c .before .before .before .before .if2 .left))))

@@ -26,4 +26,7 @@ read-form-spec =
     (λ c. search needs)
     (λ c. read-numbered _ _ RULE-OPEN (c .before .before .before .before .before .match .keys3) (c .before .before .read-phrase3 .ensures))
     (λ c. search needs)
-    (λ c. let n = c .before .before .before .before .before .match .rest in read-numbered _ {k = c .before .before .before .before .before .before .before .before .args .phrase} _ RULE-CLOSE (omega (arith, c .before .before .before .before .before .before .before .before .pre, n .1, n .0 .1, n .0 .0 .1)) (c .before .before .read-phrase4 .ensures)))
+    (λ c.
+    let start = c .before .before .before .before .before .before .before .before in
+    let n = c .before .before .before .before .before .match .rest in
+    read-numbered _ {k = start .args .phrase} _ RULE-CLOSE (omega (arith, start .pre, n .1, n .0 .1, n .0 .0 .1)) (c .before .before .read-phrase4 .ensures)))

@@ -34,4 +34,7 @@ read-item-spec =
     (λ c. search needs)
     (λ c. read-numbered _ _ CHECKBOX (c .before .before .before .before .before .match .keys5) (c .before .before .read-phrase5 .ensures))
     (λ c. search needs)
-    (λ c. let n = c .before .before .before .before .before .match .rest in read-numbered _ {k = c .before .before .before .before .before .before .before .before .args .phrase} _ NUMERIC (omega (arith, c .before .before .before .before .before .before .before .before .pre, n .1, n .0 .1, n .0 .0 .1, n .0 .0 .0 .1, n .0 .0 .0 .0 .1)) (c .before .before .read-phrase6 .ensures)))
+    (λ c.
+    let start = c .before .before .before .before .before .before .before .before in
+    let n = c .before .before .before .before .before .match .rest in
+    read-numbered _ {k = start .args .phrase} _ NUMERIC (omega (arith, start .pre, n .1, n .0 .1, n .0 .0 .1, n .0 .0 .0 .1, n .0 .0 .0 .0 .1)) (c .before .before .read-phrase6 .ensures)))

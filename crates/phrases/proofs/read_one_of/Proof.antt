@@ -22,4 +22,7 @@ read-one-of-spec =
     (λ c. search needs)
     (λ c. read-numbered _ _ ONE-OF-CLOSE (c .before .before .before .before .before .match .keys2) (c .before .before .read-phrase2 .ensures))
     (λ c. search needs)
-    (λ c. let n = c .before .before .before .before .before .match .rest in read-numbered _ {k = c .before .before .before .before .before .before .before .before .args .phrase} _ OPTION (omega (arith, c .before .before .before .before .before .before .before .before .pre, n .1, n .0 .1)) (c .before .before .read-phrase3 .ensures)))
+    (λ c.
+    let start = c .before .before .before .before .before .before .before .before in
+    let n = c .before .before .before .before .before .match .rest in
+    read-numbered _ {k = start .args .phrase} _ OPTION (omega (arith, start .pre, n .1, n .0 .1)) (c .before .before .read-phrase3 .ensures)))

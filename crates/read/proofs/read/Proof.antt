@@ -8,26 +8,23 @@ use Rattle.read.proofs.read.Tie as tie
 survey-requires : tie.Need-survey-requires
 survey-requires c κs = search needs
 
-clear-requires : tie.Need-clear-requires
-clear-requires c κs = search needs
-
 same-length : tie.Need-same-length
 same-length c = search needs
 
 returns : tie.Need-returns
-returns c = refused-read (c .before .before .before .before .before .before .before .before .survey .ensures) (c .before .before .before .before .if1 .taken) (c .before .before .before .before .before .before .before .before .survey .kept .1 .0) (c .before .before .clear .ensures)
+returns c = refused-read (c .before .before .before .before .survey .ensures) (c .if1 .taken)
 
 whole-rows-requires : tie.Need-whole-rows-requires
 whole-rows-requires c κs = search needs
 
-clear-requires-2 : tie.Need-clear-requires-2
-clear-requires-2 c κs = search needs
+clear-requires : tie.Need-clear-requires
+clear-requires c κs = search needs
 
 same-length-2 : tie.Need-same-length-2
 same-length-2 c = search needs
 
 returns-2 : tie.Need-returns-2
-returns-2 c = short-read (c .before .before .before .before .before .before .before .before .before .before .before .survey .ensures .passed (c .before .before .before .before .before .before .before .if1 .left) .1) (c .before .before .before .before .before .whole-rows .ensures) (c .before .before .before .before .if2 .taken) (c .before .before .clear2 .ensures)
+returns-2 c = short-read (c .before .before .before .before .before .before .before .before .before .before .before .survey .ensures .passed (c .before .before .before .before .before .before .before .if1 .left) .1) (c .before .before .before .before .before .whole-rows .ensures) (c .before .before .before .before .if2 .taken) (c .before .before .clear .ensures)
 
 finish-requires : tie.Need-finish-requires
 finish-requires c κs = drafted (c .before .before .before .before .before .before .before .before .survey .ensures .passed (c .before .before .before .before .if1 .left) .1) (c .before .before .whole-rows .ensures) (c .before .if2 .left)
@@ -43,11 +40,10 @@ read-spec =
     tie.close
     (tie.spec
     survey-requires
-    clear-requires
     same-length
     returns
     whole-rows-requires
-    clear-requires-2
+    clear-requires
     same-length-2
     returns-2
     finish-requires

@@ -5,11 +5,16 @@ use borrow.Author.Needs.{needs}
 use Rattle.read.proofs.checks.survey.Statement.{statement}
 use Rattle.read.proofs.checks.survey.Tie as tie
 
-refused-requires : tie.Need-refused-requires
-refused-requires c κs = search needs
+refused-cleared-requires : tie.Need-refused-cleared-requires
+refused-cleared-requires c κs = search needs
+
+same-length : tie.Need-same-length
+same-length c = search needs
 
 returns : tie.Need-returns
-returns c = rw (c .refused .ensures) (too-long (c .before .if1 .taken))
+returns c =
+    let refused-cleared = c .before .before .refused-cleared in
+    rw (refused-cleared .ensures .0) (too-long (c .before .before .before .before .if1 .taken) (refused-cleared .ensures .1))
 
 walk-requires : tie.Need-walk-requires
 walk-requires c κs = search needs
@@ -17,26 +22,31 @@ walk-requires c κs = search needs
 walk-refused-requires : tie.Need-walk-refused-requires
 walk-refused-requires c κs = search needs
 
-same-length : tie.Need-same-length
-same-length c = search needs
+same-length-2 : tie.Need-same-length-2
+same-length-2 c = search needs
 
 returns-2 : tie.Need-returns-2
 returns-2 c = rw (c .walk-refused .ensures) (walk-stops (c .before .before .before .before .before .before .before .if1 .left) (c .before .before .before .before .before .walk .ensures) (c .before .if2 .taken))
 
-sub-refused : tie.Need-sub-refused
-sub-refused c = search needs
+sub-refused-cleared : tie.Need-sub-refused-cleared
+sub-refused-cleared c = search needs
 
-refused-requires-2 : tie.Need-refused-requires-2
-refused-requires-2 c κs = search needs
-
-same-length-2 : tie.Need-same-length-2
-same-length-2 c = search needs
-
-returns-3 : tie.Need-returns-3
-returns-3 c = rw (c .refused2 .ensures) (number-outside (c .before .before .before .before .before .before .before .before .if1 .left) (c .before .before .before .before .before .before .walk .ensures) (c .before .before .if2 .left) (c .before .if3 .taken))
+refused-cleared-requires-2 : tie.Need-refused-cleared-requires-2
+refused-cleared-requires-2 c κs = search needs
 
 same-length-3 : tie.Need-same-length-3
 same-length-3 c = search needs
+
+returns-3 : tie.Need-returns-3
+returns-3 c =
+    let refused-cleared2 = c .before .before .refused-cleared2 in
+    let walk = c .before .before .before .before .before .before .before .before .before .walk in
+    let if1 = c .before .before .before .before .before .before .before .before .before .before .before .if1 in
+    let if2 = c .before .before .before .before .before .if2 in
+    rw (refused-cleared2 .ensures .0) (number-outside (if1 .left) (walk .ensures) (if2 .left) (c .before .before .before .before .if3 .taken) (walk .kept .1 .0) (refused-cleared2 .ensures .1))
+
+same-length-4 : tie.Need-same-length-4
+same-length-4 c = search needs
 
 returns-4 : tie.Need-returns-4
 returns-4 c = walk-passes (c .before .before .before .before .before .before .before .if1 .left) (c .before .before .before .before .before .walk .ensures) (c .before .if2 .left) (c .if3 .left)
@@ -45,15 +55,16 @@ pub survey-spec : {M : Type 1} → statement M
 survey-spec =
     tie.close
     (tie.spec
-    refused-requires
+    refused-cleared-requires
+    same-length
     returns
     walk-requires
     walk-refused-requires
-    same-length
-    returns-2
-    sub-refused
-    refused-requires-2
     same-length-2
-    returns-3
+    returns-2
+    sub-refused-cleared
+    refused-cleared-requires-2
     same-length-3
+    returns-3
+    same-length-4
     returns-4)

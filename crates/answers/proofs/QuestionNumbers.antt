@@ -45,8 +45,10 @@ module _ (s : List ℕ) (look : Draft → ℕ) where
   found-code : (d : Draft) → getD (foundRow s look d) column.CODE 0 ≡ cell column.CODE d
   found-code d = either (refers s d) (λ e. rw e (getD-set-other (d .row) column.A column.CODE (look d) 0 (λ q. omega arith))) (λ e. rw e)
 
-  module _ (d : Draft) (ds : List Draft) (given : (ns : List ℕ) → length ns ≡ length (ownNumbers ds) → questionNumbers (map (foundRow s look) (withNumbers ns ds)) ≡ ns) where
-    given-question : (ns : List ℕ) → length (d .row) ≡ ROW → asks d ≡ true → length ns ≡ length (ownNumbers (d ∷ ds)) → questionNumbers (map (foundRow s look) (withNumbers ns (d ∷ ds))) ≡ ns
+  module _ (d : Draft) (ds : List Draft)
+      (given : (ns : List ℕ) → length ns ≡ length (ownNumbers ds) → questionNumbers (map (foundRow s look) (withNumbers ns ds)) ≡ ns) where
+    given-question : (ns : List ℕ) → length (d .row) ≡ ROW → asks d ≡ true → length ns ≡ length (ownNumbers (d ∷ ds))
+        → questionNumbers (map (foundRow s look) (withNumbers ns (d ∷ ds))) ≡ ns
     unfolding withNumbers ownNumbers
     given-question [] l e h = let n : 0 ≡ suc (length (ownNumbers ds)) = rw e at h in absurd (omega arith)
     given-question (m ∷ ns) l e h =
@@ -58,7 +60,8 @@ module _ (s : List ℕ) (look : Draft → ℕ) where
         let own′ : getD (foundRow s look d′) column.OWN 0 ≡ m = rw row′ (getD-set-same (d .row) column.OWN m 0 (omega arith)) in
         rw e (first-question (foundRow s look d′) _ (rw (found-code d′) asks′) ∙ rw (own′, given ns (omega arith)))
 
-    given-other : (ns : List ℕ) → asks d ≡ false → length ns ≡ length (ownNumbers (d ∷ ds)) → questionNumbers (map (foundRow s look) (withNumbers ns (d ∷ ds))) ≡ ns
+    given-other : (ns : List ℕ) → asks d ≡ false → length ns ≡ length (ownNumbers (d ∷ ds))
+        → questionNumbers (map (foundRow s look) (withNumbers ns (d ∷ ds))) ≡ ns
     unfolding withNumbers ownNumbers
     given-other ns e h = rw e (first-other (foundRow s look d) _ (rw (found-code d) e) ∙ given ns (rw e at h))
 

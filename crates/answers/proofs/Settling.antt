@@ -67,7 +67,9 @@ module _ (s : List ℕ) (ds : List Draft) where
 abbrev pub foundRow : List ℕ → (Draft → ℕ) → Draft → List ℕ
 foundRow s look d = cond (refers s d) (set (d .row) column.A (look d)) (d .row)
 
-found-rows : (s : List ℕ) (look : Draft → ℕ) (ds : List Draft) → map (λ d. d .row) (map (λ d. cond (refers s d) (withCell column.A (look d) d) d) ds) ≡ map (foundRow s look) ds
+found-rows :
+    (s : List ℕ) (look : Draft → ℕ) (ds : List Draft)
+    → map (λ d. d .row) (map (λ d. cond (refers s d) (withCell column.A (look d) d) d) ds) ≡ map (foundRow s look) ds
 found-rows s look [] = refl
 found-rows s look (d ∷ ds) = either (refers s d) (λ e. rw (e, found-rows s look ds)) (λ e. rw (e, found-rows s look ds))
 

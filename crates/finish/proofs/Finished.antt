@@ -90,7 +90,14 @@ found-encoded s es t ns index owns (add-reference v r) = rw (row-settled s es t 
 fits-found : (d : Draft) (v : ℕ) → Fits d → Fits (withCell column.A v d)
 fits-found d v f =
     let beside : (c : ℕ) → (c ≡ column.A → ⊥) → cell c (withCell column.A v d) ≡ cell c d = λ c h. getD-set-other (d .row) column.A c v 0 h in
-    omega (arith, f, length-set (d .row) column.A v, beside column.FIRST (λ e. omega arith), beside column.SECOND (λ e. omega arith), beside column.FLAGS (λ e. omega arith))
+    omega (
+      arith,
+      f,
+      length-set (d .row) column.A v,
+      beside column.FIRST (λ e. omega arith),
+      beside column.SECOND (λ e. omega arith),
+      beside column.FLAGS (λ e. omega arith),
+    )
 
 fit-found : (b : Draft → Bool) (look : Draft → ℕ) {ds : List Draft} → AllFit ds → AllFit (map (λ d. cond (b d) (withCell column.A (look d) d) d) ds)
 fit-found b look none-fit = none-fit
@@ -211,7 +218,9 @@ module _ {ds : List Draft} (v : SoundRows ds) (s : List ℕ) (found : unfound s 
   t₁ = tableNumbered ws t (length ds)
 
   table-numbered : t₁ ≡ put t 0 (map encoded (withTheirs ds))
-  table-numbered = rw (held, owns-encoded (sound-fit (v .each)), given-numbered holds) (ap (put t 0) (with-encoded (sound-fit (v .each)) (numbered (ownNumbers ds))))
+  table-numbered =
+      rw (held, owns-encoded (sound-fit (v .each)), given-numbered holds)
+      (ap (put t 0) (with-encoded (sound-fit (v .each)) (numbered (ownNumbers ds))))
 
   rows-numbered : rowsFrom t₁ 0 (length (withTheirs ds)) ≡ map encoded (withTheirs ds)
   rows-numbered = rw (← length-map (withTheirs ds) encoded) (rows-held t (are-encoded fit) fewer table-numbered)
@@ -250,7 +259,8 @@ module _ {ds : List Draft} (v : SoundRows ds) (s : List ℕ) (found : unfound s 
         }
 
     -- after `strip` and `rows::clear_past`
-    pub finished-table : {t₃ t₄ : List ℕ} → t₃ ≡ put t₂ 0 (map stripped (rowsFrom t₂ 0 (length ds))) → t₄ ≡ cleared t₃ (length ds * column.ROW) → t₄ ≡ laid (finished s ds) (length t)
+    pub finished-table : {t₃ t₄ : List ℕ} → t₃ ≡ put t₂ 0 (map stripped (rowsFrom t₂ 0 (length ds)))
+        → t₄ ≡ cleared t₃ (length ds * column.ROW) → t₄ ≡ laid (finished s ds) (length t)
     unfolding finished
     finished-table {t₃} three four = rw (← long) (rows-laid settled-in {t₁ = t₃} (rw (settled-count s ds) three) (rw (settled-count s ds) four))
 

@@ -123,6 +123,7 @@ module _ (s es t : List ℕ) (ns : List Draft)
     row-settled = rw (cell-encoded (v .fits) column.CODE refl) (go (refers s d) refl)
       where
         go : (b : Bool) → refers s d ≡ b
-            → cond b (set (encoded d) column.A (numberFound s es t (encoded d))) (encoded d) ≡ encoded (cond b (withCell column.A (ownOfFirst s (finds s d) ns) d) d)
+            → cond b (set (encoded d) column.A (numberFound s es t (encoded d))) (encoded d)
+            ≡ encoded (cond b (withCell column.A (ownOfFirst s (finds s d) ns) d) d)
         go true y = rw (number-found y) (set-encoded d column.A _ refl)
         go false y = refl

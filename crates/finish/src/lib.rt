@@ -76,13 +76,7 @@ fn resolve_references(src: &[u8], table: &mut [u64], count: usize, index: &[u64]
 }
 
 // Settles the draft rows: questions get their numbers, and then references those that they find. The marks stay.
-pub fn settle(
-    src: &[u8],
-    table: &mut [u64],
-    count: usize,
-    index: &[u64],
-    used: &mut [u64; 1024],
-)
+pub fn settle(src: &[u8], table: &mut [u64], count: usize, index: &[u64], used: &mut [u64; 1024])
     ensures { λ _. ⌜ now (table .exit) ≡ tableSettled (now (src .entry)) (now (index .entry)) (now (used .entry)) (now (table .entry)) count ⌝ }
     ensures { λ _. ⌜ now (used .exit) ≡ givenMap (now (used .entry)) 1 (ownsIn (rowsFrom (now (table .entry)) 0 count)) ⌝ }
 {

@@ -32,7 +32,8 @@ module _ {s es ws t : List ℕ} {count : ℕ} (pre : Ready s es ws t count) wher
   -- after `settle` the first rows are the settled drafts
   pub settled-held : {t₁ : List ℕ} → t₁ ≡ tableSettled s es ws t count → DraftsIn t₁ (settled s ds)
   settled-held {t₁} one =
-      settled-in (pre .drafted .sound) s (pre .found) (pre .index) (pre .written) t (rw many (pre .drafted .room)) (rw many (pre .drafted .held)) {t₂ = t₁} (rw many one)
+      settled-in (pre .drafted .sound) s (pre .found) (pre .index) (pre .written) t (rw many (pre .drafted .room)) (rw many (pre .drafted .held))
+      {t₂ = t₁} (rw many one)
 
   -- and after `strip` and `rows::clear_past` the finished rows
   pub table-accepted : {t₁ t₂ t₃ : List ℕ}
@@ -41,7 +42,8 @@ module _ {s es ws t : List ℕ} {count : ℕ} (pre : Ready s es ws t count) wher
       → t₃ ≡ cleared t₂ (count * ROW)
       → t₃ ≡ laid (finished s ds) (length t)
   table-accepted {t₁} {t₂} {t₃} one two three =
-      finished-table (pre .drafted .sound) s (pre .found) (pre .index) (pre .written) t (rw many (pre .drafted .room)) (rw many (pre .drafted .held)) {t₂ = t₁} (rw many one) {t₃ = t₂} {t₄ = t₃} (rw many two) (rw many three)
+      finished-table (pre .drafted .sound) s (pre .found) (pre .index) (pre .written) t (rw many (pre .drafted .room)) (rw many (pre .drafted .held))
+      {t₂ = t₁} (rw many one) {t₃ = t₂} {t₄ = t₃} (rw many two) (rw many three)
 
   -- the ones in the map and the free numbers are all that there are
   counted : {ws′ : List ℕ} → ws′ ≡ givenMap ws 1 (ownsIn (rowsFrom t 0 count)) → usedCount ws′ + freeCount (numbered (ownNumbers ds)) ≡ 65535

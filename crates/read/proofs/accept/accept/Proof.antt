@@ -21,16 +21,21 @@ used-count-requires : tie.Need-used-count-requires
 used-count-requires c κs = search needs
 
 sub-t17 : tie.Need-sub-t17
-sub-t17 c = used-few (c .before .before .before .before .before .before .before .before .before .before .before .before .before .before .before .before .before .before .pre) (c .before .before .before .before .before .before .before .before .before .before .before .before .settle .ensures .1) (c .used-count .ensures)
+sub-t17 c =
+    let start = c .before .before .before .before .before .before .before .before .before .before .before .before in
+    used-few (start .before .before .before .before .before .before .pre) (start .settle .ensures .1) (c .used-count .ensures)
 
 same-length : tie.Need-same-length
 same-length c = search needs
 
 returns : tie.Need-returns
 returns c =
-    let pre = c .before .before .before .before .before .before .before .before .before .before .before .before .before .before .before .before .before .before .pre in
-    let settle = c .before .before .before .before .before .before .before .before .before .before .before .before .settle in
-    (free-accepted pre (settle .ensures .1) (c .used-count .ensures), table-accepted pre (settle .ensures .0) (c .before .before .before .before .before .before .before .before .strip .ensures) (c .before .before .before .before .clear-past .ensures))
+    let start = c .before .before .before .before .before .before .before .before .before .before .before .before in
+    let pre = start .before .before .before .before .before .before .pre in
+    let settled = start .settle .ensures in
+    let strip = c .before .before .before .before .before .before .before .before .strip in
+    let clear-past = c .before .before .before .before .clear-past in
+    (free-accepted pre (settled .1) (c .used-count .ensures), table-accepted pre (settled .0) (strip .ensures) (clear-past .ensures))
 
 pub accept-spec : {M : Type 1} → statement M
 accept-spec = tie.close (tie.spec settle-requires strip-requires clear-past-requires sub-t14 used-count-requires sub-t17 same-length returns)

@@ -27,6 +27,7 @@ use Rattle.finish.proofs.NumberedRows.{other-column}
 use Rattle.sound.proofs.Lists.{All}
 use Rattle.sound.proofs.DraftsSound.{drafts-sound}
 use Rattle.answers.proofs.RowPlaces.{rows-by-place}
+use Rattle.answers.proofs.Settling.{finished-numbered}
 use Rattle.again.specs.Matches.{Pairs, Settled}
 use Rattle.again.specs.RuleNumbers.{ruleNumbers}
 use Rattle.again.proofs.Lists.{all-then, all-with, sound-each, pairs-first, pairs-alike, firsts}
@@ -139,8 +140,8 @@ module _ (s : List ℕ) (tree : Trees) (sound : Demand3.Sound s tree) (short : l
   number e = ownOfFirst s (finds s e) (ws s (sound-rows .each) own)
 
   rows : Pairs (λ d e. Bears d e × (look (cell column.PLACE d) ≡ finish s e (number e))) ds (ws s (sound-rows .each) own)
-  unfolding number finished numberedRows
-  rows = pairs-alike (all-bear s (sound-rows .each) own) (rows-by-place s tree (sound .derives))
+  unfolding number numberedRows
+  rows = pairs-alike (all-bear s (sound-rows .each) own) (rows-by-place s tree (sound .derives) ∙ finished-numbered s ds)
 
   module _ {d : Draft} (u : Sound d) (f : Finds s ds d) where
     found-question : is code.QUESTION-REF d ≡ true → mem (number d) (numbered (ownNumbers ds)) ≡ true

@@ -15,6 +15,7 @@ use Rattle.rows.specs.Codes as code
 use Rattle.rows.specs.Columns as column
 use Rattle.answers.specs.Rows.{Draft}
 use Rattle.answers.specs.Stages.{cell, is, asks, writes, any, placeOf, unfound, ownNumbers, withNumbers, numberedRows, declares, finds, refers, ownOfFirst, finished}
+use Rattle.answers.proofs.Settling.{finished-numbered}
 use Rattle.drafts.proofs.RowTests.{other-code}
 use Rattle.sound.proofs.Lists.{All}
 use Rattle.again.specs.Matches.{Pairs, named, final}
@@ -91,8 +92,8 @@ numbers-stay (d ∷ ds) =
     (λ e. rw (e, numbers-stay ds))
 
 pub finished-as-is : (t : List ℕ) {ds : List Draft} → All (Says t ds) ds → numbered (ownNumbers ds) ≡ ownNumbers ds → finished t ds ≡ map (final t) ds
-unfolding finished numberedRows
-finished-as-is t {ds} all e = rw (e, numbers-stay ds) (map-each _ _ (all-then (λ d v. row-final t all v) all))
+unfolding numberedRows
+finished-as-is t {ds} all e = finished-numbered t ds ∙ rw (e, numbers-stay ds) (map-each _ _ (all-then (λ d v. row-final t all v) all))
 
 pub all-found : (t s : List ℕ) {ds′ ds : List Draft} → Pairs Like ds′ ds → All (Finds s ds) ds → All (Says t ds′) ds′ → unfound t ds′ ≡ []
 unfolding unfound

@@ -2,24 +2,22 @@
 -- Assumes nothing.
 use mathlib.Core.Path.{_≡_, refl, ap, ap₂, sym, _∙_}
 use mathlib.Core.List.{List, [], _∷_, _++_, map}
-use mathlib.Core.Bool.{cond}
 use mathlib.Core.Logic.{_≢_}
 use Prim.Native.Nat.{ℕ, zero, suc, _+_, _<_}
 use native.Mathlib.Nat.{add-zero}
 use native.Mathlib.Omega.{arith}
-use lib.ListN.{length, getD, set, take, drop, length-map}
-use lib.Seq.{getD-set-other, take-at, drop-at}
+use lib.ListN.{length, getD, take, drop, length-map}
+use lib.Seq.{take-at, drop-at}
 use borrow.Author.Tests.{ne-eqb}
-use Rattle.lexemes.proofs.Lists.{either}
-use Rattle.numbers.specs.Numbers.{numbered}
 use Rattle.rows.specs.Columns as column
 use Rattle.ll1.proofs.Basics.{clash, same}
 use Rattle.answers.specs.Expression.{Operator, Expression, negation, binary}
 use Rattle.answers.specs.Rows.{Draft}
-use Rattle.answers.specs.Stages.{cell, asks, refers, finds, ownOfFirst, ownNumbers, withNumbers, numberedRows, finished}
+use Rattle.answers.specs.Stages.{cell, settled, finished}
 use Rattle.answers.specs.Text.{rowFirstAt}
 use Rattle.answers.specs.Reached.{FoundFrom, found-none, found-more}
 use Rattle.answers.specs.RowPlaces.{rowPlaces, expressionPlaces}
+use Rattle.answers.proofs.Settling.{settled-column}
 use Rattle.grammar.specs.Places.{Absent, absent-none, absent-more, Distinct, distinct-none, distinct-more}
 
 -- ---- lists
@@ -75,31 +73,15 @@ found-rows (r ∷ rs) (distinct-more a d) = ap₂ _∷_ (at-first r rs) (all-lat
 
 -- ---- finished rows
 
-module _ (s : List ℕ) (look : Draft → ℕ) where
-  -- a row when its reference has been found
-  abbrev final : Draft → List ℕ
-  final d = cond (refers s d) (set (d .row) column.A (look d)) (d .row)
-
-  final-place : (d : Draft) → place (final d) ≡ cell column.PLACE d
-  final-place d = either (refers s d) (λ e. rw e (getD-set-other (d .row) column.A column.PLACE (look d) 0 (λ q. omega arith))) (λ e. rw e)
-
-  final-places : (ds : List Draft) → map place (map final ds) ≡ rowPlaces ds
-  final-places [] = refl
-  final-places (d ∷ ds) = ap₂ _∷_ (final-place d) (final-places ds)
-
-numbered-places : (ns : List ℕ) (ds : List Draft) → rowPlaces (withNumbers ns ds) ≡ rowPlaces ds
-unfolding withNumbers
-numbered-places ns [] = refl
-numbered-places ns (d ∷ ds) =
-    either (asks d)
-    (λ e. rw e (ap₂ _∷_ (getD-set-other (d .row) column.OWN column.PLACE (getD ns 0 0) 0 (λ q. omega arith)) (numbered-places (drop 1 ns) ds)))
-    (λ e. rw e (ap (_∷_ (cell column.PLACE d)) (numbered-places ns ds)))
-
 module _ (s : List ℕ) (ds : List Draft) where
+  -- a column of them, where neither a number nor a reference stands, is that of their drafts
+  pub finished-column : (c : ℕ) → c ≢ column.OWN → c ≢ column.A → map (λ r. getD r c 0) (finished s ds) ≡ map (cell c) ds
+  unfolding finished
+  finished-column c own a = sym (map-map (λ r. getD r c 0) (λ d. d .row) (settled s ds)) ∙ settled-column s ds c own a
+
   -- the places of the finished rows are those of their drafts
   pub finished-places : map (λ r. getD r column.PLACE 0) (finished s ds) ≡ rowPlaces ds
-  unfolding finished numberedRows
-  finished-places = final-places s (λ d. ownOfFirst s (finds s d) (numberedRows ds)) (numberedRows ds) ∙ numbered-places (numbered (ownNumbers ds)) ds
+  finished-places = finished-column column.PLACE (λ q. omega arith) (λ q. omega arith)
 
   pub finished-count : length (finished s ds) ≡ length ds
   finished-count = sym (length-map (finished s ds) place) ∙ ap length finished-places ∙ length-map ds (cell column.PLACE)

@@ -10,6 +10,7 @@ pub mod ExpressionWeight
 pub mod RowWeight
 pub mod StatementPlaces
 pub mod RowCount
+pub mod Settling
 pub mod RowShape
 pub mod FoundRows
 pub mod Walks

@@ -27,6 +27,7 @@ use Rattle.grammar.specs.Grammar.{rules}
 use Rattle.answers.specs.Rows.{Draft, formSet, draftsOf}
 use Rattle.answers.specs.Stages.{cell, asks, refers, finds, ownOfFirst, ownNumbers, withCell, withNumbers, numberedRows, finished}
 use Rattle.answers.specs.Demand3.{questionNumbers, unwrittenBelow, GetsSmallest}
+use Rattle.answers.proofs.Settling.{foundRow, finished-numbered}
 use Rattle.answers.proofs.RowShape.{Wide, no-wide, add-wide}
 
 -- a question is no reference
@@ -45,15 +46,13 @@ module _ (r : List ℕ) (rs : List (List ℕ)) where
   first-other e = rw e
 
 module _ (s : List ℕ) (look : Draft → ℕ) where
-  -- a row when its reference has been found
-  abbrev final : Draft → List ℕ
-  final d = cond (refers s d) (set (d .row) column.A (look d)) (d .row)
+  found-code : (d : Draft) → getD (foundRow s look d) column.CODE 0 ≡ cell column.CODE d
+  found-code d = either (refers s d) (λ e. rw e (getD-set-other (d .row) column.A column.CODE (look d) 0 (λ q. omega arith))) (λ e. rw e)
 
-  final-code : (d : Draft) → getD (final d) column.CODE 0 ≡ cell column.CODE d
-  final-code d = either (refers s d) (λ e. rw e (getD-set-other (d .row) column.A column.CODE (look d) 0 (λ q. omega arith))) (λ e. rw e)
-
-  module _ (d : Draft) (ds : List Draft) (given : (ns : List ℕ) → length ns ≡ length (ownNumbers ds) → questionNumbers (map final (withNumbers ns ds)) ≡ ns) where
-    given-question : (ns : List ℕ) → length (d .row) ≡ ROW → asks d ≡ true → length ns ≡ length (ownNumbers (d ∷ ds)) → questionNumbers (map final (withNumbers ns (d ∷ ds))) ≡ ns
+  module _ (d : Draft) (ds : List Draft)
+      (given : (ns : List ℕ) → length ns ≡ length (ownNumbers ds) → questionNumbers (map (foundRow s look) (withNumbers ns ds)) ≡ ns) where
+    given-question : (ns : List ℕ) → length (d .row) ≡ ROW → asks d ≡ true → length ns ≡ length (ownNumbers (d ∷ ds))
+        → questionNumbers (map (foundRow s look) (withNumbers ns (d ∷ ds))) ≡ ns
     unfolding withNumbers ownNumbers
     given-question [] l e h = let n : 0 ≡ suc (length (ownNumbers ds)) = rw e at h in absurd (omega arith)
     given-question (m ∷ ns) l e h =
@@ -61,15 +60,16 @@ module _ (s : List ℕ) (look : Draft → ℕ) where
         let d′ = withCell column.OWN m d in
         let same : cell column.CODE d′ ≡ cell column.CODE d = getD-set-other (d .row) column.OWN column.CODE m 0 (λ q. omega arith) in
         let asks′ : asks d′ ≡ true = rw same e in
-        let row′ : final d′ ≡ set (d .row) column.OWN m = rw (no-reference (cell column.CODE d′) asks′) in
-        let own′ : getD (final d′) column.OWN 0 ≡ m = rw row′ (getD-set-same (d .row) column.OWN m 0 (omega arith)) in
-        rw e (first-question (final d′) _ (rw (final-code d′) asks′) ∙ rw (own′, given ns (omega arith)))
+        let row′ : foundRow s look d′ ≡ set (d .row) column.OWN m = rw (no-reference (cell column.CODE d′) asks′) in
+        let own′ : getD (foundRow s look d′) column.OWN 0 ≡ m = rw row′ (getD-set-same (d .row) column.OWN m 0 (omega arith)) in
+        rw e (first-question (foundRow s look d′) _ (rw (found-code d′) asks′) ∙ rw (own′, given ns (omega arith)))
 
-    given-other : (ns : List ℕ) → asks d ≡ false → length ns ≡ length (ownNumbers (d ∷ ds)) → questionNumbers (map final (withNumbers ns (d ∷ ds))) ≡ ns
+    given-other : (ns : List ℕ) → asks d ≡ false → length ns ≡ length (ownNumbers (d ∷ ds))
+        → questionNumbers (map (foundRow s look) (withNumbers ns (d ∷ ds))) ≡ ns
     unfolding withNumbers ownNumbers
-    given-other ns e h = rw e (first-other (final d) _ (rw (final-code d) e) ∙ given ns (rw e at h))
+    given-other ns e h = rw e (first-other (foundRow s look d) _ (rw (found-code d) e) ∙ given ns (rw e at h))
 
-  given : (ns : List ℕ) {ds : List Draft} → Wide ds → length ns ≡ length (ownNumbers ds) → questionNumbers (map final (withNumbers ns ds)) ≡ ns
+  given : (ns : List ℕ) {ds : List Draft} → Wide ds → length ns ≡ length (ownNumbers ds) → questionNumbers (map (foundRow s look) (withNumbers ns ds)) ≡ ns
   unfolding questionNumbers withNumbers ownNumbers
   given [] no-wide h = refl
   given (m ∷ ns) no-wide h = absurd (omega arith)
@@ -77,8 +77,10 @@ module _ (s : List ℕ) (look : Draft → ℕ) where
       either (asks d) (λ e. given-question d ds (λ k q. given k w q) ns l e h) (λ e. given-other d ds (λ k q. given k w q) ns e h)
 
 pub question-numbers : (s : List ℕ) (ds : List Draft) → Wide ds → questionNumbers (finished s ds) ≡ numbered (ownNumbers ds)
-unfolding finished numberedRows
-question-numbers s ds w = given s (λ d. ownOfFirst s (finds s d) (numberedRows ds)) (numbered (ownNumbers ds)) w (numbering (ownNumbers ds) .long)
+unfolding numberedRows
+question-numbers s ds w =
+    ap questionNumbers (finished-numbered s ds)
+    ∙ given s (λ d. ownOfFirst s (finds s d) (numberedRows ds)) (numbered (ownNumbers ds)) w (numbering (ownNumbers ds) .long)
 
 -- ---- there are numbers enough: the first row, the form set's, is no question
 

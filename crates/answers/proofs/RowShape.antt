@@ -2,26 +2,26 @@
 -- Assumes nothing.
 use mathlib.Core.Path.{_≡_, refl, _∙_}
 use mathlib.Core.List.{List, [], _∷_, _++_, map}
-use mathlib.Core.Bool.{Bool, true, cond, not, _||_}
+use mathlib.Core.Bool.{true, not, _||_}
 use Prim.Native.Nat.{ℕ, zero, suc, _<_}
 use native.Mathlib.Omega.{arith}
 use lib.Dec.{eqb, ltb}
-use lib.ListN.{length, set, drop, length-set}
+use lib.ListN.{length, length-set}
 use borrow.Author.Tests.{ltb-true}
 use Rattle.lexemes.proofs.Lists.{either}
-use Rattle.numbers.specs.Numbers.{numbered}
 use Rattle.rows.specs.Columns as column
 use Rattle.rows.specs.Columns.{ROW}
 use Rattle.rows.specs.Rows.{AreRows, no-rows, add-row}
 use Rattle.ll1.specs.Trees.{Trees, Symbol, Fits, fits-nil, fits-leaf, fits-node}
-use Rattle.ll1.proofs.Basics.{implied}
+use Rattle.ll1.proofs.Basics.{clash, implied}
 use Rattle.grammar.specs.Rules.{<rule>, <item>, <option>, <form>, <source>}
 use Rattle.grammar.specs.Grammar.{rules}
 use Rattle.grammar.specs.Parts.{child}
 use Rattle.answers.specs.Expression.{Expression, number, constant, question-named, question-numbered, rule-named, negation, binary, expression}
 use Rattle.answers.specs.Rows.{Draft, item, expressionRows, condition, otherwise, ownRows, draftsOf}
-use Rattle.answers.specs.Stages.{asks, refers, finds, ownOfFirst, ownNumbers, withNumbers, numberedRows, finished}
+use Rattle.answers.specs.Stages.{settled, finished}
 use Rattle.grammar.proofs.Alternatives.{everywhere, at-alternative}
+use Rattle.answers.proofs.Settling.{settling-leaves}
 
 -- each has twelve numbers
 pub data Wide : List Draft → Type 0 where
@@ -80,21 +80,21 @@ module _ (value : ℕ → ℕ) where
 
 -- ---- the finished rows
 
-numbered-wide : (ns : List ℕ) {ds : List Draft} → Wide ds → Wide (withNumbers ns ds)
-unfolding withNumbers
-numbered-wide ns no-wide = no-wide
-numbered-wide ns (add-wide {d = d} {ds = ds} l w) =
-    either (asks d)
-    (λ e. rw e (add-wide (length-set (d .row) _ _ ∙ l) (numbered-wide (drop 1 ns) w)))
-    (λ e. rw e (add-wide l (numbered-wide ns w)))
+-- rows as long as others
+wide-like : (es : List Draft) {ds : List Draft} → Wide ds → map (λ d. length (d .row)) es ≡ map (λ d. length (d .row)) ds → Wide es
+wide-like [] no-wide q = no-wide
+wide-like (e ∷ es) no-wide q = clash cc
+wide-like [] (add-wide l w) q = clash cc
+wide-like (e ∷ es) (add-wide {d = d} l w) q =
+    let same : length (e .row) ≡ length (d .row) = cc in
+    add-wide (same ∙ l) (wide-like es w cc)
 
--- a cell that is set or not
-final-wide : (b : Draft → Bool) (c : ℕ) (look : Draft → ℕ) {ds : List Draft} → Wide ds → AreRows (map (λ d. cond (b d) (set (d .row) c (look d)) (d .row)) ds)
-final-wide b c look no-wide = no-rows
-final-wide b c look (add-wide {d = d} l w) =
-    let more = final-wide b c look w in
-    either (b d) (λ e. add-row (rw e (length-set (d .row) c (look d) ∙ l)) more) (λ e. add-row (rw e l) more)
+are-rows : {ds : List Draft} → Wide ds → AreRows (map (λ d. d .row) ds)
+are-rows no-wide = no-rows
+are-rows (add-wide l w) = add-row l (are-rows w)
 
 pub finished-wide : (s : List ℕ) {ds : List Draft} → Wide ds → AreRows (finished s ds)
-unfolding finished numberedRows
-finished-wide s {ds} w = final-wide (refers s) column.A (λ d. ownOfFirst s (finds s d) (numberedRows ds)) (numbered-wide (numbered (ownNumbers ds)) w)
+unfolding finished
+finished-wide s {ds} w =
+    let long = settling-leaves (λ d. length (d .row)) (λ d v. length-set (d .row) column.OWN v) (λ d v. length-set (d .row) column.A v) s ds in
+    are-rows (wide-like (settled s ds) w long)

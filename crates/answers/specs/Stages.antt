@@ -139,8 +139,14 @@ module _ (s : List ℕ) where
   ownOfFirst p [] = 0
   ownOfFirst p (d ∷ ds) = let later = ownOfFirst p ds in cond (p d) (cell column.OWN d) later
 
-  -- the finished rows: questions numbered, then each reference with the number that it finds
+  -- each reference of the rows with the number that it finds among them
+  unfoldable pub withReferences : List Draft → List Draft
+  withReferences ds = map (λ d. cond (refers s d) (withCell column.A (ownOfFirst (finds s d) ds) d) d) ds
+
+  -- the settled rows: questions numbered, then each reference with the number that it finds; their marks are still there
+  unfoldable pub settled : List Draft → List Draft
+  settled ds = withReferences (numberedRows ds)
+
+  -- the finished rows: those of the settled drafts, without the marks
   unfoldable pub finished : List Draft → List (List ℕ)
-  finished ds =
-      let numberedOnes = numberedRows ds in
-      map (λ d. cond (refers s d) (set (d .row) column.A (ownOfFirst (finds s d) numberedOnes)) (d .row)) numberedOnes
+  finished ds = map (λ d. d .row) (settled ds)

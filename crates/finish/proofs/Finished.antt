@@ -1,13 +1,15 @@
--- The passes one after the other: sound drafts that no stage refuses become grammar's finished rows, and the map counts the free numbers.
+-- The passes one after the other: sound drafts that no stage refuses become grammar's settled drafts, and then its finished rows; and the map
+-- counts the free numbers.
 use Prim.Native.Nat.{ℕ, suc, _+_, _*_, _≤_, _<_}
-use mathlib.Core.Path.{_≡_, refl, sym, ap, _∙_}
+use mathlib.Core.Path.{_≡_, refl, sym, ap, ap₂, _∙_}
 use mathlib.Core.Bool.{Bool, true, false, not, cond, _&&_, true≢false}
 use mathlib.Core.List.{List, [], _∷_, _++_, map, append-assoc}
 use native.Mathlib.Omega.{arith}
 use borrow.Author.Tests.{eqb-true, not-false}
 use lib.Dec.{eqb}
-use lib.ListN.{length, getD, set, drop, length-map}
-use Rattle.numbers.specs.Numbers.{numbered, freeCount, usedCount, given, givenMap, Holds}
+use lib.ListN.{length, getD, drop, length-set, length-map}
+use lib.Seq.{getD-set-other}
+use Rattle.numbers.specs.Numbers.{numbered, freeCount, usedCount, givenMap, Holds}
 use Rattle.numbers.proofs.Giving.{given-numbered, map-numbered}
 use Rattle.numbers.proofs.Maps.{free-count}
 use Rattle.numbers.proofs.Numbering.{numbering}
@@ -17,22 +19,23 @@ use Rattle.rows.specs.Columns as column
 use Rattle.rows.specs.Table.{wholeRows, cleared}
 use Rattle.rows.specs.Rows.{AreRows, rowsFrom, put, laid}
 use Rattle.rows.proofs.FlatLaws.{are-rows-map}
-use Rattle.rows.proofs.RunLaws.{rows-put, put-twice}
+use Rattle.rows.proofs.RunLaws.{length-put, rows-put, put-twice}
 use Rattle.rows.proofs.LaidLaws.{put-cleared}
 use Rattle.answers.specs.Rows.{Draft}
-use Rattle.answers.specs.Stages.{cell, is, asks, writes, any, faultIf, faultsAfter, unfound, ownNumbers, withCell, withNumbers, numberedRows, finds, refers, ownOfFirst, finished}
-use Rattle.answers.specs.Drafts.{encoded}
-use Rattle.drafts.specs.Fits.{AllFit}
+use Rattle.answers.specs.Stages.{cell, is, asks, writes, any, faultIf, faultsAfter, unfound, ownNumbers, withCell, withNumbers, numberedRows, finds, refers, ownOfFirst, withReferences, settled, finished}
+use Rattle.answers.specs.Drafts.{encoded, draftsFrom}
+use Rattle.answers.proofs.Settling.{settled-count}
+use Rattle.drafts.specs.Fits.{Fits, AllFit, none-fit, add-fit}
 use Rattle.drafts.specs.Sound.{Sound, AllSound, no-rows, add-row, SoundRows}
 use Rattle.names.specs.Names.{findIn, declaresMark, firstRow, Indexes}
-use Rattle.drafts.proofs.CodingLaws.{sound-fits, sound-fit, are-encoded}
+use Rattle.drafts.proofs.CodingLaws.{decoded-encoded, sound-fits, sound-fit, are-encoded, drafts-held}
 use Rattle.drafts.proofs.RowTests.{any-same}
 use Rattle.stages.proofs.RepeatFaults.{bears}
-use Rattle.finish.specs.Finish.{ownsIn, withOwns, stripped, resolved}
+use Rattle.finish.specs.Finish.{ownsIn, stripped, resolved, tableNumbered, tableSettled, DraftsIn}
 use Rattle.finish.proofs.RowLoops.{length-stripped}
 use Rattle.finish.proofs.ReferenceLaws.{length-resolved}
 use Rattle.finish.proofs.NumberedRows.{owns-encoded, with-encoded, fit-with, first-with, declares-with, writes-with, other-column, fits-with}
-use Rattle.finish.proofs.FoundNumbers.{Owns, Refers, owns-held, row-finished, finds-numbered}
+use Rattle.finish.proofs.FoundNumbers.{Owns, Refers, owns-held, row-settled, finds-numbered}
 
 -- ---- the references of the numbered drafts
 
@@ -74,14 +77,35 @@ pub data AllRefer (s : List ℕ) (ns : List Draft) : List Draft → Type 0 where
   no-references : AllRefer s ns []
   add-reference : {d : Draft} {ds : List Draft} → Refers s ns d → AllRefer s ns ds → AllRefer s ns (d ∷ ds)
 
--- ---- all rows finished
+-- ---- all references found
 
-rows-finished : (s es t : List ℕ) (ns : List Draft)
+found-encoded : (s es t : List ℕ) (ns : List Draft)
     (index : (m : ℕ) (rule : Bool) → 0 < m → findIn s es m rule ≡ firstRow (declaresMark s m rule) 0 ns) (owns : Owns t 0 ns)
     → {ds : List Draft} → AllRefer s ns ds
-    → map stripped (map (resolved s es t) (map encoded ds)) ≡ map (λ d. cond (refers s d) (set (d .row) column.A (ownOfFirst s (finds s d) ns)) (d .row)) ds
-rows-finished s es t ns index owns no-references = refl
-rows-finished s es t ns index owns (add-reference v r) = rw (row-finished s es t ns index owns v, rows-finished s es t ns index owns r)
+    → map (resolved s es t) (map encoded ds) ≡ map encoded (map (λ d. cond (refers s d) (withCell column.A (ownOfFirst s (finds s d) ns) d) d) ds)
+found-encoded s es t ns index owns no-references = refl
+found-encoded s es t ns index owns (add-reference v r) = rw (row-settled s es t ns index owns v, found-encoded s es t ns index owns r)
+
+-- rows with them fit
+fits-found : (d : Draft) (v : ℕ) → Fits d → Fits (withCell column.A v d)
+fits-found d v f =
+    let beside : (c : ℕ) → (c ≡ column.A → ⊥) → cell c (withCell column.A v d) ≡ cell c d = λ c h. getD-set-other (d .row) column.A c v 0 h in
+    omega (
+      arith,
+      f,
+      length-set (d .row) column.A v,
+      beside column.FIRST (λ e. omega arith),
+      beside column.SECOND (λ e. omega arith),
+      beside column.FLAGS (λ e. omega arith),
+    )
+
+fit-found : (b : Draft → Bool) (look : Draft → ℕ) {ds : List Draft} → AllFit ds → AllFit (map (λ d. cond (b d) (withCell column.A (look d) d) d) ds)
+fit-found b look none-fit = none-fit
+fit-found b look (add-fit {d = d} f r) = add-fit (go (b d)) (fit-found b look r)
+  where
+    go : (y : Bool) → Fits (cond y (withCell column.A (look d) d) d)
+    go true = fits-found d (look d) f
+    go false = f
 
 module _ (s : List ℕ) (all ns : List Draft) (written : (k : ℕ) → any (bears writes k) ns ≡ any (bears writes k) all) where
   -- a question that got a number
@@ -144,13 +168,33 @@ length-with (d ∷ ds) own = go (asks d) (length-with ds own) (length-with ds (d
     go false x y = ap suc x
 
 module _ (t : List ℕ) {rs : List (List ℕ)} (w : AreRows rs) (h : length rs ≤ wholeRows t) {u : List ℕ} (e : u ≡ put t 0 rs) where
-  pub rows-held : rowsFrom u 0 (length rs) ≡ rs
+  rows-held : rowsFrom u 0 (length rs) ≡ rs
   rows-held = rw e (rows-put w t 0 (omega arith))
 
   -- one that changes every row
   passed : (f : List ℕ → List ℕ) → ((r : List ℕ) → length r ≡ column.ROW → length (f r) ≡ column.ROW)
       → {u′ : List ℕ} → u′ ≡ put u 0 (map f (rowsFrom u 0 (length rs))) → u′ ≡ put t 0 (map f rs)
   passed f keeps g = g ∙ rw (rows-held, e) (put-twice w (are-rows-map f keeps w) (sym (length-map rs f)) t h)
+
+-- ---- a table that starts with drafts
+
+stripped-rows : {ds : List Draft} → AllFit ds → map stripped (map encoded ds) ≡ map (λ d. d .row) ds
+stripped-rows none-fit = refl
+stripped-rows (add-fit f r) = ap₂ _∷_ (ap (λ (d : Draft). d .row) (decoded-encoded f)) (stripped-rows r)
+
+module _ {t : List ℕ} {ds : List Draft} (v : DraftsIn t ds) where
+  pub drafts-in : draftsFrom t 0 (length ds) ≡ ds
+  drafts-in = drafts-held (v .fit) t 0 (v .held)
+
+  -- after `strip` and `rows::clear_past`
+  pub rows-laid : {t₁ t₂ : List ℕ} → t₁ ≡ put t 0 (map stripped (rowsFrom t 0 (length ds))) → t₂ ≡ cleared t₁ (length ds * column.ROW)
+      → t₂ ≡ laid (map (λ d. d .row) ds) (length t)
+  rows-laid {t₁} {t₂} one two =
+      let rs : List (List ℕ) = map stripped (map encoded ds) in
+      let many : length rs ≡ length ds = length-map (map encoded ds) stripped ∙ length-map ds encoded in
+      let made : t₁ ≡ put t 0 rs = one ∙ rw (v .held) in
+      two ∙ rw (made, ← many) (put-cleared (are-rows-map stripped length-stripped (are-encoded (v .fit))) t (rw many (v .room)))
+      ∙ ap (λ (l : List (List ℕ)). laid l (length t)) (stripped-rows (v .fit))
 
 -- ---- all passes
 
@@ -170,39 +214,55 @@ module _ {ds : List Draft} (v : SoundRows ds) (s : List ℕ) (found : unfound s 
   fewer = rw many room
 
   -- after `number_rows`
-  module _ {t₁ : List ℕ} (one : t₁ ≡ put t 0 (withOwns (given ws 1 (ownsIn (rowsFrom t 0 (length ds)))) (rowsFrom t 0 (length ds)))) where
-    table-numbered : t₁ ≡ put t 0 (map encoded (withTheirs ds))
-    table-numbered = one ∙ rw (held, owns-encoded (sound-fit (v .each)), given-numbered holds) (ap (put t 0) (with-encoded (sound-fit (v .each)) (numbered (ownNumbers ds))))
+  abbrev t₁ : List ℕ
+  t₁ = tableNumbered ws t (length ds)
 
-    rows-numbered : rowsFrom t₁ 0 (length (withTheirs ds)) ≡ map encoded (withTheirs ds)
-    rows-numbered = rw (← length-map (withTheirs ds) encoded) (rows-held t (are-encoded fit) fewer table-numbered)
+  table-numbered : t₁ ≡ put t 0 (map encoded (withTheirs ds))
+  table-numbered =
+      rw (held, owns-encoded (sound-fit (v .each)), given-numbered holds)
+      (ap (put t 0) (with-encoded (sound-fit (v .each)) (numbered (ownNumbers ds))))
 
-    -- the rows that the passes make
-    rows-made : map stripped (map (resolved s es t₁) (map encoded (withTheirs ds))) ≡ finished s ds
-    unfolding finished numberedRows unfound
-    rows-made =
-        let own : List ℕ = numbered (ownNumbers ds) in
-        rows-finished s es t₁ (withTheirs ds)
-        (λ m rule h. index .finds m rule h ∙ sym (first-with (declaresMark s m rule) (λ d x. declares-with d x s m rule) ds own 0))
-        (owns-held fit t₁ 0 rows-numbered)
-        (all-refer s ds (withTheirs ds) (writes-with (v .each) own (numbering (ownNumbers ds) .stands)) (v .each) own [] found)
+  rows-numbered : rowsFrom t₁ 0 (length (withTheirs ds)) ≡ map encoded (withTheirs ds)
+  rows-numbered = rw (← length-map (withTheirs ds) encoded) (rows-held t (are-encoded fit) fewer table-numbered)
 
-    -- after `resolve_references`
-    module _ {t₂ : List ℕ} (two : t₂ ≡ put t₁ 0 (map (resolved s es t₁) (rowsFrom t₁ 0 (length ds)))) where
-      table-resolved : t₂ ≡ put t 0 (map (resolved s es t₁) (map encoded (withTheirs ds)))
-      table-resolved = passed t (are-encoded fit) fewer table-numbered (resolved s es t₁) (length-resolved s es t₁) (rw many two)
+  -- after `resolve_references`
+  cells-settled : map (resolved s es t₁) (map encoded (withTheirs ds)) ≡ map encoded (settled s ds)
+  unfolding settled withReferences numberedRows unfound
+  cells-settled =
+      let own : List ℕ = numbered (ownNumbers ds) in
+      found-encoded s es t₁ (withTheirs ds)
+      (λ m rule h. index .finds m rule h ∙ sym (first-with (declaresMark s m rule) (λ d x. declares-with d x s m rule) ds own 0))
+      (owns-held fit t₁ 0 rows-numbered)
+      (all-refer s ds (withTheirs ds) (writes-with (v .each) own (numbering (ownNumbers ds) .stands)) (v .each) own [] found)
 
-      rows-resolved : AreRows (map (resolved s es t₁) (map encoded (withTheirs ds)))
-      rows-resolved = are-rows-map (resolved s es t₁) (length-resolved s es t₁) (are-encoded fit)
+  fit-settled : AllFit (settled s ds)
+  unfolding settled withReferences numberedRows
+  fit-settled = fit-found (refers s) (λ d. ownOfFirst s (finds s d) (withTheirs ds)) fit
 
-      -- after `strip` and `rows::clear_past`
-      pub finished-table : {t₃ t₄ : List ℕ} → t₃ ≡ put t₂ 0 (map stripped (rowsFrom t₂ 0 (length ds))) → t₄ ≡ cleared t₃ (length ds * column.ROW) → t₄ ≡ laid (finished s ds) (length t)
-      finished-table {t₃} {t₄} three four =
-          let rs : List (List ℕ) = map (resolved s es t₁) (map encoded (withTheirs ds)) in
-          let all : length rs ≡ length ds = length-map (map encoded (withTheirs ds)) (resolved s es t₁) ∙ many in
-          let made : t₃ ≡ put t 0 (map stripped rs) = passed t rows-resolved (rw all room) table-resolved stripped length-stripped (rw all three) in
-          let same : length (map stripped rs) ≡ length ds = length-map rs stripped ∙ all in
-          four ∙ rw (made, ← same) (put-cleared (are-rows-map stripped length-stripped rows-resolved) t (rw same room)) ∙ ap (λ (l : List (List ℕ)). laid l (length t)) rows-made
+  -- after `settle`
+  module _ {t₂ : List ℕ} (two : t₂ ≡ tableSettled s es ws t (length ds)) where
+    pub table-settled : t₂ ≡ put t 0 (map encoded (settled s ds))
+    unfolding tableSettled
+    table-settled = passed t (are-encoded fit) fewer table-numbered (resolved s es t₁) (length-resolved s es t₁) (rw many two) ∙ ap (put t 0) cells-settled
+
+    long : length t₂ ≡ length t
+    long = rw table-settled (length-put (are-encoded fit-settled) t 0)
+
+    -- its first rows are the settled drafts
+    pub settled-in : DraftsIn t₂ (settled s ds)
+    settled-in =
+        let all : length (map encoded (settled s ds)) ≡ length ds = length-map (settled s ds) encoded ∙ settled-count s ds in
+        record {
+          fit = fit-settled;
+          room = rw (settled-count s ds) (omega (arith, long, room));
+          held = rw (← length-map (settled s ds) encoded) (rows-held t (are-encoded fit-settled) (rw all room) table-settled);
+        }
+
+    -- after `strip` and `rows::clear_past`
+    pub finished-table : {t₃ t₄ : List ℕ} → t₃ ≡ put t₂ 0 (map stripped (rowsFrom t₂ 0 (length ds)))
+        → t₄ ≡ cleared t₃ (length ds * column.ROW) → t₄ ≡ laid (finished s ds) (length t)
+    unfolding finished
+    finished-table {t₃} three four = rw (← long) (rows-laid settled-in {t₁ = t₃} (rw (settled-count s ds) three) (rw (settled-count s ds) four))
 
   -- the numbers that the map leaves free
   pub free-finished : {ws₁ : List ℕ} → ws₁ ≡ givenMap ws 1 (ownsIn (rowsFrom t 0 (length ds))) → usedCount ws₁ + freeCount (numbered (ownNumbers ds)) ≡ 65535

@@ -13,13 +13,13 @@ use Rattle.rows.specs.Table.{rowAt, cellAt}
 use Rattle.rows.specs.Rows.{rowsFrom}
 use Rattle.numbers.proofs.Ranges.{and-yes}
 use Rattle.answers.specs.Rows.{Draft}
-use Rattle.answers.specs.Stages.{cell, is, asks, writes, any, declares, finds, refers, ownOfFirst, placeOf}
+use Rattle.answers.specs.Stages.{cell, is, asks, writes, any, withCell, declares, finds, refers, ownOfFirst, placeOf}
 use Rattle.answers.specs.Drafts.{encoded}
 use Rattle.drafts.specs.Fits.{Fits, AllFit, none-fit, add-fit}
 use Rattle.names.specs.Names.{findIn, declaresMark, firstRow}
-use Rattle.drafts.proofs.CodingLaws.{cell-encoded, set-decoded, decoded-encoded}
+use Rattle.drafts.proofs.CodingLaws.{cell-encoded, set-encoded, decoded-encoded}
 use Rattle.stages.proofs.RepeatFaults.{bears}
-use Rattle.finish.specs.Finish.{stripped, numberFound, resolved}
+use Rattle.finish.specs.Finish.{numberFound, resolved}
 
 -- ---- the own number of the first row that passes a test
 
@@ -117,12 +117,13 @@ module _ (s es t : List ℕ) (ns : List Draft)
             no-rule true r = absurd (eqb-false _ _ z (v .rule-name r))
             no-rule false r = r
 
-    -- the finished row
-    pub row-finished : stripped (resolved s es t (encoded d)) ≡ cond (refers s d) (set (d .row) column.A (ownOfFirst s (finds s d) ns)) (d .row)
+    -- the settled draft's cells
+    pub row-settled : resolved s es t (encoded d) ≡ encoded (cond (refers s d) (withCell column.A (ownOfFirst s (finds s d) ns) d) d)
     unfolding resolved
-    row-finished = rw (cell-encoded (v .fits) column.CODE refl) (go (refers s d) refl)
+    row-settled = rw (cell-encoded (v .fits) column.CODE refl) (go (refers s d) refl)
       where
         go : (b : Bool) → refers s d ≡ b
-            → stripped (cond b (set (encoded d) column.A (numberFound s es t (encoded d))) (encoded d)) ≡ cond b (set (d .row) column.A (ownOfFirst s (finds s d) ns)) (d .row)
-        go true y = set-decoded (encoded d) column.A _ refl ∙ rw (decoded-encoded (v .fits), number-found y)
-        go false y = ap (λ (x : Draft). x .row) (decoded-encoded (v .fits))
+            → cond b (set (encoded d) column.A (numberFound s es t (encoded d))) (encoded d)
+            ≡ encoded (cond b (withCell column.A (ownOfFirst s (finds s d) ns) d) d)
+        go true y = rw (number-found y) (set-encoded d column.A _ refl)
+        go false y = refl

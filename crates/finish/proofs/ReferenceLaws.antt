@@ -15,7 +15,7 @@ use Rattle.rows.proofs.RowLaws.{with-own-row}
 use Rattle.rows.proofs.CellLaws.{cell-beside}
 use Rattle.answers.specs.Drafts.{decoded}
 use Rattle.names.specs.Names.{findIn}
-use Rattle.finish.specs.Finish.{isReferenceRow, numberFound, resolved}
+use Rattle.finish.specs.Finish.{isReferenceRow, numberFound, resolved, tableNumbered, tableResolved, tableSettled}
 use Rattle.finish.proofs.RowLoops.{Mapping, mapping-start, mapping-next, mapping-end}
 
 -- ---- the number that a row finds
@@ -81,3 +81,9 @@ module _ {s es t₀ t : List ℕ} {n i : ℕ} (v : Resolving s es t₀ n t i) wh
     pub resolving-other : (eqb k code.QUESTION-REF || eqb k code.RULE-REF) ≡ false → Resolving s es t₀ n t (i + 1)
     resolving-other y =
         record { rows = mapping-next (v .rows) (length-resolved s es t₀) h (sym (ap (withRow t i) (by-test y) ∙ with-own-row t i)); owns = v .owns }
+
+-- ---- `settle`: numbering, and then this
+
+pub settles : (s es ws t : List ℕ) (n : ℕ) {t₁ t₂ : List ℕ} → t₁ ≡ tableNumbered ws t n → t₂ ≡ tableResolved s es t₁ n → t₂ ≡ tableSettled s es ws t n
+unfolding tableSettled
+settles s es ws t n one two = two ∙ ap (λ (u : List ℕ). tableResolved s es u n) one

@@ -1,15 +1,20 @@
 -- From draft rows to finished rows, row by row (document 01, "Rows").
-use Prim.Native.Nat.{ℕ, _-_}
+use Prim.Native.Nat.{ℕ, _-_, _≤_}
+use mathlib.Core.Path.{_≡_}
 use mathlib.Core.Bool.{Bool, cond, _||_}
-use mathlib.Core.List.{List, [], _∷_}
+use mathlib.Core.List.{List, [], _∷_, map}
 use lib.Dec.{eqb}
-use lib.ListN.{getD, set, drop}
+use lib.ListN.{length, getD, set, drop}
+use Rattle.numbers.specs.Numbers.{given}
 use Rattle.rows.specs.Codes as code
 use Rattle.rows.specs.Codes.{isQuestion}
 use Rattle.rows.specs.Columns as column
 use Rattle.rows.specs.Draft.{lowOf}
-use Rattle.rows.specs.Table.{cellAt}
-use Rattle.answers.specs.Drafts.{decoded}
+use Rattle.rows.specs.Table.{cellAt, wholeRows}
+use Rattle.rows.specs.Rows.{rowsFrom, put}
+use Rattle.answers.specs.Rows.{Draft}
+use Rattle.answers.specs.Drafts.{encoded, decoded}
+use Rattle.drafts.specs.Fits.{AllFit}
 use Rattle.names.specs.Names.{findIn}
 
 -- a question's row
@@ -48,3 +53,23 @@ numberFound s es t r =
 -- each reference with the number that it finds
 unfoldable pub resolved : List ℕ → List ℕ → List ℕ → List ℕ → List ℕ
 resolved s es t r = cond (isReferenceRow r) (set r column.A (numberFound s es t r)) r
+
+-- ---- settling a table t whose first n rows are draft rows
+
+-- its questions numbered, where the map ws has the written numbers
+abbrev pub tableNumbered : List ℕ → List ℕ → ℕ → List ℕ
+tableNumbered ws t n = put t 0 (withOwns (given ws 1 (ownsIn (rowsFrom t 0 n))) (rowsFrom t 0 n))
+
+-- its references with the numbers that they find, by the source s and the index es of its names
+abbrev pub tableResolved : List ℕ → List ℕ → List ℕ → ℕ → List ℕ
+tableResolved s es t n = put t 0 (map (resolved s es t) (rowsFrom t 0 n))
+
+-- both, one after the other
+unfoldable pub tableSettled : List ℕ → List ℕ → List ℕ → List ℕ → ℕ → List ℕ
+tableSettled s es ws t n = tableResolved s es (tableNumbered ws t n) n
+
+-- the first rows of the table t are the drafts ds, with their marks
+pub record DraftsIn (t : List ℕ) (ds : List Draft) : Type 0 where
+  pub fit : AllFit ds
+  pub room : length ds ≤ wholeRows t
+  pub held : rowsFrom t 0 (length ds) ≡ map encoded ds

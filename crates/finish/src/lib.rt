@@ -1,10 +1,10 @@
 // From draft rows to finished rows (document 01, Rows).
 ghost use mathlib.Core.Path.{_≡_};
 ghost use mathlib.Core.List.{map};
-ghost use Rattle.numbers.specs.Numbers.{given, givenMap};
+ghost use Rattle.numbers.specs.Numbers.{givenMap};
 ghost use Rattle.rows.specs.Table.{rowAt, withRow};
 ghost use Rattle.rows.specs.Rows.{rowsFrom, put};
-ghost use Rattle.finish.specs.Finish.{ownsIn, withOwns, halved, stripped, numberFound, resolved};
+ghost use Rattle.finish.specs.Finish.{ownsIn, halved, stripped, numberFound, tableNumbered, tableResolved, tableSettled};
 use drafts::own_mark;
 use names::find;
 use rows::cell;
@@ -20,8 +20,8 @@ use rows::draft::low;
 use rows::set_cell;
 
 // Gives the questions that write no number, in order, the smallest numbers that are not used, and uses these.
-pub fn number_rows(table: &mut [u64], count: usize, used: &mut [u64; 1024])
-    ensures { λ _. ⌜ now (table .exit) ≡ put (now (table .entry)) 0 (withOwns (given (now (used .entry)) 1 (ownsIn (rowsFrom (now (table .entry)) 0 count))) (rowsFrom (now (table .entry)) 0 count)) ⌝ }
+fn number_rows(table: &mut [u64], count: usize, used: &mut [u64; 1024])
+    ensures { λ _. ⌜ now (table .exit) ≡ tableNumbered (now (used .entry)) (now (table .entry)) count ⌝ }
     ensures { λ _. ⌜ now (used .exit) ≡ givenMap (now (used .entry)) 1 (ownsIn (rowsFrom (now (table .entry)) 0 count)) ⌝ }
 {
     let mut at = 1;
@@ -59,8 +59,8 @@ fn number_found(src: &[u8], table: &[u64], row: usize, index: &[u64]) -> u64
 }
 
 // Writes the number that each reference finds.
-pub fn resolve_references(src: &[u8], table: &mut [u64], count: usize, index: &[u64])
-    ensures { λ _. ⌜ now (table .exit) ≡ put (now (table .entry)) 0 (map (resolved (now (src .entry)) (now (index .entry)) (now (table .entry))) (rowsFrom (now (table .entry)) 0 count)) ⌝ }
+fn resolve_references(src: &[u8], table: &mut [u64], count: usize, index: &[u64])
+    ensures { λ _. ⌜ now (table .exit) ≡ tableResolved (now (src .entry)) (now (index .entry)) (now (table .entry)) count ⌝ }
 {
     let mut row = 0;
     while row < count {
@@ -73,6 +73,15 @@ pub fn resolve_references(src: &[u8], table: &mut [u64], count: usize, index: &[
             row += 1;
         }
     }
+}
+
+// Settles the draft rows: questions get their numbers, and then references those that they find. The marks stay.
+pub fn settle(src: &[u8], table: &mut [u64], count: usize, index: &[u64], used: &mut [u64; 1024])
+    ensures { λ _. ⌜ now (table .exit) ≡ tableSettled (now (src .entry)) (now (index .entry)) (now (used .entry)) (now (table .entry)) count ⌝ }
+    ensures { λ _. ⌜ now (used .exit) ≡ givenMap (now (used .entry)) 1 (ownsIn (rowsFrom (now (table .entry)) 0 count)) ⌝ }
+{
+    number_rows(table, count, used);
+    resolve_references(src, table, count, index);
 }
 
 // Keeps the lower half of a cell.

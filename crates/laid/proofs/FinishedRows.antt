@@ -3,14 +3,9 @@
 -- Assumes nothing.
 use Prim.Native.Nat.{ℕ, suc, _+_}
 use native.Mathlib.Omega.{arith}
-use mathlib.Core.Path.{_≡_, refl, sym, ap, ap₂, _∙_}
-use mathlib.Core.Logic.{_≢_}
-use mathlib.Core.Bool.{cond}
+use mathlib.Core.Path.{_≡_, sym, ap, _∙_}
 use mathlib.Core.List.{List, [], _∷_, map}
-use lib.ListN.{length, getD, set, drop}
-use lib.Seq.{getD-set-other}
-use Rattle.lexemes.proofs.Lists.{either}
-use Rattle.numbers.specs.Numbers.{numbered}
+use lib.ListN.{length, getD}
 use Rattle.rows.specs.Columns as column
 use Rattle.rows.specs.Rows.{rowsFrom, laid}
 use Rattle.rows.proofs.RunLaws.{rows-flat}
@@ -18,43 +13,17 @@ use Rattle.ll1.specs.Trees.{Trees}
 use Rattle.grammar.specs.Derivation.{Derives}
 use Rattle.grammar.specs.Source.{sourceTokens}
 use Rattle.answers.specs.Rows.{Draft}
-use Rattle.answers.specs.Stages.{cell, asks, refers, finds, ownOfFirst, ownNumbers, withNumbers, numberedRows, finished}
+use Rattle.answers.specs.Stages.{cell, finished}
 use Rattle.answers.specs.Answer.{drafts}
 use Rattle.answers.specs.Text.{rowFirstAt}
 use Rattle.answers.proofs.Demand3.{rows-whole}
 use Rattle.answers.proofs.RowPlaces.{rows-by-place}
-use Rattle.answers.proofs.FoundRows.{finished-count}
+use Rattle.answers.proofs.FoundRows.{finished-column, finished-count}
 use Rattle.laid.proofs.Held.{RowHeld, Held, held-none, held-more}
-
--- ---- what finishing leaves
 
 -- a column of rows
 abbrev across : ℕ → List (List ℕ) → List ℕ
 across c = map (λ r. getD r c 0)
-
-module _ (c : ℕ) (own : c ≢ column.OWN) (a : c ≢ column.A) where
-  numbered-column : (ns : List ℕ) (ds : List Draft) → map (cell c) (withNumbers ns ds) ≡ map (cell c) ds
-  unfolding withNumbers
-  numbered-column ns [] = refl
-  numbered-column ns (d ∷ ds) =
-      either (asks d)
-      (λ e. rw e (ap₂ _∷_ (getD-set-other (d .row) column.OWN c (getD ns 0 0) 0 own) (numbered-column (drop 1 ns) ds)))
-      (λ e. rw e (ap (_∷_ (cell c d)) (numbered-column ns ds)))
-
-  module _ (s : List ℕ) where
-    found-column :
-        (look : Draft → ℕ) (ds : List Draft)
-        → across c (map (λ d. cond (refers s d) (set (d .row) column.A (look d)) (d .row)) ds) ≡ map (cell c) ds
-    found-column look [] = refl
-    found-column look (d ∷ ds) =
-        either (refers s d)
-        (λ e. rw e (ap₂ _∷_ (getD-set-other (d .row) column.A c (look d) 0 a) (found-column look ds)))
-        (λ e. rw e (ap (_∷_ (cell c d)) (found-column look ds)))
-
-    finished-column : (ds : List Draft) → across c (finished s ds) ≡ map (cell c) ds
-    unfolding finished numberedRows
-    finished-column ds =
-        found-column (λ d. ownOfFirst s (finds s d) (numberedRows ds)) (numberedRows ds) ∙ numbered-column (numbered (ownNumbers ds)) ds
 
 -- ---- rows held by a table
 
@@ -89,6 +58,6 @@ module _ (s : List ℕ) (n : ℕ) (tree : Trees) where
       let all : rowsFrom table 0 (length (finished s ds)) ≡ finished s ds = rows-flat (rows-whole s tree derives) _ in
       let rows : rowsFrom table 0 (length ds) ≡ finished s ds = rw (finished-count s ds) at all in
       all-held table found ds 0
-      (ap (across column.CODE) rows ∙ finished-column column.CODE (λ q. omega arith) (λ q. omega arith) s ds)
-      (ap (across column.PARENT) rows ∙ finished-column column.PARENT (λ q. omega arith) (λ q. omega arith) s ds)
+      (ap (across column.CODE) rows ∙ finished-column s ds column.CODE (λ q. omega arith) (λ q. omega arith))
+      (ap (across column.PARENT) rows ∙ finished-column s ds column.PARENT (λ q. omega arith) (λ q. omega arith))
       (rows ∙ sym (rows-by-place s tree derives))

@@ -5,16 +5,16 @@ use native.Mathlib.Omega.{arith}
 use mathlib.Core.Path.{_≡_, refl, ap}
 use mathlib.Core.List.{List, map}
 use lib.ListN.{length}
-use Rattle.numbers.specs.Numbers.{numbered, freeCount, usedCount, given, givenMap}
+use Rattle.numbers.specs.Numbers.{numbered, freeCount, usedCount, givenMap}
 use Rattle.rows.specs.Columns.{ROW}
 use Rattle.rows.specs.Table.{cleared}
 use Rattle.rows.specs.Rows.{rowsFrom, put, laid}
 use Rattle.answers.specs.Rows.{Draft}
-use Rattle.answers.specs.Stages.{ownNumbers, finished}
+use Rattle.answers.specs.Stages.{ownNumbers, settled, finished}
 use Rattle.answers.specs.Drafts.{draftsFrom}
 use Rattle.answers.specs.Answer.{accepts}
-use Rattle.finish.specs.Finish.{ownsIn, withOwns, stripped, resolved}
-use Rattle.finish.proofs.Finished.{finished-table, free-finished}
+use Rattle.finish.specs.Finish.{ownsIn, stripped, tableSettled, DraftsIn}
+use Rattle.finish.proofs.Finished.{settled-in, finished-table, free-finished}
 use Rattle.read.specs.Drafted.{Ready}
 
 pub length-drafts : (t : List ℕ) (i n : ℕ) → length (draftsFrom t i n) ≡ n
@@ -29,15 +29,21 @@ module _ {s es ws t : List ℕ} {count : ℕ} (pre : Ready s es ws t count) wher
   many : length ds ≡ count
   many = length-drafts t 0 count
 
-  -- the passes over the table end with the finished rows
-  pub table-accepted : {t₁ t₂ t₃ t₄ : List ℕ}
-      → t₁ ≡ put t 0 (withOwns (given ws 1 (ownsIn (rowsFrom t 0 count))) (rowsFrom t 0 count))
-      → t₂ ≡ put t₁ 0 (map (resolved s es t₁) (rowsFrom t₁ 0 count))
-      → t₃ ≡ put t₂ 0 (map stripped (rowsFrom t₂ 0 count))
-      → t₄ ≡ cleared t₃ (count * ROW)
-      → t₄ ≡ laid (finished s ds) (length t)
-  table-accepted {t₁} {t₂} {t₃} {t₄} one two three four =
-      finished-table (pre .drafted .sound) s (pre .found) (pre .index) (pre .written) t (rw many (pre .drafted .room)) (rw many (pre .drafted .held)) {t₁ = t₁} (rw many one) {t₂ = t₂} (rw many two) {t₃ = t₃} {t₄ = t₄} (rw many three) (rw many four)
+  -- after `settle` the first rows are the settled drafts
+  pub settled-held : {t₁ : List ℕ} → t₁ ≡ tableSettled s es ws t count → DraftsIn t₁ (settled s ds)
+  settled-held {t₁} one =
+      settled-in (pre .drafted .sound) s (pre .found) (pre .index) (pre .written) t (rw many (pre .drafted .room)) (rw many (pre .drafted .held))
+      {t₂ = t₁} (rw many one)
+
+  -- and after `strip` and `rows::clear_past` the finished rows
+  pub table-accepted : {t₁ t₂ t₃ : List ℕ}
+      → t₁ ≡ tableSettled s es ws t count
+      → t₂ ≡ put t₁ 0 (map stripped (rowsFrom t₁ 0 count))
+      → t₃ ≡ cleared t₂ (count * ROW)
+      → t₃ ≡ laid (finished s ds) (length t)
+  table-accepted {t₁} {t₂} {t₃} one two three =
+      finished-table (pre .drafted .sound) s (pre .found) (pre .index) (pre .written) t (rw many (pre .drafted .room)) (rw many (pre .drafted .held))
+      {t₂ = t₁} (rw many one) {t₃ = t₂} {t₄ = t₃} (rw many two) (rw many three)
 
   -- the ones in the map and the free numbers are all that there are
   counted : {ws′ : List ℕ} → ws′ ≡ givenMap ws 1 (ownsIn (rowsFrom t 0 count)) → usedCount ws′ + freeCount (numbered (ownNumbers ds)) ≡ 65535

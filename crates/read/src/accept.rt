@@ -1,8 +1,7 @@
 // From draft rows to the answer: stages 7 to 12 and, where none refuses, the finished rows.
 use crate::Answer;
 use crate::faults::first_fault;
-use finish::number_rows;
-use finish::resolve_references;
+use finish::settle;
 use finish::strip;
 ghost use mathlib.Core.Path.{_≡_};
 ghost use Prim.Native.Nat.{_/_};
@@ -36,8 +35,7 @@ fn accept(
     ensures { λ r. ⌜ told r ≡ accepts count (freeCount (numbered (ownNumbers (draftsFrom (now (table .entry)) 0 count)))) ⌝ }
     ensures { λ _. ⌜ now (table .exit) ≡ laid (finished (now (src .entry)) (draftsFrom (now (table .entry)) 0 count)) (length (now (table .entry))) ⌝ }
 {
-    number_rows(table, count, used);
-    resolve_references(src, table, count, index);
+    settle(src, table, count, index, used);
     strip(table, count);
     rows::clear_past(table, count);
     Answer::Accepted(count, numbers::LIMIT - 1 - numbers::used_count(used))

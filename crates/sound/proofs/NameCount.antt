@@ -58,7 +58,11 @@ module _ (value : ℕ → ℕ) where
   expression-names parent (negation p e) = names-append (expressionRows value parent e) _ ∙ rw (expression-names parent e)
   expression-names parent (binary o p l r) =
       names-append (expressionRows value parent l) _
-      ∙ rw (expression-names parent l, names-append (expressionRows value parent r) (operand value parent (operatorCode o) 0 p 0 ∷ []), expression-names parent r)
+      ∙ rw (
+        expression-names parent l,
+        names-append (expressionRows value parent r) (operand value parent (operatorCode o) 0 p 0 ∷ []),
+        expression-names parent r,
+      )
 
   -- a tree's own rows
 

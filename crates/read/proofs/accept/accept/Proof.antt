@@ -1,15 +1,12 @@
--- `read::accept::accept` meets its contract: numbered, resolved and stripped, the drafts are the finished rows.
+-- `read::accept::accept` meets its contract: settled and stripped, the drafts are the finished rows.
 -- Assumes nothing.
 use Rattle.read.proofs.AcceptLaws.{used-few, free-accepted, table-accepted}
 use borrow.Author.Needs.{needs}
 use Rattle.read.proofs.accept.accept.Statement.{statement}
 use Rattle.read.proofs.accept.accept.Tie as tie
 
-number-rows-requires : tie.Need-number-rows-requires
-number-rows-requires c κs = search needs
-
-resolve-references-requires : tie.Need-resolve-references-requires
-resolve-references-requires c κs = search needs
+settle-requires : tie.Need-settle-requires
+settle-requires c κs = search needs
 
 strip-requires : tie.Need-strip-requires
 strip-requires c κs = search needs
@@ -17,33 +14,28 @@ strip-requires c κs = search needs
 clear-past-requires : tie.Need-clear-past-requires
 clear-past-requires c κs = search needs
 
-sub-t16 : tie.Need-sub-t16
-sub-t16 c = search needs
+sub-t14 : tie.Need-sub-t14
+sub-t14 c = search needs
 
 used-count-requires : tie.Need-used-count-requires
 used-count-requires c κs = search needs
 
-sub-t19 : tie.Need-sub-t19
-sub-t19 c = used-few (c .before .before .before .before .before .before .before .before .before .before .before .before .before .before .before .before .before .before .before .before .before .before .pre) (c .before .before .before .before .before .before .before .before .before .before .before .before .before .before .before .before .number-rows .ensures .1) (c .used-count .ensures)
+sub-t17 : tie.Need-sub-t17
+sub-t17 c =
+    let start = c .before .before .before .before .before .before .before .before .before .before .before .before in
+    used-few (start .before .before .before .before .before .before .pre) (start .settle .ensures .1) (c .used-count .ensures)
 
 same-length : tie.Need-same-length
 same-length c = search needs
 
 returns : tie.Need-returns
 returns c =
-    let number-rows = c .before .before .before .before .before .before .before .before .before .before .before .before .before .before .before .before .number-rows in
-    (free-accepted (c .before .before .before .before .before .before .before .before .before .before .before .before .before .before .before .before .before .before .before .before .before .before .pre) (number-rows .ensures .1) (c .used-count .ensures), table-accepted (c .before .before .before .before .before .before .before .before .before .before .before .before .before .before .before .before .before .before .before .before .before .before .pre) (number-rows .ensures .0) (c .before .before .before .before .before .before .before .before .before .before .before .before .resolve-references .ensures) (c .before .before .before .before .before .before .before .before .strip .ensures) (c .before .before .before .before .clear-past .ensures))
+    let start = c .before .before .before .before .before .before .before .before .before .before .before .before in
+    let pre = start .before .before .before .before .before .before .pre in
+    let settled = start .settle .ensures in
+    let strip = c .before .before .before .before .before .before .before .before .strip in
+    let clear-past = c .before .before .before .before .clear-past in
+    (free-accepted pre (settled .1) (c .used-count .ensures), table-accepted pre (settled .0) (strip .ensures) (clear-past .ensures))
 
 pub accept-spec : {M : Type 1} → statement M
-accept-spec =
-    tie.close
-    (tie.spec
-    number-rows-requires
-    resolve-references-requires
-    strip-requires
-    clear-past-requires
-    sub-t16
-    used-count-requires
-    sub-t19
-    same-length
-    returns)
+accept-spec = tie.close (tie.spec settle-requires strip-requires clear-past-requires sub-t14 used-count-requires sub-t17 same-length returns)

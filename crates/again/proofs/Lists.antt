@@ -5,7 +5,7 @@ use mathlib.Core.List.{List, [], _∷_, _++_, map}
 use mathlib.Core.Bool.{Bool, false}
 use Rattle.answers.specs.Rows.{Draft}
 use Rattle.answers.specs.Stages.{any}
-use Rattle.drafts.specs.Sound.{Sound, AllSound, no-rows, add-row}
+use Rattle.drafts.specs.Sound.{SoundRow, AllSound, no-rows, add-row}
 use Rattle.sound.proofs.Lists.{All, none, more}
 use Rattle.again.specs.Matches.{Pairs, no-pairs, pair}
 
@@ -30,7 +30,7 @@ pub map-each : {X Y : Type 0} (f g : X → Y) {l : List X} → All (λ x. f x �
 map-each f g none = refl
 map-each f g (more h r) = rw (h, map-each f g r)
 
-pub sound-each : {ds : List Draft} → AllSound ds → All Sound ds
+pub sound-each : {ds : List Draft} → AllSound ds → All SoundRow ds
 sound-each no-rows = none
 sound-each (add-row u r) = more u (sound-each r)
 

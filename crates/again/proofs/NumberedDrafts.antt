@@ -18,7 +18,7 @@ use Rattle.rows.specs.Columns as column
 use Rattle.ll1.proofs.Basics.{or-right}
 use Rattle.answers.specs.Rows.{Draft}
 use Rattle.answers.specs.Stages.{cell, is, asks, writes, any, placeOf, ownNumbers, withCell, withNumbers, declares, finds, ownOfFirst}
-use Rattle.drafts.specs.Sound.{Sound, AllSound}
+use Rattle.drafts.specs.Sound.{SoundRow, AllSound}
 use Rattle.drafts.proofs.RowTests.{any-same, other-code}
 use Rattle.stages.proofs.RepeatFaults.{bears}
 use Rattle.finish.proofs.NumberedRows.{other-column, writes-with}
@@ -91,7 +91,7 @@ gives-bears (to-question {v = v} e n g) = pair (got v e n) (gives-bears g)
 gives-bears (past-other e g) = pair (kept e) (gives-bears g)
 
 -- what the questions have then
-gives-numbers : {ns : List ℕ} {ds es : List Draft} → All Sound ds → Gives ns ds es → ownNumbers es ≡ ns
+gives-numbers : {ns : List ℕ} {ds es : List Draft} → All SoundRow ds → Gives ns ds es → ownNumbers es ≡ ns
 unfolding ownNumbers
 gives-numbers none gives-none = refl
 gives-numbers (more u r) (to-question {v = v} {d = d} e n g) =

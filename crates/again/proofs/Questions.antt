@@ -21,10 +21,10 @@ use Rattle.grammar.specs.Derivation.{Derives}
 use Rattle.grammar.specs.Source.{sourceTokens, numberAt}
 use Rattle.answers.specs.Rows.{Draft}
 use Rattle.answers.specs.Stages.{cell, asks, writes, any, faultIf, faultsAfter, repeatedQuestions, ownNumbers}
-use Rattle.answers.specs.Answer.{LIMIT, drafts}
+use Rattle.answers.specs.Answer.{LONGEST, drafts}
 use Rattle.answers.proofs.QuestionNumbers.{questions-few}
 use Rattle.answers.proofs.Demand3.{rows-few}
-use Rattle.drafts.specs.Sound.{Sound, AllSound, no-rows, add-row}
+use Rattle.drafts.specs.Sound.{SoundRow, AllSound, no-rows, add-row}
 use Rattle.stages.proofs.RepeatFaults.{bears}
 use Rattle.again.proofs.Faults.{no-fault}
 
@@ -69,7 +69,7 @@ earlier {before} d v k h = or-no (bears writes k d) (any (bears writes k) before
 once-before : {before : List Draft} {l : List ℕ} (d : Draft) → Once (d ∷ before) l → Once before l
 once-before d v = record { once = v .once; apart = λ k h. earlier d v k h .1 }
 
-module _ {before : List Draft} (d : Draft) (ds : List Draft) (u : Sound d) (v : Once (d ∷ before) (written (ownNumbers ds))) where
+module _ {before : List Draft} (d : Draft) (ds : List Draft) (u : SoundRow d) (v : Once (d ∷ before) (written (ownNumbers ds))) where
   once-other : asks d ≡ false → Once before (written (ownNumbers (d ∷ ds)))
   once-other e = rw (numbers-other d ds e) (once-before d v)
 
@@ -97,7 +97,7 @@ once-from (add-row {d = d} {ds = ds} u r) before e =
     let v = once-from r (d ∷ before) (t .1) in
     either (asks d) (λ q. once-question d ds u v q (cell column.OWN d) refl (t .0)) (λ q. once-other d ds u v q)
 
-module _ (s : List ℕ) (tree : Trees) (derives : Derives (sourceTokens s) tree) (short : length s ≤ LIMIT) where
+module _ (s : List ℕ) (tree : Trees) (derives : Derives (sourceTokens s) tree) (short : length s ≤ LONGEST) where
   few : length (ownNumbers (drafts s tree)) ≤ 65535
   unfolding drafts
   few = omega (arith, questions-few (numberAt s) (derives .fits), rows-few s tree derives)

@@ -19,10 +19,10 @@ use Rattle.ll1.specs.Trees.{Trees}
 use Rattle.answers.specs.Rows.{Draft}
 use Rattle.grammar.specs.Parts.{mark}
 use Rattle.answers.specs.Stages.{cell, is, asks, any, faultIf, rulesOverLimit, unfound, ownNumbers, withCell, numberedRows, finds, refers, ownOfFirst, finished}
-use Rattle.answers.specs.Answer.{LIMIT, drafts}
+use Rattle.answers.specs.Answer.{LONGEST, drafts}
 use Rattle.answers.specs.Text.{rowFirstAt}
 use Rattle.answers.specs.Demand3 as Demand3
-use Rattle.drafts.specs.Sound.{Sound, SoundRows}
+use Rattle.drafts.specs.Sound.{SoundRow, SoundRows}
 use Rattle.finish.proofs.NumberedRows.{other-column}
 use Rattle.sound.proofs.Lists.{All}
 use Rattle.sound.proofs.DraftsSound.{drafts-sound}
@@ -47,7 +47,7 @@ no-reference s d q = rw (asks-other code.QUESTION-REF question-ref-not d q, asks
 abbrev finish : List ℕ → Draft → ℕ → List ℕ
 finish s e n = cond (refers s e) (set (e .row) column.A n) (e .row)
 
-module _ (s : List ℕ) (look : ℕ → List ℕ) {d : Draft} (u : Sound d) where
+module _ (s : List ℕ) (look : ℕ → List ℕ) {d : Draft} (u : SoundRow d) where
   settled-question : (v n : ℕ) → asks d ≡ true → isNumber v ≡ true → look (cell column.PLACE d) ≡ finish s (withCell column.OWN v d) n → Settled look d
   settled-question v n q h e =
       let code-same : cell column.CODE (withCell column.OWN v d) ≡ cell column.CODE d = other-column d v column.CODE (λ z. omega arith) in
@@ -122,7 +122,7 @@ pub record Resolved (look : ℕ → List ℕ) (ds : List Draft) (d : Draft) : Ty
   pub question : is code.QUESTION-REF d ≡ true → mem (getD (look (cell column.PLACE d)) column.A 0) (numbered (ownNumbers ds)) ≡ true
   pub rule : is code.RULE-REF d ≡ true → mem (getD (look (cell column.PLACE d)) column.A 0) (ruleNumbers ds) ≡ true
 
-module _ (s : List ℕ) (tree : Trees) (sound : Demand3.Sound s tree) (short : length s ≤ LIMIT) where
+module _ (s : List ℕ) (tree : Trees) (sound : Demand3.Sound s tree) (short : length s ≤ LONGEST) where
   abbrev ds : List Draft
   ds = drafts s tree
 
@@ -143,7 +143,7 @@ module _ (s : List ℕ) (tree : Trees) (sound : Demand3.Sound s tree) (short : l
   unfolding number numberedRows
   rows = pairs-alike (all-bear s (sound-rows .each) own) (rows-by-place s tree (sound .derives) ∙ finished-numbered s ds)
 
-  module _ {d : Draft} (u : Sound d) (f : Finds s ds d) where
+  module _ {d : Draft} (u : SoundRow d) (f : Finds s ds d) where
     found-question : is code.QUESTION-REF d ≡ true → mem (number d) (numbered (ownNumbers ds)) ≡ true
     unfolding number
     found-question e = finds-question s (sound-rows .each) own d (f .target (rw e)) e
@@ -180,7 +180,7 @@ module _ (s : List ℕ) (tree : Trees) (sound : Demand3.Sound s tree) (short : l
           rule = λ r. rw (held (rw r (or-true (is code.QUESTION-REF d))) h) (found-rule r);
         }
 
-  facts : All (λ d. Sound d × Finds s ds d) ds
+  facts : All (λ d. SoundRow d × Finds s ds d) ds
   facts = all-with (λ d u f. (u, f)) (sound-each (sound-rows .each)) (all-find s ds (sound .references))
 
   pub settled : All (Settled look) ds

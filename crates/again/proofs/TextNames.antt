@@ -15,7 +15,7 @@ use Rattle.rows.specs.Codes as code
 use Rattle.rows.specs.Columns as column
 use Rattle.answers.specs.Rows.{Draft}
 use Rattle.answers.specs.Stages.{cell, is, asks, any, placeOf, faultIf, faultsAfter, sameSort, declares, repeatedNames}
-use Rattle.drafts.specs.Sound.{Sound}
+use Rattle.drafts.specs.Sound.{SoundRow}
 use Rattle.sound.proofs.Lists.{All, none, more}
 use Rattle.printing.specs.Spelling.{nameWord}
 use Rattle.printing.proofs.Digits.{decimal-injective}
@@ -59,7 +59,7 @@ module _ (t : List ℕ) {all : List Draft} {d : Draft} (v : Says t all d) where
           (λ y. y)
 
   -- any other row declares none
-  other-clean : Sound d → is code.RULE d ≡ false → (before : List Draft) → nameFaults t before d ≡ []
+  other-clean : SoundRow d → is code.RULE d ≡ false → (before : List Draft) → nameFaults t before d ≡ []
   other-clean u r before =
       either (ltb 0 (cell column.NAME d))
       (λ y.
@@ -69,7 +69,7 @@ module _ (t : List ℕ) {all : List Draft} {d : Draft} (v : Says t all d) where
       (λ y. rw y)
 
 names-from :
-    (t : List ℕ) (all : List Draft) {ds : List Draft} → All (λ d. Sound d × Says t all d) ds → {n m : ℕ} → From n (ruleNumbers ds) m
+    (t : List ℕ) (all : List Draft) {ds : List Draft} → All (λ d. SoundRow d × Says t all d) ds → {n m : ℕ} → From n (ruleNumbers ds) m
     → {before : List Draft} → All (Earlier t n) before → faultsAfter (nameFaults t) before ds ≡ []
 unfolding faultsAfter
 names-from t all none c b = refl
@@ -83,6 +83,6 @@ names-from t all (more {x = d} {l = ds} p r) {n = n} c {before = before} b =
     let here : All (Earlier t n) (d ∷ before) = more (λ h. absurd (true≢false (sym h ∙ e))) b in
     rw (other-clean t (p .1) (p .0) e before) (names-from t all r (rw (owns-not (is code.RULE) d ds e) at c) here))
 
-pub none-named-twice : (t : List ℕ) {ds : List Draft} → All (λ d. Sound d × Says t ds d) ds → {m : ℕ} → From 0 (ruleNumbers ds) m → repeatedNames t ds ≡ []
+pub none-named-twice : (t : List ℕ) {ds : List Draft} → All (λ d. SoundRow d × Says t ds d) ds → {m : ℕ} → From 0 (ruleNumbers ds) m → repeatedNames t ds ≡ []
 unfolding repeatedNames
 none-named-twice t {ds} p c = names-from t ds p c none

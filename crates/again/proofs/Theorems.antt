@@ -17,7 +17,7 @@ use Rattle.grammar.specs.Source.{sourceTokens}
 use Rattle.grammar.specs.Ranges.{outOfRange}
 use Rattle.answers.specs.Rows.{Draft, rulesIn}
 use Rattle.answers.specs.Stages.{cell, is, repeatedForms, repeatedQuestions, repeatedNames, rulesOverLimit, unfound, badChoices, ownNumbers, finished}
-use Rattle.answers.specs.Answer.{LIMIT, drafts}
+use Rattle.answers.specs.Answer.{LONGEST, drafts}
 use Rattle.answers.specs.Text.{rowFirstAt}
 use Rattle.answers.specs.Demand3.{Sound}
 use Rattle.answers.proofs.Demand3.{numbers-exactly}
@@ -39,7 +39,7 @@ use Rattle.again.proofs.TextRows.{finished-numbers, rules-same, Says, a
 use Rattle.again.proofs.TextNames.{none-named-twice}
 use Rattle.again.proofs.TextReferences.{finished-as-is, all-found}
 
-module _ (s : List ℕ) (tree : Trees) (sound : Sound s tree) (short : length s ≤ LIMIT) where
+module _ (s : List ℕ) (tree : Trees) (sound : Sound s tree) (short : length s ≤ LONGEST) where
   -- the source's draft rows, and its finished rows by their places
   abbrev ds : List Draft
   ds = drafts s tree
@@ -125,7 +125,7 @@ module _ (s : List ℕ) (tree : Trees) (sound : Sound s tree) (short : length s 
 
   -- where its rows match the source's, the text is sound too
   pub sound-again :
-      (t : List ℕ) (tree′ : Trees) → length t ≤ LIMIT → Derives (sourceTokens t) tree′ → NowhereTooDeep tree′ → outOfRange t tree′ ≡ []
+      (t : List ℕ) (tree′ : Trees) → length t ≤ LONGEST → Derives (sourceTokens t) tree′ → NowhereTooDeep tree′ → outOfRange t tree′ ≡ []
       → Pairs (Match t look) (drafts t tree′) ds → Sound t tree′
   sound-again t tree′ short′ derives depths ranges matches =
       record {

@@ -16,7 +16,7 @@ use Rattle.ll1.specs.Trees.{Trees}
 use Rattle.ll1.specs.Verdict.{ends-early, refused}
 use Rattle.answers.specs.Rows.{Draft}
 use Rattle.answers.specs.Stages.{repeatedForms, repeatedQuestions, repeatedNames, rulesOverLimit, unfound, badChoices, ownNumbers, finished}
-use Rattle.answers.specs.Answer.{LIMIT, Answer, refuses, accepts, stage, answerOf, drafts}
+use Rattle.answers.specs.Answer.{LONGEST, Answer, refuses, accepts, stage, answerOf, drafts}
 use Rattle.answers.specs.WholeAnswer.{Checked, refusal, derived, checked, readAnswer, rowsOf, readTable}
 use Rattle.answers.specs.Text.{resolvedText}
 use Rattle.answers.specs.Resolution.{textOfSource}
@@ -42,7 +42,7 @@ pub passes-room : {s : List ℕ} {n : ℕ} {tree : Trees} → PassesAll s n tree
 passes-room (to-12 (to-11 (to-10 (to-9 (to-8 (to-7 (to-6 p h) e₇) e₈) e₉) e₁₀) e₁₁) e₁₂) = h
 
 -- it is sound, and a sound one passes where there is room
-pub sound-passes : {s : List ℕ} {n : ℕ} {tree : Trees} → Sound s tree → length s ≤ LIMIT → length (drafts s tree) ≤ n / ROW → PassesAll s n tree
+pub sound-passes : {s : List ℕ} {n : ℕ} {tree : Trees} → Sound s tree → length s ≤ LONGEST → length (drafts s tree) ≤ n / ROW → PassesAll s n tree
 sound-passes d short room =
     let with-rows = to-6 (to-5 (to-4 (record { short = short; derives = d .derives; depths = d .depths })) (d .ranges)) room in
     to-12 (to-11 (to-10 (to-9 (to-8 (to-7 with-rows (d .forms)) (d .questions)) (d .names)) (d .limit)) (d .references)) (d .choices)

@@ -19,7 +19,7 @@ use Rattle.grammar.specs.Derivation.{Derives, SourceSays}
 use Rattle.grammar.specs.Reading.{derivation}
 use Rattle.grammar.specs.Source.{sourceTokens}
 use Rattle.grammar.specs.Ranges.{outOfRange}
-use Rattle.answers.specs.Answer.{LIMIT, refuses}
+use Rattle.answers.specs.Answer.{LONGEST, refuses}
 use Rattle.answers.specs.WholeAnswer.{Checked, refusal, derived, ranged, parsed, checked}
 use Rattle.answers.specs.Demand3.{Grammatical, to-4, Refuses, source-too-long, bad-token, no-text-starts-so, source-ends-early, opens-too-many, number-outside}
 use Rattle.grammar.proofs.Theorems.{verdict-right, verdict-only, derivation-exactly}
@@ -46,17 +46,17 @@ module _ (s : List ℕ) where
       by (At p) e = absurd (no-derivation-with-bad s p e tree d)
       by Nothing e = refl
 
-  pub checked-1 : LIMIT < length s → checked s ≡ refusal 1 0
+  pub checked-1 : LONGEST < length s → checked s ≡ refusal 1 0
   unfolding checked
-  checked-1 h = rw (lt-ltb LIMIT (length s) h, checked)
+  checked-1 h = rw (lt-ltb LONGEST (length s) h, checked)
 
-  pub checked-2 : (p : ℕ) → length s ≤ LIMIT → firstBad s ≡ At p → checked s ≡ refusal 2 p
+  pub checked-2 : (p : ℕ) → length s ≤ LONGEST → firstBad s ≡ At p → checked s ≡ refusal 2 p
   unfolding checked
-  checked-2 p h e = rw (le-ltb LIMIT (length s) h, e, checked)
+  checked-2 p h e = rw (le-ltb LONGEST (length s) h, e, checked)
 
-  pub checked-parsed : (v : Verdict) → length s ≤ LIMIT → firstBad s ≡ Nothing → SourceSays (sourceTokens s) v → checked s ≡ parsed s v (derivation (sourceTokens s))
+  pub checked-parsed : (v : Verdict) → length s ≤ LONGEST → firstBad s ≡ Nothing → SourceSays (sourceTokens s) v → checked s ≡ parsed s v (derivation (sourceTokens s))
   unfolding checked
-  checked-parsed v h e w = rw (le-ltb LIMIT (length s) h, e, verdict-only (sourceTokens s) v w, checked)
+  checked-parsed v h e w = rw (le-ltb LONGEST (length s) h, e, verdict-only (sourceTokens s) v w, checked)
 
   checked-ranged : (tree : Trees) → Grammatical s tree → checked s ≡ ranged s tree
   checked-ranged tree g =
@@ -74,7 +74,7 @@ module _ (s : List ℕ) where
 
 -- a refusal, whatever table is lent, or a derivation
 pub data Decided (s : List ℕ) : Checked → Type 0 where
-  stopped : (k p : ℕ) → (1 ≤ k) × (k ≤ 5) × (p ≤ LIMIT) → ((n : ℕ) → Refuses s n (refuses k p)) → Decided s (refusal k p)
+  stopped : (k p : ℕ) → (1 ≤ k) × (k ≤ 5) × (p ≤ LONGEST) → ((n : ℕ) → Refuses s n (refuses k p)) → Decided s (refusal k p)
   passed : {tree : Trees} → Grammatical s tree → outOfRange s tree ≡ [] → Decided s (derived tree)
 
 module _ (s : List ℕ) where
@@ -84,7 +84,7 @@ module _ (s : List ℕ) where
       (λ e. rw (checked-derived s tree g e) (passed g e))
       (λ p later e. rw (checked-5 s tree p later g e) (stopped 5 p (omega (arith, outside-within s tree p later (g .derives) e)) (λ n. number-outside (to-4 g) e)))
 
-  without-bad : {v : Verdict} → length s ≤ LIMIT → firstBad s ≡ Nothing → SourceSays (sourceTokens s) v → Decided s (checked s)
+  without-bad : {v : Verdict} → length s ≤ LONGEST → firstBad s ≡ Nothing → SourceSays (sourceTokens s) v → Decided s (checked s)
   without-bad h e (is-text a) = with-derivation (a .tree) (record { short = h; derives = a .derives; depths = a .allowed })
   without-bad h e (is-unfinished starts none-is) =
       let w = is-unfinished starts none-is in
@@ -98,10 +98,10 @@ module _ (s : List ℕ) where
 
   pub decided : Decided s (checked s)
   decided =
-      either (ltb LIMIT (length s))
-      (λ l. let h = ltb-true LIMIT (length s) l in rw (checked-1 s h) (stopped 1 0 (omega arith) (λ n. source-too-long h)))
-      (λ l. short (ltb-false LIMIT (length s) l) (firstBad s) refl)
+      either (ltb LONGEST (length s))
+      (λ l. let h = ltb-true LONGEST (length s) l in rw (checked-1 s h) (stopped 1 0 (omega arith) (λ n. source-too-long h)))
+      (λ l. short (ltb-false LONGEST (length s) l) (firstBad s) refl)
     where
-      short : length s ≤ LIMIT → (r : Found) → firstBad s ≡ r → Decided s (checked s)
+      short : length s ≤ LONGEST → (r : Found) → firstBad s ≡ r → Decided s (checked s)
       short h (At p) e = rw (checked-2 s p h e) (stopped 2 p (omega (arith, bad-within s p e)) (λ n. bad-token h e))
       short h Nothing e = without-bad h e (verdict-right (sourceTokens s))

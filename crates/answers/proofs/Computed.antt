@@ -5,7 +5,7 @@ use mathlib.Core.Bool.{cond}
 use lib.Dec.{eqb}
 use Prim.Native.Nat.{ℕ}
 use Rattle.lexemes.specs.Lexemes.{signs, reserved, lexemes}
-use Rattle.lexemes.specs.Words.{run, all, same, placeOf, sameWord}
+use Rattle.lexemes.specs.Words.{run, all, same, placeAmong, sameWord}
 use Rattle.lex.specs.Tokens.{isGap, inComment, gap, wordClass, wordToken, signClass, signToken, tokenFrom, tokenAfterGap, tokensWithin, tokensFrom, tokens, badAmong, firstBad}
 use Rattle.values.specs.Numbers.{isHex}
 use Rattle.values.specs.Numbers.{valueFrom, numeral, valueAt, digitsAt}
@@ -32,7 +32,7 @@ pub record Outcome : Type 0 where
 
 -- reading the source into n numbers
 unfoldable pub outcomeIn : ℕ → List ℕ → Outcome
-unfolding signs reserved run all same placeOf isGap inComment gap isHex wordClass wordToken signClass signToken tokenFrom tokenAfterGap tokensWithin tokensFrom tokens badAmong firstBad sameWord valueFrom numeral valueAt digitsAt picked freeFrom fill numbered mem member questions isQuestion machine.run parser.derivation productions rules lookahead verdictFrom derivation grammarTokens sourceTokens numberAt expression ranges rangeOf keeps outOfRange any faultsAfter repeatedForms repeatedQuestions repeatedNames rulesOverLimit unfound badChoices ownNumbers withNumbers numberedRows ownOfFirst withReferences settled finished checked answerOf drafts readAnswer rowsOf
+unfolding signs reserved run all same placeAmong isGap inComment gap isHex wordClass wordToken signClass signToken tokenFrom tokenAfterGap tokensWithin tokensFrom tokens badAmong firstBad sameWord valueFrom numeral valueAt digitsAt picked freeFrom fill numbered mem member questions isQuestion machine.run parser.derivation productions rules lookahead verdictFrom derivation grammarTokens sourceTokens numberAt expression ranges rangeOf keeps outOfRange any faultsAfter repeatedForms repeatedQuestions repeatedNames rulesOverLimit unfound badChoices ownNumbers withNumbers numberedRows ownOfFirst withReferences settled finished checked answerOf drafts readAnswer rowsOf
 outcomeIn n s =
     let a = readAnswer s n in
     record { answer = a; rows = cond (eqb (a .number) 0) (rowsOf s) [] }
@@ -43,12 +43,12 @@ outcome s = outcomeIn 120 s
 
 -- the rows alone
 unfoldable pub rowsRead : List ℕ → List (List ℕ)
-unfolding signs reserved run all same placeOf isGap inComment gap isHex wordClass wordToken signClass signToken tokenFrom tokenAfterGap tokensWithin tokensFrom tokens badAmong firstBad sameWord valueFrom numeral valueAt digitsAt picked freeFrom fill numbered mem member questions isQuestion machine.run parser.derivation productions rules lookahead verdictFrom derivation grammarTokens sourceTokens numberAt expression ranges rangeOf keeps outOfRange any faultsAfter repeatedForms repeatedQuestions repeatedNames rulesOverLimit unfound badChoices ownNumbers withNumbers numberedRows ownOfFirst withReferences settled finished checked answerOf drafts readAnswer rowsOf
+unfolding signs reserved run all same placeAmong isGap inComment gap isHex wordClass wordToken signClass signToken tokenFrom tokenAfterGap tokensWithin tokensFrom tokens badAmong firstBad sameWord valueFrom numeral valueAt digitsAt picked freeFrom fill numbered mem member questions isQuestion machine.run parser.derivation productions rules lookahead verdictFrom derivation grammarTokens sourceTokens numberAt expression ranges rangeOf keeps outOfRange any faultsAfter repeatedForms repeatedQuestions repeatedNames rulesOverLimit unfound badChoices ownNumbers withNumbers numberedRows ownOfFirst withReferences settled finished checked answerOf drafts readAnswer rowsOf
 rowsRead s = rowsOf s
 
 -- what refusal 11 names; of a source that an earlier stage refuses, the place 0
 unfoldable pub unfoundRead : List ℕ → List ℕ
-unfolding signs reserved run all same placeOf isGap inComment gap isHex wordClass wordToken signClass signToken tokenFrom tokenAfterGap tokensWithin tokensFrom tokens badAmong firstBad sameWord valueFrom numeral valueAt digitsAt picked freeFrom fill numbered mem member questions isQuestion machine.run parser.derivation productions rules lookahead verdictFrom derivation grammarTokens sourceTokens numberAt expression ranges rangeOf keeps outOfRange any faultsAfter repeatedForms repeatedQuestions repeatedNames rulesOverLimit unfound badChoices ownNumbers withNumbers numberedRows ownOfFirst withReferences settled finished checked answerOf drafts readAnswer rowsOf
+unfolding signs reserved run all same placeAmong isGap inComment gap isHex wordClass wordToken signClass signToken tokenFrom tokenAfterGap tokensWithin tokensFrom tokens badAmong firstBad sameWord valueFrom numeral valueAt digitsAt picked freeFrom fill numbered mem member questions isQuestion machine.run parser.derivation productions rules lookahead verdictFrom derivation grammarTokens sourceTokens numberAt expression ranges rangeOf keeps outOfRange any faultsAfter repeatedForms repeatedQuestions repeatedNames rulesOverLimit unfound badChoices ownNumbers withNumbers numberedRows ownOfFirst withReferences settled finished checked answerOf drafts readAnswer rowsOf
 unfoundRead s = elim (checked s) [ refusal k p ↦ 0 ∷ [] | derived f ↦ unfound s (drafts s f) ]
 
 -- what resolving it through n numbers into m bytes answers, and its text
@@ -57,10 +57,10 @@ pub record Resolved : Type 0 where
   pub text : List ℕ
 
 unfoldable pub resolvedIn : ℕ → ℕ → List ℕ → Resolved
-unfolding signs reserved lexemes run all same placeOf isGap inComment gap isHex wordClass wordToken signClass signToken tokenFrom tokenAfterGap tokensWithin tokensFrom tokens badAmong firstBad sameWord valueFrom numeral valueAt digitsAt picked freeFrom fill numbered mem member questions isQuestion machine.run parser.derivation productions rules lookahead verdictFrom derivation grammarTokens sourceTokens numberAt expression ranges rangeOf keeps outOfRange any faultsAfter repeatedForms repeatedQuestions repeatedNames rulesOverLimit unfound badChoices ownNumbers withNumbers numberedRows ownOfFirst withReferences settled finished checked answerOf drafts readAnswer rowsOf decimalDigits hexDigits textOf rowFirstAt resolvedText textOfSource resolution
+unfolding signs reserved lexemes run all same placeAmong isGap inComment gap isHex wordClass wordToken signClass signToken tokenFrom tokenAfterGap tokensWithin tokensFrom tokens badAmong firstBad sameWord valueFrom numeral valueAt digitsAt picked freeFrom fill numbered mem member questions isQuestion machine.run parser.derivation productions rules lookahead verdictFrom derivation grammarTokens sourceTokens numberAt expression ranges rangeOf keeps outOfRange any faultsAfter repeatedForms repeatedQuestions repeatedNames rulesOverLimit unfound badChoices ownNumbers withNumbers numberedRows ownOfFirst withReferences settled finished checked answerOf drafts readAnswer rowsOf decimalDigits hexDigits textOf rowFirstAt resolvedText textOfSource resolution
 resolvedIn n m s = record { answer = resolution s n m; text = textOfSource s }
 
 -- the text alone
 unfoldable pub textRead : List ℕ → List ℕ
-unfolding signs reserved lexemes run all same placeOf isGap inComment gap isHex wordClass wordToken signClass signToken tokenFrom tokenAfterGap tokensWithin tokensFrom tokens badAmong firstBad sameWord valueFrom numeral valueAt digitsAt picked freeFrom fill numbered mem member questions isQuestion machine.run parser.derivation productions rules lookahead verdictFrom derivation grammarTokens sourceTokens numberAt expression ranges rangeOf keeps outOfRange any faultsAfter repeatedForms repeatedQuestions repeatedNames rulesOverLimit unfound badChoices ownNumbers withNumbers numberedRows ownOfFirst withReferences settled finished checked answerOf drafts readAnswer rowsOf decimalDigits hexDigits textOf rowFirstAt resolvedText textOfSource
+unfolding signs reserved lexemes run all same placeAmong isGap inComment gap isHex wordClass wordToken signClass signToken tokenFrom tokenAfterGap tokensWithin tokensFrom tokens badAmong firstBad sameWord valueFrom numeral valueAt digitsAt picked freeFrom fill numbered mem member questions isQuestion machine.run parser.derivation productions rules lookahead verdictFrom derivation grammarTokens sourceTokens numberAt expression ranges rangeOf keeps outOfRange any faultsAfter repeatedForms repeatedQuestions repeatedNames rulesOverLimit unfound badChoices ownNumbers withNumbers numberedRows ownOfFirst withReferences settled finished checked answerOf drafts readAnswer rowsOf decimalDigits hexDigits textOf rowFirstAt resolvedText textOfSource
 textRead s = textOfSource s

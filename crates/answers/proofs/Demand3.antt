@@ -19,7 +19,7 @@ use Rattle.ll1.specs.Trees.{Trees}
 use Rattle.grammar.specs.Derivation.{Derives}
 use Rattle.grammar.specs.Source.{sourceTokens, numberAt}
 use Rattle.answers.specs.Stages.{ownNumbers, finished}
-use Rattle.answers.specs.Answer.{LIMIT, Answer, refuses, accepts, drafts}
+use Rattle.answers.specs.Answer.{LONGEST, Answer, refuses, accepts, drafts}
 use Rattle.answers.specs.WholeAnswer.{quickCheck, readAnswer, rowsOf, readTable}
 use Rattle.answers.specs.Demand3.{Sound, PassesAll, Refuses, questionNumbers, GetsSmallest}
 use Rattle.grammar.proofs.Theorems.{one-derivation}
@@ -60,7 +60,7 @@ module _ (s : List ℕ) where
 
   -- whatever table is lent, reading accepts exactly when the source is no longer than 65,536 bytes, has a derivation whose depths, ranges, 255-rule
   -- limit, uniqueness, reference and choice rules hold, and its rows are no more than the whole rows lent
-  pub accepts-with-room : (n : ℕ) → (readAnswer s n .number ≡ 0) ↔ ((tree : Trees) × Sound s tree × (length s ≤ LIMIT) × (length (drafts s tree) ≤ n / ROW))
+  pub accepts-with-room : (n : ℕ) → (readAnswer s n .number ≡ 0) ↔ ((tree : Trees) × Sound s tree × (length s ≤ LONGEST) × (length (drafts s tree) ≤ n / ROW))
   accepts-with-room n =
       let w = accepts-passing n in (
         λ e. let f = w .0 e in (f .0, passes-sound (f .1), passes-grammatical (f .1) .short, passes-room (f .1)),
@@ -68,7 +68,7 @@ module _ (s : List ℕ) where
       )
 
   -- a source of at most 65,536 bytes, and a table of at least as many whole rows as the source has bytes: then there is room
-  pub accepts-exactly : (n : ℕ) → length s ≤ LIMIT → length s * ROW ≤ n → (readAnswer s n .number ≡ 0) ↔ ((tree : Trees) × Sound s tree)
+  pub accepts-exactly : (n : ℕ) → length s ≤ LONGEST → length s * ROW ≤ n → (readAnswer s n .number ≡ 0) ↔ ((tree : Trees) × Sound s tree)
   accepts-exactly n short large =
       let w = accepts-with-room n in
       (λ e. let f = w .0 e in (f .0, f .1), λ f. w .1 (f .0, f .1, short, omega (arith, rows-few (f .0) (f .1 .derives))))
@@ -106,12 +106,12 @@ module _ (s : List ℕ) where
     pub numbers-exactly : questionNumbers (finished s (drafts s tree)) ≡ numbered (ownNumbers (drafts s tree))
     numbers-exactly = question-numbers s (drafts s tree) wide
 
-    own-few : length s ≤ LIMIT → length (ownNumbers (drafts s tree)) ≤ 65535
+    own-few : length s ≤ LONGEST → length (ownNumbers (drafts s tree)) ≤ 65535
     unfolding drafts
     own-few short = omega (arith, questions-few (numberAt s) (derives .fits), rows-few tree derives)
 
     -- "The i-th question without a written number gets the i-th smallest number, from 1 up, that no question writes, later lines included"
-    pub numbers-smallest : length s ≤ LIMIT → GetsSmallest (ownNumbers (drafts s tree)) (questionNumbers (finished s (drafts s tree)))
+    pub numbers-smallest : length s ≤ LONGEST → GetsSmallest (ownNumbers (drafts s tree)) (questionNumbers (finished s (drafts s tree)))
     numbers-smallest short = rw numbers-exactly (gets-smallest (ownNumbers (drafts s tree)) _ (own-few short) (numbering (ownNumbers (drafts s tree))))
 
   -- ---- an accepted source, whatever table is lent

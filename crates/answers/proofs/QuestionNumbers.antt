@@ -11,7 +11,7 @@ use lib.ListN.{length, getD, set, take}
 use lib.Seq.{getD-set-same, getD-set-other}
 use borrow.Author.Tests.{ne-eqb, lt-ltb, not-true}
 use Rattle.lexemes.proofs.Lists.{either}
-use Rattle.numbers.specs.Numbers.{limit, isNumber, picked, freeFrom, mem, borne, freeNumbers, freeCount, unwritten, numbered}
+use Rattle.numbers.specs.Numbers.{numberLimit, isNumber, picked, freeFrom, mem, borne, freeNumbers, freeCount, unwritten, numbered}
 use Rattle.numbers.proofs.Ranges.{and-yes, one, pick-no, count-none, count-next, count-add, pick-index}
 use Rattle.numbers.proofs.FreeNumbers.{number-range, free-exactly}
 use Rattle.numbers.proofs.Lists.{mem-getD, unwritten-before}
@@ -104,8 +104,8 @@ module _ (l : List ℕ) where
   abbrev isFree : ℕ → Bool
   isFree k = isNumber k && not (borne l k)
 
-  free-test : (k : ℕ) → k < limit → (ltb 0 k && not (mem k l)) ≡ isFree k
-  free-test k h = rw (lt-ltb k limit h) (go (ltb 0 k))
+  free-test : (k : ℕ) → k < numberLimit → (ltb 0 k && not (mem k l)) ≡ isFree k
+  free-test k h = rw (lt-ltb k numberLimit h) (go (ltb 0 k))
     where
       go : (b : Bool) → (b && not (mem k l)) ≡ (b && true && not (b && true && mem k l))
       go true = refl
@@ -115,7 +115,7 @@ module _ (l : List ℕ) where
   one-more true n = omega arith
   one-more false n = omega arith
 
-  below-picked : (n : ℕ) → n ≤ limit → unwrittenBelow l n ≡ length (picked isFree 0 n)
+  below-picked : (n : ℕ) → n ≤ numberLimit → unwrittenBelow l n ≡ length (picked isFree 0 n)
   unfolding unwrittenBelow
   below-picked zero h = sym (count-none isFree 0)
   below-picked (suc n) h =

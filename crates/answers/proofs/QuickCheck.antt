@@ -12,7 +12,7 @@ use Rattle.rows.specs.Columns.{ROW}
 use Rattle.ll1.specs.Trees.{Trees}
 use Rattle.answers.specs.Rows.{Draft}
 use Rattle.answers.specs.Stages.{repeatedForms, repeatedQuestions, repeatedNames, rulesOverLimit, unfound, badChoices}
-use Rattle.answers.specs.Answer.{LIMIT, Answer, refuses, stage, answerOf, drafts}
+use Rattle.answers.specs.Answer.{LONGEST, Answer, refuses, stage, answerOf, drafts}
 use Rattle.answers.specs.WholeAnswer.{Checked, refusal, derived, checked, quickCheck, readAnswer}
 use Rattle.answers.specs.Demand3.{to-4, to-5}
 use Rattle.answers.proofs.Checks.{Decided, stopped, passed, decided}
@@ -53,7 +53,7 @@ module _ (s : List ℕ) where
   quick-derived tree e = rw (e, quickCheck)
 
   data Agree : Type 0 where
-    both-refuse : (k p : ℕ) → (1 ≤ k) × (k ≤ 5) × (p ≤ LIMIT) → quickCheck s ≡ k * 2 ^ 32 + p → ((n : ℕ) → readAnswer s n ≡ refuses k p) → Agree
+    both-refuse : (k p : ℕ) → (1 ≤ k) × (k ≤ 5) × (p ≤ LONGEST) → quickCheck s ≡ k * 2 ^ 32 + p → ((n : ℕ) → readAnswer s n ≡ refuses k p) → Agree
     both-pass : quickCheck s ≡ 0 → ((n : ℕ) → (readAnswer s n .number ≡ 0) ⊎ (6 ≤ readAnswer s n .number)) → Agree
 
   agree : Agree

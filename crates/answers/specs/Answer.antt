@@ -12,8 +12,8 @@ use Rattle.answers.specs.Rows.{Draft, draftsOf}
 use Rattle.answers.specs.Stages.{placeOf, repeatedForms, repeatedQuestions, repeatedNames, rulesOverLimit, unfound, badChoices, ownNumbers}
 
 -- the longest source
-abbrev pub LIMIT : ℕ
-LIMIT = 65536
+abbrev pub LONGEST : ℕ
+LONGEST = 65536
 
 -- number, place, row count and free count
 pub record Answer : Type 0 where

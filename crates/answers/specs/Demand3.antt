@@ -19,7 +19,7 @@ use Rattle.grammar.specs.Derivation.{Derives, NowhereTooDeep, SourceSays}
 use Rattle.grammar.specs.Source.{sourceTokens}
 use Rattle.grammar.specs.Ranges.{outOfRange}
 use Rattle.answers.specs.Stages.{placeOf, repeatedForms, repeatedQuestions, repeatedNames, rulesOverLimit, unfound, badChoices}
-use Rattle.answers.specs.Answer.{LIMIT, Answer, refuses, needs, drafts}
+use Rattle.answers.specs.Answer.{LONGEST, Answer, refuses, needs, drafts}
 
 -- the tree is a derivation of the source, and "its depths, ranges, 255-rule limit, uniqueness, reference and choice rules hold"
 pub record Sound (s : List ℕ) (tree : Trees) : Type 0 where
@@ -43,7 +43,7 @@ pub record Sound (s : List ℕ) (tree : Trees) : Type 0 where
 
 -- no stage of No. 1 to 4 refuses the source, and the tree is its derivation
 pub record Grammatical (s : List ℕ) (tree : Trees) : Type 0 where
-  pub short : length s ≤ LIMIT
+  pub short : length s ≤ LONGEST
   pub derives : Derives (sourceTokens s) tree
   pub depths : NowhereTooDeep tree
 
@@ -67,14 +67,14 @@ PassesAll s n tree = Passes s n tree 12
 -- token": a stage lists its faults in source order, so that the earliest is the first of its list. "A refusal's counts are 0 except as shown".
 pub data Refuses (s : List ℕ) (n : ℕ) : Answer → Type 0 where
   -- 1 | source over 65,536 bytes | 0
-  source-too-long : LIMIT < length s → Refuses s n (refuses 1 0)
+  source-too-long : LONGEST < length s → Refuses s n (refuses 1 0)
   -- 2 | bad token | its first byte
-  bad-token : {p : ℕ} → length s ≤ LIMIT → firstBad s ≡ At p → Refuses s n (refuses 2 p)
+  bad-token : {p : ℕ} → length s ≤ LONGEST → firstBad s ≡ At p → Refuses s n (refuses 2 p)
   -- 3 | depths aside, no text of the grammar starts with the tokens up to this one, or the source ends early | token, or source length
-  no-text-starts-so : {p : ℕ} → length s ≤ LIMIT → firstBad s ≡ Nothing → SourceSays (sourceTokens s) (refused 3 p) → Refuses s n (refuses 3 p)
-  source-ends-early : length s ≤ LIMIT → firstBad s ≡ Nothing → SourceSays (sourceTokens s) ends-early → Refuses s n (refuses 3 (length s))
+  no-text-starts-so : {p : ℕ} → length s ≤ LONGEST → firstBad s ≡ Nothing → SourceSays (sourceTokens s) (refused 3 p) → Refuses s n (refuses 3 p)
+  source-ends-early : length s ≤ LONGEST → firstBad s ≡ Nothing → SourceSays (sourceTokens s) ends-early → Refuses s n (refuses 3 (length s))
   -- 4 | a token that passes 3 opens a depth too many (same stage as 3) | that token
-  opens-too-many : {p : ℕ} → length s ≤ LIMIT → firstBad s ≡ Nothing → SourceSays (sourceTokens s) (refused 4 p) → Refuses s n (refuses 4 p)
+  opens-too-many : {p : ℕ} → length s ≤ LONGEST → firstBad s ≡ Nothing → SourceSays (sourceTokens s) (refused 4 p) → Refuses s n (refuses 4 p)
   -- 5 | number outside its place: .. | number
   number-outside : {tree : Trees} {p : ℕ} {ps : List ℕ} → Passes s n tree 4 → outOfRange s tree ≡ p ∷ ps → Refuses s n (refuses 5 p)
   -- 6 | more rows than whole rows lent | 0; row count is the need

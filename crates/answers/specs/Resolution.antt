@@ -6,7 +6,7 @@ use mathlib.Core.List.{List, [], _++_}
 use lib.Dec.{eqb, ltb}
 use lib.ListN.{length, replicate}
 use Rattle.rows.specs.Rows.{laid}
-use Rattle.answers.specs.Answer.{LIMIT, Answer}
+use Rattle.answers.specs.Answer.{LONGEST, Answer}
 use Rattle.answers.specs.WholeAnswer.{refusal, derived, checked, readAnswer, rowsOf}
 use Rattle.answers.specs.Text.{resolvedText}
 
@@ -24,7 +24,7 @@ pub record Resolution : Type 0 where
 
 -- the longest text for m bytes lent
 abbrev pub room : ℕ → ℕ
-room m = min m LIMIT
+room m = min m LONGEST
 
 -- 13: resolved text longer than the lent output or 65,536 bytes; row count is then the bytes needed
 abbrev pub resolvedInto : ℕ → ℕ → Answer → Resolution

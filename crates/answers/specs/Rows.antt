@@ -33,8 +33,8 @@ abbrev pub rowWith : ℕ → ℕ → ℕ → List Entry → List ℕ
 rowWith code parent place entries = filled (column.CODE ≔ code ∷ column.PARENT ≔ parent ∷ column.PLACE ≔ place ∷ entries)
 
 -- a row that names nothing
-abbrev pub plain : List ℕ → Draft
-plain r = record { row = r; ownAt = 0; limitAt = 0; defaultAt = 0 }
+abbrev pub withoutMarks : List ℕ → Draft
+withoutMarks r = record { row = r; ownAt = 0; limitAt = 0; defaultAt = 0 }
 
 -- ---- what is counted
 
@@ -91,11 +91,11 @@ module _ (number-at : ℕ → ℕ) where
       let p = placeAt 0 c in
       getD (
       -- subtitle text = STR ;
-      plain (rowWith code.SUBTITLE parent p (column.FIRST ≔ string subtitle·text c ∷ []))
+      withoutMarks (rowWith code.SUBTITLE parent p (column.FIRST ≔ string subtitle·text c ∷ []))
       -- text help = STR , text = STR ;
-      ∷ plain (rowWith code.TEXT parent p (column.FIRST ≔ string text·text c ∷ column.SECOND ≔ string text·help c ∷ []))
+      ∷ withoutMarks (rowWith code.TEXT parent p (column.FIRST ≔ string text·text c ∷ column.SECOND ≔ string text·help c ∷ []))
       -- label N ;
-      ∷ plain (rowWith code.LABEL parent p (column.OWN ≔ value label·number c ∷ []))
+      ∷ withoutMarks (rowWith code.LABEL parent p (column.OWN ≔ value label·number c ∷ []))
       -- goto N , HEAD [, flags = FL] ;
       ∷ question code.GOTO parent p (child goto·head c)
       (column.FLAGS ≔ flags (child goto·flags c)
@@ -122,11 +122,11 @@ module _ (number-at : ℕ → ℕ) where
       -- oneof HEAD , [flags = FL ,] option+ endoneof ;
       ∷ question code.ONE-OF parent p (child oneof·head c) (column.FLAGS ≔ flags (child oneof·flags c) ∷ []) 0 0
       -- suppressif, grayoutif or disableif, expression ; item* endif ;
-      ∷ plain (rowWith code.SUPPRESS-IF parent p [])
-      ∷ plain (rowWith code.GRAY-OUT-IF parent p [])
-      ∷ plain (rowWith code.DISABLE-IF parent p [])
+      ∷ withoutMarks (rowWith code.SUPPRESS-IF parent p [])
+      ∷ withoutMarks (rowWith code.GRAY-OUT-IF parent p [])
+      ∷ withoutMarks (rowWith code.DISABLE-IF parent p [])
       ∷ [])
-      i (plain [])
+      i (withoutMarks [])
 
   -- option text = STR , value = N , flags = (N or DEFAULT) ;
   abbrev pub option : ℕ → Trees → Draft
@@ -146,7 +146,7 @@ module _ (number-at : ℕ → ℕ) where
 
   -- rule NAME , expression endrule ; with n rules before it
   abbrev pub ruleDraft : ℕ → ℕ → Trees → Draft
-  ruleDraft parent n c = plain (rowWith code.RULE parent (placeAt 0 c) (column.OWN ≔ suc n ∷ column.NAME ≔ mark (placeAt rule·name c) ∷ []))
+  ruleDraft parent n c = withoutMarks (rowWith code.RULE parent (placeAt 0 c) (column.OWN ≔ suc n ∷ column.NAME ≔ mark (placeAt rule·name c) ∷ []))
 
   -- form formid = N , title = STR ; (item or rule)* endform ;
   abbrev pub form : ℕ → Trees → Draft
@@ -179,7 +179,7 @@ module _ (number-at : ℕ → ℕ) where
   abbrev pub formSet : Trees → Draft
   formSet c =
       let guid = child formset·guid c in
-      plain (rowWith code.FORM-SET 0 (placeAt 0 c) (
+      withoutMarks (rowWith code.FORM-SET 0 (placeAt 0 c) (
       column.FIRST ≔ string formset·title c
       ∷ column.SECOND ≔ string formset·help c
       ∷ column.A ≔ guidHigh guid

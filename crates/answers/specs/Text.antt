@@ -208,17 +208,17 @@ grouped false ws = ws
 -- the rows of the text are found by their places
 module _ (rowAt : ℕ → List ℕ) where
   -- the number in an operand's row
-  abbrev pub held : ℕ → ℕ
-  held p = getD (rowAt p) column.A 0
+  abbrev pub operandNumber : ℕ → ℕ
+  operandNumber p = getD (rowAt p) column.A 0
 
   -- parentheses stand round an operator of a level looser than the n-th. "Parentheses only round a binary operand of NOT, a left operand of a
   -- looser level, or a right operand of a looser or equal level": the levels are nine
   abbrev pub printed : ℕ → Expression → List Word
-  printed n (number p) = decimal (held p)
+  printed n (number p) = decimal (operandNumber p)
   printed n (constant c p) = lexeme (constantClass c)
-  printed n (question-named p q) = words "questionref (" ++ decimal (held p) ++ words ")"
-  printed n (question-numbered p q) = words "questionref (" ++ decimal (held p) ++ words ")"
-  printed n (rule-named p q) = words "ruleref (" ++ ruleName (held p) ++ words ")"
+  printed n (question-named p q) = words "questionref (" ++ decimal (operandNumber p) ++ words ")"
+  printed n (question-numbered p q) = words "questionref (" ++ decimal (operandNumber p) ++ words ")"
+  printed n (rule-named p q) = words "ruleref (" ++ ruleName (operandNumber p) ++ words ")"
   printed n (negation p e) = words "NOT" ++ printed 9 e
   printed n (binary o p l r) = grouped (ltb (level o) n) (printed (level o) l ++ lexeme (operatorClass o) ++ printed (suc (level o)) r)
 

@@ -16,7 +16,7 @@ use Rattle.grammar.specs.Reading.{verdict, derivation}
 use Rattle.grammar.specs.Source.{sourceTokens}
 use Rattle.grammar.specs.Ranges.{outOfRange}
 use Rattle.answers.specs.Stages.{finished}
-use Rattle.answers.specs.Answer.{LIMIT, Answer, refuses, answerOf, drafts}
+use Rattle.answers.specs.Answer.{LONGEST, Answer, refuses, answerOf, drafts}
 
 -- ---- stages 1 to 5, which a source alone decides
 
@@ -39,7 +39,7 @@ parsed s accepted (some f) = ranged s f
 -- 1: source over 65,536 bytes; 2: bad token
 unfoldable pub checked : List ℕ → Checked
 checked s =
-    elim (ltb LIMIT (length s)) [
+    elim (ltb LONGEST (length s)) [
       | true ↦ refusal 1 0
       | false ↦
           elim (firstBad s) [

@@ -14,8 +14,8 @@ use Rattle.rows.proofs.MarkLaws.{low-with-mark, mark-with-mark}
 use Rattle.answers.specs.Rows.{Draft}
 use Rattle.answers.specs.Stages.{cell, withCell}
 use Rattle.answers.specs.Drafts.{encoded, decoded, draftsFrom}
-use Rattle.drafts.specs.Sound.{Sound, AllSound, no-rows, add-row}
-use Rattle.drafts.specs.Fits.{Fits, AllFit, none-fit, add-fit}
+use Rattle.drafts.specs.Sound.{SoundRow, AllSound, no-rows, add-row}
+use Rattle.drafts.specs.Fits.{FitsCells, AllFit, none-fit, add-fit}
 use Rattle.drafts.proofs.DraftLaws.{unmarked, out-of-marked, cell-decoded}
 
 -- ---- a row with three cells set
@@ -67,7 +67,7 @@ three-same r = rw (set-getD r column.FIRST 0, set-getD r column.SECOND 0, set-ge
 
 -- ---- a draft in cells
 
-module _ {d : Draft} (v : Fits d) where
+module _ {d : Draft} (v : FitsCells d) where
   -- read back, it is the same
   pub decoded-encoded : decoded (encoded d) ≡ d
   unfolding encoded decoded
@@ -125,7 +125,7 @@ set-decoded r c v u = rw (first-beside r c v u, second-beside r c v u, flags-bes
 -- ---- the drafts of a table that holds them
 
 -- sound rows fit
-pub sound-fits : {d : Draft} → Sound d → Fits d
+pub sound-fits : {d : Draft} → SoundRow d → FitsCells d
 sound-fits s =
     record {
       whole = s .whole;

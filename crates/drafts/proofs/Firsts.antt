@@ -10,7 +10,7 @@ use Rattle.answers.specs.Rows.{Draft}
 use Rattle.answers.specs.Stages.{placeOf, faultIf, faultsAfter}
 use Rattle.answers.specs.Answer.{Answer, stage, refuses}
 use Rattle.drafts.specs.Faults.{firstFault}
-use Rattle.drafts.specs.Sound.{Sound, AllSound, no-rows, add-row, First, none, some}
+use Rattle.drafts.specs.Sound.{SoundRow, AllSound, no-rows, add-row, First, none, some}
 
 -- a mark, or where there is none another
 abbrev pub orElse : ℕ → ℕ → ℕ
@@ -42,7 +42,7 @@ stage-first (some {m = m} h) n later = rw (ne-eqb m 0 (λ e. omega arith))
 
 -- a stage that looks at each row by itself
 pub first-each : (fault : Draft → List Draft → ℕ) (faults : List Draft → Draft → List ℕ)
-    → ((before : List Draft) (d : Draft) (ds : List Draft) → Sound d → First (fault d ds) (faults before d))
+    → ((before : List Draft) (d : Draft) (ds : List Draft) → SoundRow d → First (fault d ds) (faults before d))
     → {ds : List Draft} → AllSound ds → (before : List Draft) → First (firstFault fault ds) (faultsAfter faults before ds)
 unfolding firstFault faultsAfter
 first-each fault faults h no-rows before = none

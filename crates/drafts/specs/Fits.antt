@@ -9,7 +9,7 @@ use Rattle.answers.specs.Rows.{Draft}
 use Rattle.answers.specs.Stages.{cell}
 
 -- it has all columns of a row; what shares a cell with a mark, and the marks, fit half a cell
-pub record Fits (d : Draft) : Type 0 where
+pub record FitsCells (d : Draft) : Type 0 where
   pub whole : length (d .row) ≡ column.ROW
   pub first : cell column.FIRST d < HALF
   pub second : cell column.SECOND d < HALF
@@ -20,4 +20,4 @@ pub record Fits (d : Draft) : Type 0 where
 
 pub data AllFit : List Draft → Type 0 where
   none-fit : AllFit []
-  add-fit : {d : Draft} {ds : List Draft} → Fits d → AllFit ds → AllFit (d ∷ ds)
+  add-fit : {d : Draft} {ds : List Draft} → FitsCells d → AllFit ds → AllFit (d ∷ ds)

@@ -5,7 +5,7 @@ use mathlib.Core.Bool.{true, cond, _||_}
 use mathlib.Core.List.{List, [], _∷_}
 use lib.Dec.{ltb}
 use lib.ListN.{length}
-use Rattle.numbers.specs.Numbers.{limit, isNumber}
+use Rattle.numbers.specs.Numbers.{numberLimit, isNumber}
 use Rattle.rows.specs.Codes as code
 use Rattle.rows.specs.Columns as column
 use Rattle.rows.specs.Draft.{HALF}
@@ -17,7 +17,7 @@ abbrev pub MARKS : ℕ
 MARKS = 131072
 
 -- a row of which every number is in its place
-pub record Sound (d : Draft) : Type 0 where
+pub record SoundRow (d : Draft) : Type 0 where
   -- it has all columns of a row; those that hold a mark too, and the marks, fit half a cell
   pub whole : length (d .row) ≡ column.ROW
   pub first : cell column.FIRST d < HALF
@@ -31,7 +31,7 @@ pub record Sound (d : Draft) : Type 0 where
   -- a form has a number; a question has one exactly where one is written
   pub form : is code.FORM d ≡ true → isNumber (cell column.OWN d) ≡ true
   pub form-mark : is code.FORM d ≡ true → 0 < d .ownAt
-  pub question : asks d ≡ true → cell column.OWN d < limit
+  pub question : asks d ≡ true → cell column.OWN d < numberLimit
   pub question-mark : asks d ≡ true → ltb 0 (cell column.OWN d) ≡ ltb 0 (d .ownAt)
   -- what a goto, a numeric or an option and a reference name is written; a ruleref names no number
   pub limit-written : (is code.GOTO d || is code.NUMERIC d || is code.OPTION d) ≡ true → 0 < d .limitAt
@@ -42,7 +42,7 @@ pub record Sound (d : Draft) : Type 0 where
 
 pub data AllSound : List Draft → Type 0 where
   no-rows : AllSound []
-  add-row : {d : Draft} {ds : List Draft} → Sound d → AllSound ds → AllSound (d ∷ ds)
+  add-row : {d : Draft} {ds : List Draft} → SoundRow d → AllSound ds → AllSound (d ∷ ds)
 
 -- the oneof that an option after row i would belong to: row i, or the oneof of the option in row i; 0 for none
 abbrev pub ownerAfter : ℕ → ℕ → Draft → ℕ

@@ -9,7 +9,7 @@ use native.Mathlib.Omega.{arith}
 use mathlib.Core.List.{List}
 use Rattle.values.specs.declared.Value.{Value}
 use Rattle.values.specs.Numbers.{valueAt}
-use Rattle.grammar.specs.Source.{held, numberAt}
+use Rattle.grammar.specs.Source.{heldValue, numberAt}
 use Rattle.fields.specs.Phrases.{markedValue, setIf}
 
 module _ (number-at : ℕ → ℕ) where
@@ -23,9 +23,9 @@ module _ (number-at : ℕ → ℕ) where
   value-some (suc p) h = ap number-at (omega arith)
 
 -- the value that was read at a mark
-pub value-there : (s : List ℕ) (m : ℕ) (v w : Value) → m ≢ 0 → v ≡ valueAt s (m - 1) → v ≡ w → held w ≡ markedValue (numberAt s) m
+pub value-there : (s : List ℕ) (m : ℕ) (v w : Value) → m ≢ 0 → v ≡ valueAt s (m - 1) → v ≡ w → heldValue w ≡ markedValue (numberAt s) m
 unfolding numberAt
-value-there s m v w h e f = ap held (sym f ∙ e) ∙ sym (value-some (numberAt s) m h)
+value-there s m v w h e f = ap heldValue (sym f ∙ e) ∙ sym (value-some (numberAt s) m h)
 
 pub set-le : (entry bit : ℕ) → setIf entry bit ≤ bit
 unfolding setIf

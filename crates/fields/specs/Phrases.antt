@@ -10,7 +10,7 @@ use Rattle.rows.specs.Codes as code
 use Rattle.rows.specs.Columns as column
 use Rattle.rows.specs.Cells.{Entry, _≔_}
 use Rattle.rows.specs.Flags as flag
-use Rattle.answers.specs.Rows.{Draft, plain, rowWith, operand}
+use Rattle.answers.specs.Rows.{Draft, withoutMarks, rowWith, operand}
 
 -- the entries by their number, from 0 on; one that there is not is 0
 abbrev pub kept : List ℕ → ℕ → ℕ
@@ -22,7 +22,7 @@ setIf entry bit = cond (eqb entry 0) 0 bit
 
 -- rule NAME , expression endrule ; with its own number and the mark of its name
 abbrev pub ruleDraft : ℕ → ℕ → ℕ → ℕ → Draft
-ruleDraft parent place own name = plain (rowWith code.RULE parent place (column.OWN ≔ own ∷ column.NAME ≔ name ∷ []))
+ruleDraft parent place own name = withoutMarks (rowWith code.RULE parent place (column.OWN ≔ own ∷ column.NAME ≔ name ∷ []))
 
 -- ruleref ( NAME )
 abbrev pub ruleRefDraft : ℕ → ℕ → (ℕ → ℕ) → Draft
@@ -61,15 +61,15 @@ module _ (number-at : ℕ → ℕ) where
 
   -- subtitle text = STR ;
   abbrev pub subtitleDraft : ℕ → ℕ → (ℕ → ℕ) → Draft
-  subtitleDraft parent place k = plain (rowWith code.SUBTITLE parent place (column.FIRST ≔ markedValue (k 0) ∷ []))
+  subtitleDraft parent place k = withoutMarks (rowWith code.SUBTITLE parent place (column.FIRST ≔ markedValue (k 0) ∷ []))
 
   -- text help = STR , text = STR ;
   abbrev pub textDraft : ℕ → ℕ → (ℕ → ℕ) → Draft
-  textDraft parent place k = plain (rowWith code.TEXT parent place (column.FIRST ≔ markedValue (k 1) ∷ column.SECOND ≔ markedValue (k 0) ∷ []))
+  textDraft parent place k = withoutMarks (rowWith code.TEXT parent place (column.FIRST ≔ markedValue (k 1) ∷ column.SECOND ≔ markedValue (k 0) ∷ []))
 
   -- label N ;
   abbrev pub labelDraft : ℕ → ℕ → (ℕ → ℕ) → Draft
-  labelDraft parent place k = plain (rowWith code.LABEL parent place (column.OWN ≔ markedValue (k 0) ∷ []))
+  labelDraft parent place k = withoutMarks (rowWith code.LABEL parent place (column.OWN ≔ markedValue (k 0) ∷ []))
 
   -- the row of a question from the four entries of its HEAD, with what else it holds
   abbrev pub questionRow : ℕ → ℕ → ℕ → ℕ → ℕ → ℕ → ℕ → List Entry → List ℕ
@@ -175,7 +175,7 @@ module _ (number-at : ℕ → ℕ) where
 
   abbrev pub formSetDraft : ℕ → (ℕ → ℕ) → (ℕ → ℕ) → Draft
   formSetDraft place high low =
-      plain (rowWith code.FORM-SET 0 place (
+      withoutMarks (rowWith code.FORM-SET 0 place (
       column.FIRST ≔ markedValue (low 8)
       ∷ column.SECOND ≔ markedValue (low 9)
       ∷ column.A ≔ highOf high

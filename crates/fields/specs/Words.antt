@@ -7,7 +7,7 @@ use lib.Dec.{eqb}
 use Rattle.lexemes.specs.Classes as class
 use Rattle.rows.specs.Codes as code
 use Rattle.answers.specs.Expression.{operators, operatorClass, operatorCode, Constant, true′, false′, zero′, one′, ones′, undefined′, constantClass, constantCode}
-use Rattle.answers.specs.Rows.{Draft, plain, rowWith}
+use Rattle.answers.specs.Rows.{Draft, withoutMarks, rowWith}
 
 -- a class, and what it has
 pub data Pair : Type 0 where
@@ -31,4 +31,4 @@ unfoldable pub codeOf : ℕ → ℕ
 codeOf k = lookUp wordCodes 0 k
 
 abbrev pub wordDraft : ℕ → ℕ → ℕ → Draft
-wordDraft k parent place = plain (rowWith (codeOf k) parent place [])
+wordDraft k parent place = withoutMarks (rowWith (codeOf k) parent place [])

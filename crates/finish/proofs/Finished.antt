@@ -25,8 +25,8 @@ use Rattle.answers.specs.Rows.{Draft}
 use Rattle.answers.specs.Stages.{cell, is, asks, writes, any, faultIf, faultsAfter, unfound, ownNumbers, withCell, withNumbers, numberedRows, finds, refers, ownOfFirst, withReferences, settled, finished}
 use Rattle.answers.specs.Drafts.{encoded, draftsFrom}
 use Rattle.answers.proofs.Settling.{settled-count}
-use Rattle.drafts.specs.Fits.{Fits, AllFit, none-fit, add-fit}
-use Rattle.drafts.specs.Sound.{Sound, AllSound, no-rows, add-row, SoundRows}
+use Rattle.drafts.specs.Fits.{FitsCells, AllFit, none-fit, add-fit}
+use Rattle.drafts.specs.Sound.{SoundRow, AllSound, no-rows, add-row, SoundRows}
 use Rattle.names.specs.Names.{findIn, declaresMark, firstRow, Indexes}
 use Rattle.drafts.proofs.CodingLaws.{decoded-encoded, sound-fits, sound-fit, are-encoded, drafts-held}
 use Rattle.drafts.proofs.RowTests.{any-same}
@@ -87,7 +87,7 @@ found-encoded s es t ns index owns no-references = refl
 found-encoded s es t ns index owns (add-reference v r) = rw (row-settled s es t ns index owns v, found-encoded s es t ns index owns r)
 
 -- rows with them fit
-fits-found : (d : Draft) (v : ℕ) → Fits d → Fits (withCell column.A v d)
+fits-found : (d : Draft) (v : ℕ) → FitsCells d → FitsCells (withCell column.A v d)
 fits-found d v f =
     let beside : (c : ℕ) → (c ≡ column.A → ⊥) → cell c (withCell column.A v d) ≡ cell c d = λ c h. getD-set-other (d .row) column.A c v 0 h in
     omega (
@@ -103,13 +103,13 @@ fit-found : (b : Draft → Bool) (look : Draft → ℕ) {ds : List Draft} → Al
 fit-found b look none-fit = none-fit
 fit-found b look (add-fit {d = d} f r) = add-fit (go (b d)) (fit-found b look r)
   where
-    go : (y : Bool) → Fits (cond y (withCell column.A (look d) d) d)
+    go : (y : Bool) → FitsCells (cond y (withCell column.A (look d) d) d)
     go true = fits-found d (look d) f
     go false = f
 
 module _ (s : List ℕ) (all ns : List Draft) (written : (k : ℕ) → any (bears writes k) ns ≡ any (bears writes k) all) where
   -- a question that got a number
-  question-refers : {d : Draft} → Sound d → asks d ≡ true → (v : ℕ) → Refers s ns (withCell column.OWN v d)
+  question-refers : {d : Draft} → SoundRow d → asks d ≡ true → (v : ℕ) → Refers s ns (withCell column.OWN v d)
   question-refers {d} u q v =
       let same : cell column.CODE (withCell column.OWN v d) ≡ cell column.CODE d = other-column d v column.CODE (λ e. omega arith) in
       let question-ref : is code.QUESTION-REF (withCell column.OWN v d) ≡ false = rw same (not-code code.QUESTION-REF question-ref-not) in
@@ -130,7 +130,7 @@ module _ (s : List ℕ) (all ns : List Draft) (written : (k : ℕ) → any (bear
           go false y = refl
 
   -- a row that is none, and finds what it names
-  other-refers : {d : Draft} → Sound d → (refers s d ≡ true → any (finds s d) all ≡ true) → Refers s ns d
+  other-refers : {d : Draft} → SoundRow d → (refers s d ≡ true → any (finds s d) all ≡ true) → Refers s ns d
   other-refers {d} u f =
       record {
         fits = sound-fits u;

@@ -15,7 +15,7 @@ use Rattle.numbers.proofs.Ranges.{and-yes}
 use Rattle.answers.specs.Rows.{Draft}
 use Rattle.answers.specs.Stages.{cell, is, asks, writes, any, withCell, declares, finds, refers, ownOfFirst, placeOf}
 use Rattle.answers.specs.Drafts.{encoded}
-use Rattle.drafts.specs.Fits.{Fits, AllFit, none-fit, add-fit}
+use Rattle.drafts.specs.Fits.{FitsCells, AllFit, none-fit, add-fit}
 use Rattle.names.specs.Names.{findIn, declaresMark, firstRow}
 use Rattle.drafts.proofs.CodingLaws.{cell-encoded, set-encoded, decoded-encoded}
 use Rattle.stages.proofs.RepeatFaults.{bears}
@@ -67,7 +67,7 @@ own-alike s p q h (d ∷ ds) = rw (h d, own-alike s p q h ds)
 -- ---- a reference among the numbered drafts ns: it names something, and a number that it names is written
 
 pub record Refers (s : List ℕ) (ns : List Draft) (d : Draft) : Type 0 where
-  pub fits : Fits d
+  pub fits : FitsCells d
   pub rule-name : is code.RULE-REF d ≡ true → cell column.A d ≡ 0
   pub named : refers s d ≡ true → 0 < d .ownAt
   pub numbered : refers s d ≡ true → (cell column.A d ≡ 0 → ⊥) → any (bears writes (cell column.A d)) ns ≡ true

@@ -8,7 +8,7 @@ use borrow.Author.Tests.{eqb-true, eqb-false}
 use lib.Dec.{eqb}
 use lib.ListN.{length, getD, set, length-set}
 use lib.Seq.{set-getD}
-use Rattle.numbers.specs.Numbers.{limit, marked, firstFree, given, givenMap}
+use Rattle.numbers.specs.Numbers.{numberLimit, withUsed, firstFree, given, givenMap}
 use Rattle.numbers.proofs.Ranges.{and-yes}
 use Rattle.numbers.proofs.Giving.{map-end, given-kept, map-kept, given-next, map-next, given-none, map-none}
 use Rattle.rows.specs.Codes.{isQuestion}
@@ -79,7 +79,7 @@ module _ {ws₀ t₀ ws t : List ℕ} {n at i : ℕ} (v : Numbering ws₀ t₀ n
   )
 
   -- no number is left
-  pub numbering-none : {m : ℕ} → m ≡ firstFree ws at → limit ≤ m → Answer
+  pub numbering-none : {m : ℕ} → m ≡ firstFree ws at → numberLimit ≤ m → Answer
   numbering-none e h =
       let rs = rowsFrom t i (n - i) in (
         sym (v .table ∙ rw (given-none ws at (ownsIn rs) e h, with-same rs) (put-own t i (n - i))),
@@ -122,7 +122,7 @@ module _ {ws₀ t₀ ws t : List ℕ} {n at i : ℕ} (v : Numbering ws₀ t₀ n
             }
 
     -- a question that has none gets the number m
-    pub numbering-given : (b && eqb q 0) ≡ true → {m : ℕ} {t′ ws′ : List ℕ} → m ≡ firstFree ws at → m < limit → t′ ≡ withCell t i column.OWN m → ws′ ≡ marked ws m
+    pub numbering-given : (b && eqb q 0) ≡ true → {m : ℕ} {t′ ws′ : List ℕ} → m ≡ firstFree ws at → m < numberLimit → t′ ≡ withCell t i column.OWN m → ws′ ≡ withUsed ws m
         → Numbering ws₀ t₀ n ws′ t′ (m + 1) (i + 1)
     unfolding withCell
     numbering-given y {m} {t′} {ws′} free l c d =
@@ -138,7 +138,7 @@ module _ {ws₀ t₀ ws t : List ℕ} {n at i : ℕ} (v : Numbering ws₀ t₀ n
           inside = omega arith;
           long = length-with-row t i r twelve ∙ v .long;
           table = v .table
-              ∙ rw (split, owns-question (rowAt t i) after yes, given-next ws at (ownsIn after) none free l, with-question (rowAt t i) after m (given (marked ws m) (m + 1) (ownsIn after)) yes)
-              (put-cons t i r (withOwns (given (marked ws m) (m + 1) (ownsIn after)) after));
+              ∙ rw (split, owns-question (rowAt t i) after yes, given-next ws at (ownsIn after) none free l, with-question (rowAt t i) after m (given (withUsed ws m) (m + 1) (ownsIn after)) yes)
+              (put-cons t i r (withOwns (given (withUsed ws m) (m + 1) (ownsIn after)) after));
           map = v .map ∙ rw (split, owns-question (rowAt t i) after yes) (map-next ws at (ownsIn after) none free l);
         }

@@ -13,8 +13,8 @@ use Rattle.rows.specs.Columns as column
 use Rattle.answers.specs.Rows.{Draft}
 use Rattle.answers.specs.Stages.{cell, asks, writes, any, ownNumbers, withCell, withNumbers}
 use Rattle.answers.specs.Drafts.{encoded}
-use Rattle.drafts.specs.Fits.{Fits, AllFit, none-fit, add-fit}
-use Rattle.drafts.specs.Sound.{Sound, AllSound, no-rows, add-row}
+use Rattle.drafts.specs.Fits.{FitsCells, AllFit, none-fit, add-fit}
+use Rattle.drafts.specs.Sound.{SoundRow, AllSound, no-rows, add-row}
 use Rattle.names.specs.Names.{declaresMark, firstRow}
 use Rattle.stages.proofs.RepeatFaults.{bears}
 use Rattle.drafts.proofs.CodingLaws.{cell-encoded, set-encoded}
@@ -22,7 +22,7 @@ use Rattle.finish.specs.Finish.{isQuestionRow, ownsIn, withOwns}
 
 -- ---- the questions' numbers, of the cells and of the drafts
 
-module _ {d : Draft} (f : Fits d) where
+module _ {d : Draft} (f : FitsCells d) where
   pub question-encoded : isQuestionRow (encoded d) ≡ asks d
   question-encoded = ap isQuestion (cell-encoded f column.CODE refl)
 
@@ -49,7 +49,7 @@ module _ (d : Draft) (v : ℕ) where
   pub other-column : (c : ℕ) → (c ≡ column.OWN → ⊥) → cell c (withCell column.OWN v d) ≡ cell c d
   other-column c h = getD-set-other (d .row) column.OWN c v 0 h
 
-  pub fits-with : Fits d → Fits (withCell column.OWN v d)
+  pub fits-with : FitsCells d → FitsCells (withCell column.OWN v d)
   fits-with f =
       record {
         whole = length-set (d .row) column.OWN v ∙ f .whole;
@@ -91,7 +91,7 @@ first-with p h (d ∷ ds) ns i = go (asks d) (first-with p h ds ns (i + 1)) (fir
 abbrev pub Stands : List ℕ → List ℕ → Type 0
 Stands ns own = (j : ℕ) → (getD own j 0 ≡ 0 → ⊥) → getD ns j 0 ≡ getD own j 0
 
-bears-with : {d : Draft} → Sound d → asks d ≡ true → (v : ℕ) → ((cell column.OWN d ≡ 0 → ⊥) → v ≡ cell column.OWN d) → (k : ℕ)
+bears-with : {d : Draft} → SoundRow d → asks d ≡ true → (v : ℕ) → ((cell column.OWN d ≡ 0 → ⊥) → v ≡ cell column.OWN d) → (k : ℕ)
     → bears writes k (withCell column.OWN v d) ≡ bears writes k d
 bears-with {d} s q v h k = go (eqb (cell column.OWN d) 0) refl
   where

@@ -9,7 +9,7 @@ use Rattle.answers.specs.Text.{Word, words, decimalDigits}
 use Rattle.formulas.specs.Shapes.{word}
 use Rattle.formulas.specs.Formula.{Formula, f-number, f-not, f-binary, nest}
 use Rattle.formulas.specs.Words.{print}
-use Rattle.formulas.specs.Need.{need, MOST}
+use Rattle.formulas.specs.Need.{need, MOST-WAITING}
 
 abbrev one : Formula
 one = f-number 1
@@ -72,6 +72,6 @@ rungs (suc n) = rung (rungs n)
 deepest-nests : nest 9 (rungs 33) ≡ 32
 deepest-nests = refl
 
-deepest-needs : need (rungs 33) ≡ MOST
+deepest-needs : need (rungs 33) ≡ MOST-WAITING
 unfolding need
 deepest-needs = refl

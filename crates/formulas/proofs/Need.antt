@@ -7,7 +7,7 @@ use mathlib.Core.Bool.{Bool, true, false}
 use lib.Dec.{leb}
 use borrow.Author.Tests.{leb-false}
 use Rattle.formulas.specs.Formula.{Formula, f-number, f-constant, f-question, f-rule, f-not, f-binary, tight, inward, nest}
-use Rattle.formulas.specs.Need.{need, MOST}
+use Rattle.formulas.specs.Need.{need, MOST-WAITING}
 use Rattle.formulas.proofs.Levels.{tight-lt}
 
 -- each level adds a value that waits, and each group nine levels
@@ -26,5 +26,5 @@ need-nest n (f-binary o l r) = by (leb n (tight o)) refl (need-nest (suc (tight 
     by true q x y = rw q (omega (arith, tight-lt o))
     by false q x y = rw q (omega (arith, leb-false n (tight o) q))
 
-pub need-most : (e : Formula) → nest 9 e ≤ 32 → need e ≤ MOST
+pub need-most : (e : Formula) → nest 9 e ≤ 32 → need e ≤ MOST-WAITING
 need-most e h = omega (arith, need-nest 9 e)

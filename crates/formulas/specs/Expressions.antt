@@ -8,7 +8,7 @@ use Rattle.ll1.specs.Trees.{Token, Trees, leaf, node, Symbol, terminal, nonterm
 use Rattle.grammar.specs.Rules.{<expression>}
 use Rattle.grammar.specs.Derivation.{maxGroups}
 use Rattle.formulas.specs.Formula.{Formula, nest}
-use Rattle.formulas.specs.Need.{need, MOST}
+use Rattle.formulas.specs.Need.{need, MOST-WAITING}
 
 -- among the trees f, at any depth, stands an `expression` with the trees c under it
 pub data ExpressionIn (c : Trees) : Trees → Type 0 where
@@ -30,4 +30,4 @@ pub record Shallow (e : Formula) : Type 0 where
   -- "at most 32 unfinished grouping parentheses and `NOT`s in one expression" (document 01, Depths), also with the fewest parentheses
   pub groups : nest 9 e ≤ maxGroups
   -- with at most nine levels in each of these groups and outside them all: so few values wait at once
-  pub levels : need e ≤ MOST
+  pub levels : need e ≤ MOST-WAITING

@@ -6,7 +6,7 @@ use Prim.Native.Nat.{ℕ, suc, max}
 use lib.Dec.{leb}
 use Rattle.answers.specs.Expression.{Operator, or, and, bit-or, bit-and, equal, not-equal, less, less-equal, greater, greater-equal, shift-left, shift-right, add, subtract, multiply, divide, modulo}
 use Rattle.answers.specs.Expression.{Constant, Expression, number, constant, question-named, question-numbered, rule-named, negation, binary}
-use Rattle.answers.specs.Text.{held}
+use Rattle.answers.specs.Text.{operandNumber}
 
 -- ---- expressions by their values
 
@@ -20,11 +20,11 @@ pub data Formula : Type 0 where
 -- the rows of a source tell the values
 module _ (look : ℕ → List ℕ) where
   abbrev pub formula : Expression → Formula
-  formula (number p) = f-number (held look p)
+  formula (number p) = f-number (operandNumber look p)
   formula (constant c p) = f-constant c
-  formula (question-named p q) = f-question (held look p)
-  formula (question-numbered p q) = f-question (held look p)
-  formula (rule-named p q) = f-rule (held look p)
+  formula (question-named p q) = f-question (operandNumber look p)
+  formula (question-numbered p q) = f-question (operandNumber look p)
+  formula (rule-named p q) = f-rule (operandNumber look p)
   formula (negation p e) = f-not (formula e)
   formula (binary o p l r) = f-binary o (formula l) (formula r)
 

@@ -14,5 +14,5 @@ need (f-not e) = need e
 need (f-binary o l r) = max (need l) (suc (need r))
 
 -- no expression of an accepted source needs more: nine levels outside all groups and in each of them, and the value at hand
-abbrev pub MOST : ℕ
-MOST = 9 + 9 * maxGroups + 1
+abbrev pub MOST-WAITING : ℕ
+MOST-WAITING = 9 + 9 * maxGroups + 1

@@ -15,7 +15,7 @@ use Rattle.ll1.specs.ParseTable.{entryOf, predict, member, find, nullable}
 use Rattle.ll1.specs.Test.{isSome, joined}
 use Rattle.ll1.proofs.Basics.{clash, find-joined}
 use Rattle.ll1.proofs.Lookups.{find-one}
-use Rattle.grammar.specs.Rules.{level, tail}
+use Rattle.grammar.specs.Rules.{levelRule, tailRule}
 use Rattle.grammar.specs.Notation.{t, r, plain, one, operators}
 use Rattle.grammar.specs.Grammar.{rules}
 use Rattle.grammar.specs.Lookahead.{atoms, lookahead}
@@ -39,10 +39,10 @@ below Q (suc n) b i h = by (below Q n (b .1) i) (eqb n i) refl
 -- the rules of level n and of its tail, and what tells their alternatives
 abbrev Alike : ℕ → Type 0
 Alike n =
-    (getD rules (level n) [] ≡ one (r (level (suc n)) ∷ r (tail n) ∷ []))
-    × (entryOf lookahead (level n) .firsts ≡ atoms ∷ [])
-    × (getD rules (tail n) [] ≡ operators (tail n) (level (suc n)) (operatorsOf n))
-    × (entryOf lookahead (tail n) .firsts ≡ [] ∷ map (λ o. o ∷ []) (operatorsOf n))
+    (getD rules (levelRule n) [] ≡ one (r (levelRule (suc n)) ∷ r (tailRule n) ∷ []))
+    × (entryOf lookahead (levelRule n) .firsts ≡ atoms ∷ [])
+    × (getD rules (tailRule n) [] ≡ operators (tailRule n) (levelRule (suc n)) (operatorsOf n))
+    × (entryOf lookahead (tailRule n) .firsts ≡ [] ∷ map (λ o. o ∷ []) (operatorsOf n))
 
 all-alike : Below Alike 9
 unfolding rules lookahead levels
@@ -91,18 +91,18 @@ joined-alone (o ∷ ops) = ap (λ (l : List ℕ). o ∷ l) (joined-alone ops)
 
 pub record Level (n : ℕ) : Type 0 where
   -- an operand of the next level, and the tail
-  pub operand : alternativeOf rules (level n) 0 ≡ some (plain (r (level (suc n)) ∷ r (tail n) ∷ []))
-  pub only : (k : ℕ) → (predict lookahead (level n) k ≡ some 0) ⊎ (predict lookahead (level n) k ≡ none)
-  pub present : nullable rules (level n) ≡ false
+  pub operand : alternativeOf rules (levelRule n) 0 ≡ some (plain (r (levelRule (suc n)) ∷ r (tailRule n) ∷ []))
+  pub only : (k : ℕ) → (predict lookahead (levelRule n) k ≡ some 0) ⊎ (predict lookahead (levelRule n) k ≡ none)
+  pub present : nullable rules (levelRule n) ≡ false
   -- the tail is empty, or an operator of the level, an operand and the tail
-  pub empty : alternativeOf rules (tail n) 0 ≡ some (plain [])
-  pub absent : nullable rules (tail n) ≡ true
+  pub empty : alternativeOf rules (tailRule n) 0 ≡ some (plain [])
+  pub absent : nullable rules (tailRule n) ≡ true
   pub operator :
       (k i : ℕ)
-      → predict lookahead (tail n) k ≡ some i
-      → alternativeOf rules (tail n) i ≡ some (plain (t k ∷ r (level (suc n)) ∷ r (tail n) ∷ []))
+      → predict lookahead (tailRule n) k ≡ some i
+      → alternativeOf rules (tailRule n) i ≡ some (plain (t k ∷ r (levelRule (suc n)) ∷ r (tailRule n) ∷ []))
   -- the classes that tell an operator
-  pub tells : (k : ℕ) → isSome (predict lookahead (tail n) k) ≡ member k (operatorsOf n)
+  pub tells : (k : ℕ) → isSome (predict lookahead (tailRule n) k) ≡ member k (operatorsOf n)
 
 pub level-is : (n : ℕ) → n < 9 → Level n
 level-is n h =
@@ -120,15 +120,15 @@ level-is n h =
     operator :
         (n k i : ℕ)
         → find ([] ∷ map alone (operatorsOf n)) k ≡ some i
-        → getElem? (operators (tail n) (level (suc n)) (operatorsOf n)) i ≡ some (plain (t k ∷ r (level (suc n)) ∷ r (tail n) ∷ []))
+        → getElem? (operators (tailRule n) (levelRule (suc n)) (operatorsOf n)) i ≡ some (plain (t k ∷ r (levelRule (suc n)) ∷ r (tailRule n) ∷ []))
     operator n k i e = by (find (map alone (operatorsOf n)) k) refl
       where
         by :
             (w : Option ℕ)
             → find (map alone (operatorsOf n)) k ≡ w
-            → getElem? (operators (tail n) (level (suc n)) (operatorsOf n)) i ≡ some (plain (t k ∷ r (level (suc n)) ∷ r (tail n) ∷ []))
+            → getElem? (operators (tailRule n) (levelRule (suc n)) (operatorsOf n)) i ≡ some (plain (t k ∷ r (levelRule (suc n)) ∷ r (tailRule n) ∷ []))
         by none q = let u : find ([] ∷ map alone (operatorsOf n)) k ≡ none = rw (q, find) in clash cc
         by (some j) q =
             let u : find ([] ∷ map alone (operatorsOf n)) k ≡ some (suc j) = rw (q, find) in
             let v : suc j ≡ i = cc in
-            subst (λ x. getElem? (operators (tail n) (level (suc n)) (operatorsOf n)) x ≡ some (plain (t k ∷ r (level (suc n)) ∷ r (tail n) ∷ []))) v (told-operator (tail n) (level (suc n)) (operatorsOf n) k j q)
+            subst (λ x. getElem? (operators (tailRule n) (levelRule (suc n)) (operatorsOf n)) x ≡ some (plain (t k ∷ r (levelRule (suc n)) ∷ r (tailRule n) ∷ []))) v (told-operator (tailRule n) (levelRule (suc n)) (operatorsOf n) k j q)

@@ -124,82 +124,82 @@ abbrev pub <flag> : ℕ
 -- ---- expressions
 
 -- level n of the nine, from the loosest, 0, on; after the tightest comes the atom, as level 9
-abbrev pub level : ℕ → ℕ
-level n = 33 + 2 * n
+abbrev pub levelRule : ℕ → ℕ
+levelRule n = 33 + 2 * n
 
 -- what comes after the first operand of level n: none or more times an operator and an operand
-abbrev pub tail : ℕ → ℕ
-tail n = 34 + 2 * n
+abbrev pub tailRule : ℕ → ℕ
+tailRule n = 34 + 2 * n
 
 -- an expression is of the loosest level
 abbrev pub <expression> : ℕ
-<expression> = level 0
+<expression> = levelRule 0
 
 -- `OR`
 abbrev pub <or> : ℕ
-<or> = level 0
+<or> = levelRule 0
 
 abbrev pub <or>* : ℕ
-<or>* = tail 0
+<or>* = tailRule 0
 
 -- `AND`
 abbrev pub <and> : ℕ
-<and> = level 1
+<and> = levelRule 1
 
 abbrev pub <and>* : ℕ
-<and>* = tail 1
+<and>* = tailRule 1
 
 -- `|`
 abbrev pub <bit-or> : ℕ
-<bit-or> = level 2
+<bit-or> = levelRule 2
 
 abbrev pub <bit-or>* : ℕ
-<bit-or>* = tail 2
+<bit-or>* = tailRule 2
 
 -- `&`
 abbrev pub <bit-and> : ℕ
-<bit-and> = level 3
+<bit-and> = levelRule 3
 
 abbrev pub <bit-and>* : ℕ
-<bit-and>* = tail 3
+<bit-and>* = tailRule 3
 
 -- `==` `!=`
 abbrev pub <equality> : ℕ
-<equality> = level 4
+<equality> = levelRule 4
 
 abbrev pub <equality>* : ℕ
-<equality>* = tail 4
+<equality>* = tailRule 4
 
 -- `<` `<=` `>` `>=`
 abbrev pub <order> : ℕ
-<order> = level 5
+<order> = levelRule 5
 
 abbrev pub <order>* : ℕ
-<order>* = tail 5
+<order>* = tailRule 5
 
 -- `<<` `>>`
 abbrev pub <shift> : ℕ
-<shift> = level 6
+<shift> = levelRule 6
 
 abbrev pub <shift>* : ℕ
-<shift>* = tail 6
+<shift>* = tailRule 6
 
 -- `+` `-`
 abbrev pub <sum> : ℕ
-<sum> = level 7
+<sum> = levelRule 7
 
 abbrev pub <sum>* : ℕ
-<sum>* = tail 7
+<sum>* = tailRule 7
 
 -- `*` `/` `%`
 abbrev pub <product> : ℕ
-<product> = level 8
+<product> = levelRule 8
 
 abbrev pub <product>* : ℕ
-<product>* = tail 8
+<product>* = tailRule 8
 
 abbrev pub <atom> : ℕ
-<atom> = level 9
+<atom> = levelRule 9
 
 -- of a questionref: NAME or N
 abbrev pub <name-or-number> : ℕ

@@ -22,10 +22,10 @@ unfoldable pub sourceTokens : List ℕ → List Token
 sourceTokens s = grammarTokens (tokens s)
 
 -- a number's value as a row holds it; one of 2^64 or more, which refusal 5 shuts out, counts as 0
-abbrev pub held : Value → ℕ
-held (Fits v) = v
-held TooLarge = 0
+abbrev pub heldValue : Value → ℕ
+heldValue (Fits v) = v
+heldValue TooLarge = 0
 
 -- the value of the number that starts at a place
 unfoldable pub numberAt : List ℕ → ℕ → ℕ
-numberAt s p = held (valueAt s p)
+numberAt s p = heldValue (valueAt s p)

@@ -15,7 +15,7 @@ use Rattle.lexemes.specs.Bytes.{isDigit, isWordByte}
 use Rattle.lexemes.specs.Classes.{SIGNS, NAME, DECIMAL, BAD, END}
 use Rattle.lexemes.specs.Lexemes.{signs, reserved}
 use Rattle.lex.specs.Likely.{LikelyEnd}
-use Rattle.lexemes.specs.Words.{run, all, same, placeOf, word}
+use Rattle.lexemes.specs.Words.{run, all, same, placeAmong, word}
 use Rattle.lex.specs.Tokens.{gap, empty, wordClass, wordToken, signClass, signToken, tokenFrom, tokenAfterGap, tokenAt}
 use Rattle.lexemes.proofs.Lists.{either-less, and-true, from-end, from-next}
 use Rattle.lex.proofs.Comments.{gap-le}
@@ -61,7 +61,7 @@ module _ (s : List ℕ) (at e : ℕ) (digit : isDigit (getD s at 0) ≡ true) (i
 
 -- the word at a place, which starts with no digit, tried up to e
 module _ (s : List ℕ) (at : ℕ) (start : isWordByte (getD s at 0) ≡ true) (no-digit : isDigit (getD s at 0) ≡ false) where
-  pub name-token : (k e : ℕ) → k ≡ SIGNS + placeOf (word (drop at s)) reserved → e ≡ at + run isWordByte (drop at s) →
+  pub name-token : (k e : ℕ) → k ≡ SIGNS + placeAmong (word (drop at s)) reserved → e ≡ at + run isWordByte (drop at s) →
       _≡_ {A = Token} (record { class = k; start = at; end = e }) (wordToken (word (drop at s)) at)
   unfolding wordClass reserved
   name-token k e is-k is-e =
@@ -70,13 +70,13 @@ module _ (s : List ℕ) (at : ℕ) (start : isWordByte (getD s at 0) ≡ true) (
       word-good (word (drop at s)) at k is-class (λ bad. omega (arith, place-le (word (drop at s)) reserved)) e (omega (arith, word-length (drop at s)))
 
   -- a reserved word before a byte of no word is the whole word
-  module _ (k e : ℕ) (likely : LikelyEnd s at e) (is-k : k ≡ SIGNS + placeOf (take (e - at) (drop at s)) reserved) (known : k < NAME) where
+  module _ (k e : ℕ) (likely : LikelyEnd s at e) (is-k : k ≡ SIGNS + placeAmong (take (e - at) (drop at s)) reserved) (known : k < NAME) where
     known-run : run isWordByte (drop at s) ≡ e - at
     unfolding reserved all
     known-run =
         let part = take (e - at) (drop at s) in
-        let inside : placeOf part reserved < length reserved = omega arith in
-        let whole : all isWordByte part ≡ true = rw (← place-at part reserved inside) (word-bytes (placeOf part reserved) reserved refl inside) in
+        let inside : placeAmong part reserved < length reserved = omega arith in
+        let whole : all isWordByte part ≡ true = rw (← place-at part reserved inside) (word-bytes (placeAmong part reserved) reserved refl inside) in
         run-is isWordByte (e - at) (drop at s) (omega (arith, length-drop at s, likely .after, likely .inside)) whole (rw (getD-drop, past) (likely .ends))
       where
         past : at + (e - at) ≡ e
@@ -91,19 +91,19 @@ cond-same true x = refl
 cond-same false x = refl
 
 sign-class : (b : ℕ) (s : List ℕ) →
-    signClass (b ∷ s) ≡ cond (ltb (placeOf (b ∷ getD s 0 0 ∷ []) signs) SIGNS) (placeOf (b ∷ getD s 0 0 ∷ []) signs) (placeOf (b ∷ []) signs)
+    signClass (b ∷ s) ≡ cond (ltb (placeAmong (b ∷ getD s 0 0 ∷ []) signs) SIGNS) (placeAmong (b ∷ getD s 0 0 ∷ []) signs) (placeAmong (b ∷ []) signs)
 unfolding signClass signs same
 sign-class b [] = rw (byte-missed b (0 ∷ []) signs tt, cond-same)
 sign-class b (next ∷ s) = refl
 
 -- no sign has this second byte
-pub no-second : (b next : ℕ) → (next ≡ 61 → ⊥) → (next ≡ 60 → ⊥) → (next ≡ 62 → ⊥) → placeOf (b ∷ next ∷ []) signs ≡ SIGNS
+pub no-second : (b next : ℕ) → (next ≡ 61 → ⊥) → (next ≡ 60 → ⊥) → (next ≡ 62 → ⊥) → placeAmong (b ∷ next ∷ []) signs ≡ SIGNS
 unfolding signs same
 no-second b next e l g = byte-missed b (next ∷ []) signs (rw (ne-eqb next 61 e, ne-eqb next 60 l, ne-eqb next 62 g) tt)
 
 -- no sign of two bytes starts with one of `{`, `}`, `(`, `)`, `,`, `;`, which are the first six signs
-by-class : (k b next : ℕ) → k ≤ 5 → b ≡ getD (getD signs k []) 0 0 → placeOf (b ∷ next ∷ []) signs ≡ SIGNS
-unfolding signs same placeOf
+by-class : (k b next : ℕ) → k ≤ 5 → b ≡ getD (getD signs k []) 0 0 → placeAmong (b ∷ next ∷ []) signs ≡ SIGNS
+unfolding signs same placeAmong
 by-class zero b next h e = rw e
 by-class (suc zero) b next h e = rw e
 by-class (suc (suc zero)) b next h e = rw e
@@ -112,32 +112,32 @@ by-class (suc (suc (suc (suc zero)))) b next h e = rw e
 by-class (suc (suc (suc (suc (suc zero))))) b next h e = rw e
 by-class (suc (suc (suc (suc (suc (suc k)))))) b next h e = absurd (omega arith)
 
-pub no-first : (b next one : ℕ) → one ≡ placeOf (b ∷ []) signs → one ≤ 5 → placeOf (b ∷ next ∷ []) signs ≡ SIGNS
+pub no-first : (b next one : ℕ) → one ≡ placeAmong (b ∷ []) signs → one ≤ 5 → placeAmong (b ∷ next ∷ []) signs ≡ SIGNS
 unfolding signs
 no-first b next one is-one h =
     by-class one b next h (rw is-one (sym (ap (λ (v : List ℕ). getD v 0 0) (place-at (b ∷ []) signs (some one is-one h)))))
   where
-    some : (k : ℕ) → k ≡ placeOf (b ∷ []) signs → k ≤ 5 → placeOf (b ∷ []) signs < length signs
+    some : (k : ℕ) → k ≡ placeAmong (b ∷ []) signs → k ≤ 5 → placeAmong (b ∷ []) signs < length signs
     some k is-k h = omega arith
 
-sign-size : (w : List ℕ) (k : ℕ) → k ≡ placeOf w signs → k < SIGNS → length (getD signs k []) ≡ length w
+sign-size : (w : List ℕ) (k : ℕ) → k ≡ placeAmong w signs → k < SIGNS → length (getD signs k []) ≡ length w
 unfolding signs
 sign-size w k is-k h = rw is-k (ap length (place-at w signs (rw is-k at h)))
 
 -- the class of the two bytes that stand at a place, of which the second is `next`
 abbrev pub two-class : List ℕ → ℕ → ℕ → ℕ
-two-class s at next = placeOf (getD s at 0 ∷ next ∷ []) signs
+two-class s at next = placeAmong (getD s at 0 ∷ next ∷ []) signs
 
 -- the sign at a place, where two bytes have the class `two` and one has the class `one`
 module _ (s : List ℕ) (at two : ℕ) (inside : at < length s) (is-two : two ≡ two-class s at (getD s (at + 1) 0)) where
-  class-at : signClass (drop at s) ≡ cond (ltb two SIGNS) two (placeOf (getD s at 0 ∷ []) signs)
+  class-at : signClass (drop at s) ≡ cond (ltb two SIGNS) two (placeAmong (getD s at 0 ∷ []) signs)
   class-at = rw (from-next s at 0 inside, is-two) (rw (getD-drop, add-zero) at (sign-class (getD s at 0) (drop (at + 1) s)))
 
   pub sign-two : two < SIGNS → _≡_ {A = Token} (record { class = two; start = at; end = at + 2 }) (signToken (drop at s) at)
   unfolding signToken
   sign-two h = rw (class-at, lt-ltb two SIGNS h, lt-ltb two SIGNS h, sign-size _ two is-two h)
 
-  module _ (one : ℕ) (none : SIGNS ≤ two) (is-one : one ≡ placeOf (getD s at 0 ∷ []) signs) where
+  module _ (one : ℕ) (none : SIGNS ≤ two) (is-one : one ≡ placeAmong (getD s at 0 ∷ []) signs) where
     pub sign-one : one < SIGNS → _≡_ {A = Token} (record { class = one; start = at; end = at + 1 }) (signToken (drop at s) at)
     unfolding signToken
     sign-one h = rw (class-at, le-ltb two SIGNS none, ← is-one, lt-ltb one SIGNS h, sign-size _ one is-one h)

@@ -11,7 +11,7 @@ use Rattle.lex.specs.declared.Token.{Token}
 use Rattle.lexemes.specs.Bytes.{isDigit}
 use Rattle.lexemes.specs.Classes.{SIGNS, NAME, HEX, BAD}
 use Rattle.lexemes.specs.Lexemes.{signs, reserved, lexemes}
-use Rattle.lexemes.specs.Words.{all, placeOf, word}
+use Rattle.lexemes.specs.Words.{all, placeAmong, word}
 use Rattle.lex.specs.Tokens.{gap, wordClass, tokenAt}
 use Rattle.values.specs.Numbers.{isHex}
 use Rattle.values.specs.Numbers.{numeral, fitted, valueAt, digitsAt}
@@ -28,7 +28,7 @@ unfolding wordClass lexemes signs reserved
 reserved-text w =
     either (isDigit (getD w 0 0))
     (λ e. rw e (either (all isDigit w) (λ d. rw d (λ h. absurd (omega arith))) (λ d. rw d (no-number (isHex w)))))
-    (λ e. rw e (λ h. getD-append-add signs reserved (placeOf w reserved) [] ∙ place-at w reserved (omega arith)))
+    (λ e. rw e (λ h. getD-append-add signs reserved (placeAmong w reserved) [] ∙ place-at w reserved (omega arith)))
   where
     no-number : (hex : Bool) → cond hex HEX BAD < NAME → getD lexemes (cond hex HEX BAD) [] ≡ w
     no-number true h = absurd (omega arith)
@@ -40,7 +40,7 @@ sign-text k h = List·getD-append signs reserved [] k h
 
 -- a word that does not start with a digit is reserved exactly where it stands in the list
 module _ (w : List ℕ) (no-digit : isDigit (getD w 0 0) ≡ false) where
-  class-place : wordClass w ≡ SIGNS + placeOf w reserved
+  class-place : wordClass w ≡ SIGNS + placeAmong w reserved
   unfolding wordClass
   class-place = rw no-digit
 

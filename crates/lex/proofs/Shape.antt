@@ -12,7 +12,7 @@ use Rattle.lex.specs.declared.Token.{Token}
 use Rattle.lexemes.specs.Bytes.{isDigit, isWordByte}
 use Rattle.lexemes.specs.Classes.{SIGNS, BAD, END}
 use Rattle.lexemes.specs.Lexemes.{signs, reserved}
-use Rattle.lexemes.specs.Words.{all, placeOf, word}
+use Rattle.lexemes.specs.Words.{all, placeAmong, word}
 use Rattle.values.specs.Numbers.{isHex}
 use Rattle.lex.specs.Tokens.{empty, wordClass, wordToken, signClass, signToken, tokenFrom}
 use Rattle.lexemes.proofs.Lists.{either, take-own}
@@ -88,7 +88,7 @@ record Text (s : List ℕ) (k : ℕ) : Type 0 where
   fits : length (getD signs k []) ≤ length s
   here : take (length (getD signs k [])) s ≡ getD signs k []
 
-text-of : (s : List ℕ) (n : ℕ) → 0 < n → 0 < length s → placeOf (take n s) signs < SIGNS → Text s (placeOf (take n s) signs)
+text-of : (s : List ℕ) (n : ℕ) → 0 < n → 0 < length s → placeAmong (take n s) signs < SIGNS → Text s (placeAmong (take n s) signs)
 unfolding signs
 text-of s n pos h l =
     let is-text = place-at (take n s) signs l in
@@ -98,7 +98,7 @@ text-of s n pos h l =
 sign-text : (s : List ℕ) → 0 < length s → signClass s < SIGNS → Text s (signClass s)
 unfolding signClass
 sign-text s h =
-    either (ltb (placeOf (take 2 s) signs) SIGNS)
+    either (ltb (placeAmong (take 2 s) signs) SIGNS)
     (λ e. rw e (λ l. text-of s 2 (omega arith) h l))
     (λ e. rw e (λ l. text-of s 1 (omega arith) h l))
 

@@ -7,7 +7,7 @@ use Prim.Native.String.{String}
 use Rattle.lex.specs.declared.Token.{Token}
 use Rattle.lexemes.specs.Classes as class
 use Rattle.lexemes.specs.Lexemes.{bytes, signs, reserved}
-use Rattle.lexemes.specs.Words.{run, all, same, placeOf}
+use Rattle.lexemes.specs.Words.{run, all, same, placeAmong}
 use Rattle.lex.specs.Tokens.{isGap, inComment, gap, wordClass, wordToken, signClass, signToken}
 use Rattle.values.specs.Numbers.{isHex}
 use Rattle.lex.specs.Tokens.{tokenFrom, tokenAfterGap, tokensWithin, tokensFrom, tokens}
@@ -83,7 +83,7 @@ listed =
 
 -- what the definitions make of a source
 unfoldable pub outcome : Specimen → Specimen
-unfolding signs reserved run all same placeOf isGap inComment gap isHex wordClass wordToken signClass signToken tokenFrom
+unfolding signs reserved run all same placeAmong isGap inComment gap isHex wordClass wordToken signClass signToken tokenFrom
     tokenAfterGap tokensWithin tokensFrom tokens
 outcome p = (p .0, tokens (bytes (p .0)))
 

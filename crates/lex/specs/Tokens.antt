@@ -10,7 +10,7 @@ use Rattle.lex.specs.declared.Found.{Found}
 use Rattle.lex.specs.declared.Found.the-variants.{At, Nothing}
 use Rattle.lexemes.specs.Bytes.{isBlank, isDigit, isWordByte}
 use Rattle.lexemes.specs.Lexemes.{signs, reserved}
-use Rattle.lexemes.specs.Words.{all, placeOf, word}
+use Rattle.lexemes.specs.Words.{all, placeAmong, word}
 use Rattle.values.specs.Numbers.{isHex}
 use Rattle.lexemes.specs.Classes.{SIGNS, HEX, DECIMAL, BAD, END}
 
@@ -41,7 +41,7 @@ gap comment (b ∷ s) =
 unfoldable pub wordClass : List ℕ → ℕ
 wordClass w =
     let number = cond (all isDigit w) DECIMAL (cond (isHex w) HEX BAD) in
-    let class = SIGNS + placeOf w reserved in
+    let class = SIGNS + placeAmong w reserved in
     cond (isDigit (getD w 0 0)) number class
 
 -- a bad token, and the end of the source, start and end at one place
@@ -58,8 +58,8 @@ wordToken w at =
 -- the class of the sign that s starts with, SIGNS where there is none; the longest one is taken
 unfoldable pub signClass : List ℕ → ℕ
 signClass s =
-    let two = placeOf (take 2 s) signs in
-    let one = placeOf (take 1 s) signs in
+    let two = placeAmong (take 2 s) signs in
+    let one = placeAmong (take 1 s) signs in
     cond (ltb two SIGNS) two one
 
 unfoldable pub signToken : List ℕ → ℕ → Token

@@ -2,12 +2,12 @@
 ghost use mathlib.Core.Path.{_≡_};
 ghost use mathlib.Core.List.{[], _∷_};
 ghost use Rattle.lexemes.specs.Lexemes.{signs};
-ghost use Rattle.lexemes.specs.Words.{placeOf};
+ghost use Rattle.lexemes.specs.Words.{placeAmong};
 use lexemes::classes::*;
 
 // The class of the sign of one byte, or SIGNS.
 pub fn one_byte(b: u8) -> u8
-    ensures { λ r. ⌜ r ≡ placeOf (b ∷ []) signs ⌝ }
+    ensures { λ r. ⌜ r ≡ placeAmong (b ∷ []) signs ⌝ }
 {
     match b {
         b'{' => OPEN_BRACE,
@@ -32,7 +32,7 @@ pub fn one_byte(b: u8) -> u8
 
 // The class of the sign of two bytes of which `=` is the second, or SIGNS.
 fn before_equals(b: u8) -> u8
-    ensures { λ r. ⌜ r ≡ placeOf (b ∷ 61 ∷ []) signs ⌝ }
+    ensures { λ r. ⌜ r ≡ placeAmong (b ∷ 61 ∷ []) signs ⌝ }
 {
     match b {
         b'=' => EQUAL,
@@ -45,7 +45,7 @@ fn before_equals(b: u8) -> u8
 
 // The class of the sign of two bytes, or SIGNS.
 pub fn two_bytes(b: u8, next: u8) -> u8
-    ensures { λ r. ⌜ r ≡ placeOf (b ∷ next ∷ []) signs ⌝ }
+    ensures { λ r. ⌜ r ≡ placeAmong (b ∷ next ∷ []) signs ⌝ }
 {
     if next < b'<' {
         return SIGNS;

@@ -10,7 +10,7 @@ use native.Mathlib.Omega.{arith}
 use lib.Dec.{eqb}
 use lib.ListN.{length, getD, drop}
 use borrow.Author.Tests.{eqb-true, eqb-false, eq-eqb, ne-eqb}
-use Rattle.lexemes.specs.Words.{same, placeOf, word, sameWord}
+use Rattle.lexemes.specs.Words.{same, placeAmong, word, sameWord}
 use Rattle.lexemes.proofs.Lists.{either, and-true}
 
 eqb-sym : (a b : ℕ) → eqb a b ≡ eqb b a
@@ -43,23 +43,23 @@ same-sym (a ∷ w) [] = refl
 same-sym (a ∷ w) (b ∷ v) = rw (eqb-sym a b, same-sym w v)
 
 -- a place is at most the list's length
-pub place-le : (w : List ℕ) (ws : List (List ℕ)) → placeOf w ws ≤ length ws
-unfolding placeOf
+pub place-le : (w : List ℕ) (ws : List (List ℕ)) → placeAmong w ws ≤ length ws
+unfolding placeAmong
 place-le w [] = zero-le
 place-le w (v ∷ vs) = either (same w v) (λ e. rw e zero-le) (λ e. rw e (suc-le-suc (place-le w vs)))
 
 -- a place below the length is where the text stands
-pub place-at : (w : List ℕ) (ws : List (List ℕ)) → placeOf w ws < length ws → getD ws (placeOf w ws) [] ≡ w
-unfolding placeOf
+pub place-at : (w : List ℕ) (ws : List (List ℕ)) → placeAmong w ws < length ws → getD ws (placeAmong w ws) [] ≡ w
+unfolding placeAmong
 place-at w [] h = absurd (omega arith)
 place-at w (v ∷ vs) h =
     either (same w v)
     (λ e. rw e (sym (same-true w v e)))
-    (λ e. let later : suc (placeOf w vs) < suc (length vs) = rw e at h in rw e (place-at w vs (le-of-suc-le-suc later)))
+    (λ e. let later : suc (placeAmong w vs) < suc (length vs) = rw e at h in rw e (place-at w vs (le-of-suc-le-suc later)))
 
 -- it is below the length exactly where the text stands in the list
-pub member-place : (w : List ℕ) (ws : List (List ℕ)) → List·Memᴰ w ws → placeOf w ws < length ws
-unfolding placeOf
+pub member-place : (w : List ℕ) (ws : List (List ℕ)) → List·Memᴰ w ws → placeAmong w ws < length ws
+unfolding placeAmong
 member-place w [] m = absurd (List·Memᴰ·not-nil m)
 member-place w (v ∷ vs) m =
     either (same w v)
@@ -67,13 +67,13 @@ member-place w (v ∷ vs) m =
     (λ e.
     rw e (suc-le-suc (⊎-elim (λ h. absurd (false≢true (sym e ∙ eq-same w v h))) (λ later. member-place w vs later) (List·Memᴰ·cases-cons m))))
 
-pub place-member : (w : List ℕ) (ws : List (List ℕ)) → placeOf w ws < length ws → List·Memᴰ w ws
-unfolding placeOf
+pub place-member : (w : List ℕ) (ws : List (List ℕ)) → placeAmong w ws < length ws → List·Memᴰ w ws
+unfolding placeAmong
 place-member w [] h = absurd (omega arith)
 place-member w (v ∷ vs) h =
     either (same w v)
     (λ e. List·Memᴰ·head (same-true w v e))
-    (λ e. let later : suc (placeOf w vs) < suc (length vs) = rw e at h in List·Memᴰ·tail (place-member w vs (le-of-suc-le-suc later)))
+    (λ e. let later : suc (placeAmong w vs) < suc (length vs) = rw e at h in List·Memᴰ·tail (place-member w vs (le-of-suc-le-suc later)))
 
 -- ---- words
 

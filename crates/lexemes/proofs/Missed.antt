@@ -8,7 +8,7 @@ use lib.Dec.{eqb}
 use lib.ListN.{length, take}
 use borrow.Author.Tests.{ne-eqb, eqb-false}
 use Rattle.lexemes.specs.Lookup.{packed, codePlace}
-use Rattle.lexemes.specs.Words.{same, placeOf}
+use Rattle.lexemes.specs.Words.{same, placeAmong}
 use Rattle.lexemes.proofs.Lists.{either, and-true, and-false}
 use Rattle.lexemes.proofs.Steps.{same-length}
 
@@ -31,8 +31,8 @@ firstBytes rest [] = []
 firstBytes rest ([] ∷ vs) = firstBytes rest vs
 firstBytes rest ((b ∷ v) ∷ vs) = let more = firstBytes rest vs in cond (same rest v) (b ∷ more) more
 
-place-none : (b : ℕ) (rest : List ℕ) (ws : List (List ℕ)) → member b (firstBytes rest ws) ≡ false → placeOf (b ∷ rest) ws ≡ length ws
-unfolding placeOf same
+place-none : (b : ℕ) (rest : List ℕ) (ws : List (List ℕ)) → member b (firstBytes rest ws) ≡ false → placeAmong (b ∷ rest) ws ≡ length ws
+unfolding placeAmong same
 place-none b rest [] h = refl
 place-none b rest ([] ∷ vs) h = ap suc (place-none b rest vs h)
 place-none b rest ((x ∷ v) ∷ vs) h =
@@ -42,7 +42,7 @@ place-none b rest ((x ∷ v) ∷ vs) h =
     either (eqb b x) (λ t. absurd (true≢false (rw t at among))) (λ t. rw t (ap suc (place-none b rest vs (rw t at among)))))
     (λ e. rw (and-false (eqb b x) (same rest v) e) (ap suc (place-none b rest vs (rw e at h))))
 
-pub byte-missed : (b : ℕ) (rest : List ℕ) (ws : List (List ℕ)) → Missed Unit (firstBytes rest ws) b → placeOf (b ∷ rest) ws ≡ length ws
+pub byte-missed : (b : ℕ) (rest : List ℕ) (ws : List (List ℕ)) → Missed Unit (firstBytes rest ws) b → placeAmong (b ∷ rest) ws ≡ length ws
 byte-missed b rest ws h = place-none b rest ws (no-member (firstBytes rest ws) b h .1)
 
 -- the first eight bytes of the texts of n bytes
@@ -71,8 +71,8 @@ lengthsIn other ks [] = true
 lengthsIn other ks (v ∷ vs) = (member (length v) ks || other (length v)) && lengthsIn other ks vs
 
 length-none : (other : ℕ → Bool) (w ks : List ℕ) (ws : List (List ℕ)) →
-    lengthsIn other ks ws ≡ true → member (length w) ks || other (length w) ≡ false → placeOf w ws ≡ length ws
-unfolding placeOf
+    lengthsIn other ks ws ≡ true → member (length w) ks || other (length w) ≡ false → placeAmong w ws ≡ length ws
+unfolding placeAmong
 length-none other w ks [] t h = refl
 length-none other w ks (v ∷ vs) t h =
     let both = and-true (member (length v) ks || other (length v)) (lengthsIn other ks vs) t in
@@ -80,5 +80,5 @@ length-none other w ks (v ∷ vs) t h =
     rw (same-length w v differ) (ap suc (length-none other w ks vs (both .1) h))
 
 pub length-missed : (other : ℕ → Bool) (w ks : List ℕ) (ws : List (List ℕ)) →
-    lengthsIn other ks ws ≡ true → other (length w) ≡ false → Missed Unit ks (length w) → placeOf w ws ≡ length ws
+    lengthsIn other ks ws ≡ true → other (length w) ≡ false → Missed Unit ks (length w) → placeAmong w ws ≡ length ws
 length-missed other w ks ws t outside h = length-none other w ks ws t (rw (no-member ks (length w) h .1) outside)

@@ -7,7 +7,7 @@ use Prim.Native.String.{String}
 use lib.ListN.{length}
 use Rattle.lexemes.specs.Classes as class
 use Rattle.lexemes.specs.Lexemes.{bytes, signs, reserved, lexemes}
-use Rattle.lexemes.specs.Words.{same, placeOf}
+use Rattle.lexemes.specs.Words.{same, placeAmong}
 
 -- every sign and reserved word, with its class by name
 pub named : List (String × ℕ)
@@ -33,8 +33,8 @@ named =
     ("value", class.«value») ∷ []
 
 -- a named class is the place of its text
-pub classes-named : map (λ (p : String × ℕ). placeOf (bytes (p .0)) lexemes) named ≡ map (λ (p : String × ℕ). p .1) named
-unfolding named signs reserved lexemes same placeOf
+pub classes-named : map (λ (p : String × ℕ). placeAmong (bytes (p .0)) lexemes) named ≡ map (λ (p : String × ℕ). p .1) named
+unfolding named signs reserved lexemes same placeAmong
 classes-named = refl
 
 -- no sign or reserved word is left out

@@ -13,7 +13,7 @@ use borrow.Author.Tests.{eqb-true, eq-eqb, ltb-true, lt-ltb}
 use Rattle.lexemes.specs.Classes.{SIGNS}
 use Rattle.lexemes.specs.Lexemes.{reserved}
 use Rattle.lexemes.specs.Lookup.{packed, codePlace}
-use Rattle.lexemes.specs.Words.{all, same, placeOf}
+use Rattle.lexemes.specs.Words.{all, same, placeAmong}
 use Rattle.lexemes.proofs.Lists.{either, and-true, from-end}
 use Rattle.lexemes.proofs.Equality.{same-refl, same-true}
 
@@ -104,8 +104,8 @@ module _ (w v : List ℕ) (p : all isByte w ≡ true) (q : all isByte v ≡ true
 
 -- the word's place among texts of bytes
 code-place : (w : List ℕ) (ws : List (List ℕ)) → all isByte w ≡ true → allBytes ws ≡ true →
-    codePlace (length w) (packed (take 8 w)) (packed (drop 8 w)) ws ≡ placeOf w ws
-unfolding codePlace placeOf
+    codePlace (length w) (packed (take 8 w)) (packed (drop 8 w)) ws ≡ placeAmong w ws
+unfolding codePlace placeAmong
 code-place w [] p q = refl
 code-place w (v ∷ vs) p q =
     let both = and-true (all isByte v) (allBytes vs) q in
@@ -113,13 +113,13 @@ code-place w (v ∷ vs) p q =
 
 -- a word among the reserved words, by its first eight bytes x and the others y
 module _ (n : ℕ) (w : List ℕ) (x : ℕ) (is-n : length w ≡ n) (bytes : (k : ℕ) → getD w k 0 < 256) (is-x : x ≡ packed (take 8 w)) where
-  reserved-place : (y : ℕ) → y ≡ packed (drop 8 w) → SIGNS + codePlace n x y reserved ≡ SIGNS + placeOf w reserved
+  reserved-place : (y : ℕ) → y ≡ packed (drop 8 w) → SIGNS + codePlace n x y reserved ≡ SIGNS + placeAmong w reserved
   unfolding reserved all
   reserved-place y is-y = rw (← is-n, is-x, is-y) (ap (_+_ SIGNS) (code-place w reserved (bytes-all w bytes) refl))
 
-  pub short-place : n ≤ 8 → SIGNS + codePlace n x 0 reserved ≡ SIGNS + placeOf w reserved
+  pub short-place : n ≤ 8 → SIGNS + codePlace n x 0 reserved ≡ SIGNS + placeAmong w reserved
   unfolding packed
   short-place h = reserved-place 0 (rw (from-end w 8 (omega arith)))
 
-  pub long-place : n ≤ 16 → (y : ℕ) → y ≡ packed (take 8 (drop 8 w)) → SIGNS + codePlace n x y reserved ≡ SIGNS + placeOf w reserved
+  pub long-place : n ≤ 16 → (y : ℕ) → y ≡ packed (take 8 (drop 8 w)) → SIGNS + codePlace n x y reserved ≡ SIGNS + placeAmong w reserved
   long-place h y is-y = reserved-place y (is-y ∙ rw (take-all 8 (drop 8 w) (omega (arith, length-drop 8 w))))

@@ -29,9 +29,9 @@ same (a ∷ w) [] = false
 same (a ∷ w) (b ∷ v) = eqb a b && same w v
 
 -- the place of a text in a list of texts, or the list's length where it is not there
-unfoldable pub placeOf : List ℕ → List (List ℕ) → ℕ
-placeOf w [] = 0
-placeOf w (v ∷ vs) = let later = suc (placeOf w vs) in cond (same w v) 0 later
+unfoldable pub placeAmong : List ℕ → List (List ℕ) → ℕ
+placeAmong w [] = 0
+placeAmong w (v ∷ vs) = let later = suc (placeAmong w vs) in cond (same w v) 0 later
 
 -- ---- words
 

@@ -5,7 +5,7 @@ ghost use lib.ListN.{take, drop};
 ghost use Rattle.lexemes.specs.Classes.{SIGNS};
 ghost use Rattle.lexemes.specs.Lexemes.{reserved};
 ghost use Rattle.lexemes.specs.Lookup.{packed, codePlace};
-ghost use Rattle.lexemes.specs.Words.{placeOf};
+ghost use Rattle.lexemes.specs.Words.{placeAmong};
 use crate::bytes;
 use crate::classes::*;
 
@@ -259,7 +259,7 @@ fn pack_eight(w: &[u8], from: usize) -> u64
 
 // The class of a word that does not start with a digit.
 pub fn class_of(w: &[u8]) -> u8
-    ensures { λ r. ⌜ r ≡ SIGNS + placeOf (now (w .entry)) reserved ⌝ }
+    ensures { λ r. ⌜ r ≡ SIGNS + placeAmong (now (w .entry)) reserved ⌝ }
 {
     let n = w.len();
     match n {

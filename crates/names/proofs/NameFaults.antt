@@ -17,7 +17,7 @@ use Rattle.rows.specs.Codes.{isQuestion, questions, member}
 use Rattle.rows.specs.Columns as column
 use Rattle.answers.specs.Rows.{Draft}
 use Rattle.answers.specs.Stages.{cell, is, asks, any, placeOf, declares, sameSort, faultIf, faultsAfter, repeatedNames}
-use Rattle.drafts.specs.Sound.{MARKS, Sound, AllSound, no-rows, add-row, SoundRows, First, none}
+use Rattle.drafts.specs.Sound.{MARKS, SoundRow, AllSound, no-rows, add-row, SoundRows, First, none}
 use Rattle.names.specs.Names.{HASHES, BUCKETS, hashOf, keyOf, bucketOf, tagOf, entryOf, tagIn, linkIn, rowIn, markIn, added, namesIn, indexed, follow, sameName, matches, findIn, repeats, repeatedFrom, sortOf, declaresMark, firstRow, Indexes}
 use Rattle.drafts.proofs.RowTests.{any-none, any-cons, any-same}
 use Rattle.drafts.proofs.Firsts.{first-cond}
@@ -46,7 +46,7 @@ unfolding isQuestion questions member
 rule-asks-not = refl
 
 -- a row that declares a name is of one sort
-sort-rule : {d : Draft} → Sound d → (cell column.NAME d ≡ 0 → ⊥) → (rule : Bool) → sortOf rule d ≡ cond rule (is code.RULE d) (not (is code.RULE d))
+sort-rule : {d : Draft} → SoundRow d → (cell column.NAME d ≡ 0 → ⊥) → (rule : Bool) → sortOf rule d ≡ cond rule (is code.RULE d) (not (is code.RULE d))
 sort-rule {d} s z true = refl
 sort-rule {d} s z false = go (is code.RULE d) refl (s .name (omega (arith, z)))
   where
@@ -93,7 +93,7 @@ module _ (s : List ℕ) where
   unnamed : (d : Draft) → cell column.NAME d ≡ 0 → (m : ℕ) (rule : Bool) → declaresMark s m rule d ≡ false
   unnamed d e m rule = rw e (and-false (sortOf rule d))
 
-  module _ {d : Draft} (u : Sound d) (y : cell column.NAME d ≡ 0 → ⊥) where
+  module _ {d : Draft} (u : SoundRow d) (y : cell column.NAME d ≡ 0 → ⊥) where
     -- the key of a row
     abbrev rowKey : ℕ
     rowKey = keyOf s (cell column.NAME d) (is code.RULE d)
@@ -160,7 +160,7 @@ module _ (s : List ℕ) where
       }
 
   -- one row more, with a name
-  module _ {xs₀ xs : List ℕ} {i : ℕ} {d : Draft} {ds : List Draft} (v : Chains xs₀ xs (i + 1) ds) (u : Sound d) (y : cell column.NAME d ≡ 0 → ⊥)
+  module _ {xs₀ xs : List ℕ} {i : ℕ} {d : Draft} {ds : List Draft} (v : Chains xs₀ xs (i + 1) ds) (u : SoundRow d) (y : cell column.NAME d ≡ 0 → ⊥)
       (row : i < MARKS) (few : namesIn ds < MARKS) (room : BUCKETS + namesIn ds < length xs) where
     abbrev n : ℕ
     n = namesIn ds
@@ -317,7 +317,7 @@ met-any {all} {before} {rest} {i} v p = go (any p before) refl
 
 module _ (s : List ℕ) where
   -- rows of the sort of a row that declares a name
-  same-sort : {d : Draft} → Sound d → (cell column.NAME d ≡ 0 → ⊥) → (e : Draft) → sameSort s d e ≡ sortOf (is code.RULE d) e
+  same-sort : {d : Draft} → SoundRow d → (cell column.NAME d ≡ 0 → ⊥) → (e : Draft) → sameSort s d e ≡ sortOf (is code.RULE d) e
   same-sort {d} u y e = go (is code.RULE d) refl (sort-rule u y false)
     where
       go : (b : Bool) → is code.RULE d ≡ b → asks d ≡ not (is code.RULE d) → (asks d && asks e || b && is code.RULE e) ≡ sortOf b e
@@ -332,7 +332,7 @@ module _ (s : List ℕ) where
   nameFaults before d = faultIf (nameFault before d) (cell column.NAME d)
 
   module _ {xs : List ℕ} {all : List Draft} (index : Indexes s all xs) where
-    row-repeats : {before rest : List Draft} {i : ℕ} {d : Draft} → Met all before rest i → Sound d → repeats s xs i d ≡ nameFault before d
+    row-repeats : {before rest : List Draft} {i : ℕ} {d : Draft} → Met all before rest i → SoundRow d → repeats s xs i d ≡ nameFault before d
     row-repeats {before} {rest} {i} {d} v u = go (ℕ-discrete n 0)
       where
         n : ℕ

@@ -7,44 +7,44 @@ use native.Mathlib.Omega.{arith}
 use borrow.Author.Tests.{lt-ltb, ltb-true, ltb-false, not-true, not-false}
 use lib.Dec.{ltb}
 use lib.ListN.{length, getD}
-use Rattle.numbers.specs.Numbers.{limit, isNumber, picked, freeFrom, mem, borne, freeNumbers, freeCount, distinct}
+use Rattle.numbers.specs.Numbers.{numberLimit, isNumber, picked, freeFrom, mem, borne, freeNumbers, freeCount, distinct}
 use Rattle.numbers.proofs.Ranges.{and-yes, pick-yes, pick-skip, pick-none, pick-same, count-both, First, first-picked, pick-outside, pick-inside, pick-ascends, pick-distinct}
 
 -- ---- numbers
 
-pub is-number : (n : ℕ) → 1 ≤ n → n < limit → isNumber n ≡ true
-is-number n l h = rw (lt-ltb 0 n l, lt-ltb n limit h)
+pub is-number : (n : ℕ) → 1 ≤ n → n < numberLimit → isNumber n ≡ true
+is-number n l h = rw (lt-ltb 0 n l, lt-ltb n numberLimit h)
 
-pub number-range : (n : ℕ) → isNumber n ≡ true → (1 ≤ n) × (n < limit)
-number-range n e = let b = and-yes (ltb 0 n) (ltb n limit) e in (ltb-true 0 n (b .0), ltb-true n limit (b .1))
+pub number-range : (n : ℕ) → isNumber n ≡ true → (1 ≤ n) × (n < numberLimit)
+number-range n e = let b = and-yes (ltb 0 n) (ltb n numberLimit) e in (ltb-true 0 n (b .0), ltb-true n numberLimit (b .1))
 
-pub number-past : (n : ℕ) → isNumber n ≡ false → 1 ≤ n → limit ≤ n
-number-past n e l = ltb-false n limit (rw (lt-ltb 0 n l) at e)
+pub number-past : (n : ℕ) → isNumber n ≡ false → 1 ≤ n → numberLimit ≤ n
+number-past n e l = ltb-false n numberLimit (rw (lt-ltb 0 n l) at e)
 
 -- ---- the next free number
 
--- r is the smallest number from n up that is not taken, limit where there is none
+-- r is the smallest number from n up that is not taken, numberLimit where there is none
 pub record Smallest (taken : ℕ → Bool) (n r : ℕ) : Type 0 where
-  pub high : r ≤ limit
-  pub on : r < limit → n ≤ r
-  pub number : r < limit → isNumber r ≡ true
-  pub free : r < limit → taken r ≡ false
+  pub high : r ≤ numberLimit
+  pub on : r < numberLimit → n ≤ r
+  pub number : r < numberLimit → isNumber r ≡ true
+  pub free : r < numberLimit → taken r ≡ false
   pub least : (k : ℕ) → n ≤ k → k < r → isNumber k ≡ true → taken k ≡ true
 
 module _ (taken : ℕ → Bool) where
   abbrev isFree : ℕ → Bool
   isFree k = isNumber k && not (taken k)
 
-  pub free-end : (n : ℕ) → limit ≤ n → freeFrom taken n ≡ []
+  pub free-end : (n : ℕ) → numberLimit ≤ n → freeFrom taken n ≡ []
   unfolding freeFrom picked
-  free-end n h = let e : limit - n ≡ 0 = omega arith in rw e
+  free-end n h = let e : numberLimit - n ≡ 0 = omega arith in rw e
 
   pub free-here : (n : ℕ) → isNumber n ≡ true → taken n ≡ false → freeFrom taken n ≡ n ∷ freeFrom taken (n + 1)
   unfolding freeFrom
   free-here n i t =
       let h = number-range n i in
-      let e : limit - n ≡ suc (limit - (n + 1)) = omega arith in
-      rw e (pick-yes isFree n (limit - (n + 1)) (rw (i, t)))
+      let e : numberLimit - n ≡ suc (numberLimit - (n + 1)) = omega arith in
+      rw e (pick-yes isFree n (numberLimit - (n + 1)) (rw (i, t)))
 
   is-free : (k : ℕ) → isFree k ≡ true → (isNumber k ≡ true) × (taken k ≡ false)
   is-free k e = let b = and-yes (isNumber k) (not (taken k)) e in (b .0, not-true (taken k) (b .1))
@@ -57,18 +57,18 @@ module _ (taken : ℕ → Bool) where
       go false b = refl
 
   -- no number before n is free
-  pub free-skip : (at n : ℕ) → at ≤ n → n ≤ limit → ((k : ℕ) → at ≤ k → k < n → isNumber k ≡ true → taken k ≡ true) → freeFrom taken at ≡ freeFrom taken n
+  pub free-skip : (at n : ℕ) → at ≤ n → n ≤ numberLimit → ((k : ℕ) → at ≤ k → k < n → isNumber k ≡ true → taken k ≡ true) → freeFrom taken at ≡ freeFrom taken n
   unfolding freeFrom
   free-skip at n l h t =
-      let e : limit - at ≡ (n - at) + (limit - n) = omega arith in
+      let e : numberLimit - at ≡ (n - at) + (numberLimit - n) = omega arith in
       let f : at + (n - at) ≡ n = omega arith in
-      rw e (pick-skip isFree (n - at) at (limit - n) (λ k g m. not-free k (t k g (omega arith))) ∙ rw f)
+      rw e (pick-skip isFree (n - at) at (numberLimit - n) (λ k g m. not-free k (t k g (omega arith))) ∙ rw f)
 
-  pub smallest-free : (n : ℕ) → Smallest taken n (headD (freeFrom taken n) limit)
+  pub smallest-free : (n : ℕ) → Smallest taken n (headD (freeFrom taken n) numberLimit)
   unfolding freeFrom
   smallest-free n =
-      let r : ℕ = headD (freeFrom taken n) limit in
-      let f : First isFree n (limit - n) limit r = first-picked isFree (limit - n) n limit (λ k l g. omega arith) in
+      let r : ℕ = headD (freeFrom taken n) numberLimit in
+      let f : First isFree n (numberLimit - n) numberLimit r = first-picked isFree (numberLimit - n) n numberLimit (λ k l g. omega arith) in
       record {
         high = f .high;
         on = f .on;
@@ -78,12 +78,12 @@ module _ (taken : ℕ → Bool) where
       }
 
   -- the first free number, and those after it
-  pub free-next : (n : ℕ) {r : ℕ} → Smallest taken n r → r < limit → freeFrom taken n ≡ r ∷ freeFrom taken (r + 1)
+  pub free-next : (n : ℕ) {r : ℕ} → Smallest taken n r → r < numberLimit → freeFrom taken n ≡ r ∷ freeFrom taken (r + 1)
   free-next n {r} s h = free-skip n r (s .on h) (s .high) (s .least) ∙ free-here r (s .number h) (s .free h)
 
-  pub free-none : (n : ℕ) {r : ℕ} → Smallest taken n r → limit ≤ r → freeFrom taken n ≡ []
+  pub free-none : (n : ℕ) {r : ℕ} → Smallest taken n r → numberLimit ≤ r → freeFrom taken n ≡ []
   unfolding freeFrom
-  free-none n s h = pick-none isFree (limit - n) n (λ k l g. not-free k (s .least k l (omega arith)))
+  free-none n s h = pick-none isFree (numberLimit - n) n (λ k l g. not-free k (s .least k l (omega arith)))
 
 -- the free numbers and the taken ones are all of 1 to 65,535
 pub free-rest : (taken : ℕ → Bool) → length (freeFrom taken 1) + length (picked taken 1 65535) ≡ 65535
@@ -95,7 +95,7 @@ free-rest taken =
 
 pub free-same : (taken taken′ : ℕ → Bool) (n : ℕ) → ((k : ℕ) → n ≤ k → taken k ≡ taken′ k) → freeFrom taken n ≡ freeFrom taken′ n
 unfolding freeFrom
-free-same taken taken′ n h = pick-same (isFree taken) (isFree taken′) (limit - n) n (λ k l g. rw (h k l))
+free-same taken taken′ n h = pick-same (isFree taken) (isFree taken′) (numberLimit - n) n (λ k l g. rw (h k l))
 
 -- ---- the free numbers of a list: those of 1 to 65,535 that do not stand in it, ascending
 

@@ -5,7 +5,7 @@ use Prim.Native.Nat.{ℕ, zero, suc, _+_, _≤_, _<_}
 use native.Mathlib.Omega.{arith}
 use lib.ListN.{take}
 use lib.Seq.{take-nil}
-use Rattle.numbers.specs.Numbers.{limit, used, marked, markedAll, freeFrom, firstFree, borne, freeNumbers, fill, unwritten, numbered, Holds, given, givenMap}
+use Rattle.numbers.specs.Numbers.{numberLimit, used, withUsed, withAllUsed, freeFrom, firstFree, borne, freeNumbers, fill, unwritten, numbered, Holds, given, givenMap}
 use Rattle.numbers.proofs.FreeNumbers.{free-same}
 use Rattle.numbers.proofs.Lists.{mem-append, suc-written, fill-end, fill-none, fill-kept, fill-given, fill-mem, unwritten-kept, unwritten-given}
 use Rattle.numbers.proofs.Maps.{holds-all, holds-same}
@@ -20,7 +20,7 @@ module _ (ws : List ℕ) (at : ℕ) where
   given-end = fill-end (freeFrom (used ws) at)
 
   pub map-end : givenMap ws at [] ≡ ws
-  unfolding givenMap markedAll unwritten
+  unfolding givenMap withAllUsed unwritten
   map-end = refl
 
   -- it is written
@@ -34,23 +34,23 @@ module _ (ws : List ℕ) (at : ℕ) where
     map-kept = rw (unwritten-kept l z)
 
   -- it is not, and n is the next free number
-  module _ {q n : ℕ} (l : List ℕ) (z : q ≡ 0) (e : n ≡ firstFree ws at) (h : n < limit) where
-    pub given-next : given ws at (q ∷ l) ≡ n ∷ given (marked ws n) (n + 1) l
+  module _ {q n : ℕ} (l : List ℕ) (z : q ≡ 0) (e : n ≡ firstFree ws at) (h : n < numberLimit) where
+    pub given-next : given ws at (q ∷ l) ≡ n ∷ given (withUsed ws n) (n + 1) l
     unfolding given
-    given-next = rw (next-found ws at e h) (fill-given n (freeFrom (used (marked ws n)) (n + 1)) l z)
+    given-next = rw (next-found ws at e h) (fill-given n (freeFrom (used (withUsed ws n)) (n + 1)) l z)
 
-    pub map-next : givenMap ws at (q ∷ l) ≡ givenMap (marked ws n) (n + 1) l
-    unfolding givenMap markedAll
+    pub map-next : givenMap ws at (q ∷ l) ≡ givenMap (withUsed ws n) (n + 1) l
+    unfolding givenMap withAllUsed
     map-next = rw (next-found ws at e h, unwritten-given l z)
 
   -- no number is free
-  module _ {n : ℕ} (l : List ℕ) (e : n ≡ firstFree ws at) (h : limit ≤ n) where
+  module _ {n : ℕ} (l : List ℕ) (e : n ≡ firstFree ws at) (h : numberLimit ≤ n) where
     pub given-none : given ws at l ≡ l
     unfolding given
     given-none = rw (next-none ws at e h) (fill-none l)
 
     pub map-none : givenMap ws at l ≡ ws
-    unfolding givenMap markedAll
+    unfolding givenMap withAllUsed
     map-none = rw (next-none ws at e h, take-nil (unwritten l))
 
 -- ---- the whole list, where the map holds its numbers

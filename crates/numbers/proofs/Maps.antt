@@ -12,7 +12,7 @@ use lib.Count.{ones, ones-step}
 use lib.Pow.{shr-shr}
 use lib.ListN.{length, getD, set, replicate, length-set, length-replicate, List·getD-eq-default}
 use lib.Seq.{getD-set-same, getD-set-other, set-out}
-use Rattle.numbers.specs.Numbers.{limit, isNumber, picked, emptyMap, digit, used, marked, markedAll, usedCount, mem, borne, freeCount, Holds}
+use Rattle.numbers.specs.Numbers.{numberLimit, isNumber, picked, emptyMap, digit, used, withUsed, withAllUsed, usedCount, mem, borne, freeCount, Holds}
 use Rattle.numbers.proofs.Digits.{digit-or, digit-le, digit-past, bit-same, bit-other, bit-fits}
 use Rattle.numbers.proofs.Ranges.{one, count-none, count-next, count-add, pick-same}
 use Rattle.numbers.proofs.FreeNumbers.{is-number, number-range, free-rest}
@@ -41,23 +41,23 @@ used-empty k = rw (getD-zeros 1024 (k / 64), digit-past 0 0 (k % 64) (zero-lt-su
 
 -- ---- marking
 
-marked-none : (ws : List ℕ) (n : ℕ) → isNumber n ≡ false → marked ws n ≡ ws
-unfolding marked
+marked-none : (ws : List ℕ) (n : ℕ) → isNumber n ≡ false → withUsed ws n ≡ ws
+unfolding withUsed
 marked-none ws n e = rw e
 
-marked-number : (ws : List ℕ) (n : ℕ) → isNumber n ≡ true → marked ws n ≡ set ws (n / 64) (bitOr (getD ws (n / 64) 0) (2 ^ (n % 64)))
-unfolding marked
+marked-number : (ws : List ℕ) (n : ℕ) → isNumber n ≡ true → withUsed ws n ≡ set ws (n / 64) (bitOr (getD ws (n / 64) 0) (2 ^ (n % 64)))
+unfolding withUsed
 marked-number ws n e = rw e
 
 -- the same by the tests of `mark`
 module _ (ws : List ℕ) {n : ℕ} where
-  pub mark-zero : n ≡ 0 → ws ≡ marked ws n
+  pub mark-zero : n ≡ 0 → ws ≡ withUsed ws n
   mark-zero e = sym (marked-none ws n (rw e))
 
-  pub mark-high : limit ≤ n → ws ≡ marked ws n
-  mark-high h = sym (marked-none ws n (rw (le-ltb n limit h, and-false)))
+  pub mark-high : numberLimit ≤ n → ws ≡ withUsed ws n
+  mark-high h = sym (marked-none ws n (rw (le-ltb n numberLimit h, and-false)))
 
-  pub mark-stored : (n ≡ 0 → ⊥) → n < limit → set ws (n / 64) (bitOr (getD ws (n / 64) 0) ((1 * 2 ^ (n % 64)) % 2 ^ 64)) ≡ marked ws n
+  pub mark-stored : (n ≡ 0 → ⊥) → n < numberLimit → set ws (n / 64) (bitOr (getD ws (n / 64) 0) ((1 * 2 ^ (n % 64)) % 2 ^ 64)) ≡ withUsed ws n
   mark-stored z h = rw (bit-fits (n % 64) (omega arith)) (sym (marked-number ws n (is-number n (omega (arith, z)) h)))
 
 max-one : (x y : ℕ) → x ≤ 1 → y ≡ 1 → max x y ≡ 1
@@ -95,25 +95,25 @@ module _ (ws : List ℕ) (n : ℕ) where
           used-at stored k (k / 64) (k % 64) refl refl
           ∙ rw (getD-set-other ws (n / 64) (k / 64) new-word 0 (eqb-false _ _ e)) (sym (used-at ws k (k / 64) (k % 64) refl refl))
 
-  pub length-marked : length (marked ws n) ≡ length ws
+  pub length-marked : length (withUsed ws n) ≡ length ws
   length-marked = go (isNumber n) refl
     where
-      go : (b : Bool) → isNumber n ≡ b → length (marked ws n) ≡ length ws
+      go : (b : Bool) → isNumber n ≡ b → length (withUsed ws n) ≡ length ws
       go true e = rw (marked-number ws n e) (length-set ws (n / 64) new-word)
       go false e = rw (marked-none ws n e)
 
   -- every other number is as before
-  pub marked-other : (k : ℕ) → (k ≡ n → ⊥) → used (marked ws n) k ≡ used ws k
+  pub marked-other : (k : ℕ) → (k ≡ n → ⊥) → used (withUsed ws n) k ≡ used ws k
   marked-other k f = go (isNumber n) refl
     where
-      go : (b : Bool) → isNumber n ≡ b → used (marked ws n) k ≡ used ws k
+      go : (b : Bool) → isNumber n ≡ b → used (withUsed ws n) k ≡ used ws k
       go true e = rw (marked-number ws n e) (stored-other k f)
       go false e = rw (marked-none ws n e)
 
-  pub used-marked : length ws ≡ 1024 → (k : ℕ) → used (marked ws n) k ≡ (used ws k || eqb k n && isNumber n)
+  pub used-marked : length ws ≡ 1024 → (k : ℕ) → used (withUsed ws n) k ≡ (used ws k || eqb k n && isNumber n)
   used-marked l k = go (eqb k n) refl (isNumber n) refl
     where
-      go : (b : Bool) → eqb k n ≡ b → (c : Bool) → isNumber n ≡ c → used (marked ws n) k ≡ (used ws k || b && c)
+      go : (b : Bool) → eqb k n ≡ b → (c : Bool) → isNumber n ≡ c → used (withUsed ws n) k ≡ (used ws k || b && c)
       go true e true c =
           let p : k ≡ n = eqb-true k n e in
           let h = number-range n c in
@@ -128,7 +128,7 @@ unfolding emptyMap mem
 holds-empty = record { size = length-replicate {A = ℕ} 1024 0; same = λ k. used-empty k ∙ sym (and-false (isNumber k)) }
 
 module _ {ws l : List ℕ} (v : Holds ws l) where
-  pub holds-mark : {ws′ : List ℕ} {n : ℕ} → ws′ ≡ marked ws n → Holds ws′ (n ∷ l)
+  pub holds-mark : {ws′ : List ℕ} {n : ℕ} → ws′ ≡ withUsed ws n → Holds ws′ (n ∷ l)
   holds-mark {ws′} {n} e =
       rw e
       record {
@@ -140,8 +140,8 @@ module _ {ws l : List ℕ} (v : Holds ws l) where
   pub holds-same : {m : List ℕ} → ((k : ℕ) → borne l k ≡ borne m k) → Holds ws m
   holds-same h = record { size = v .size; same = λ k. v .same k ∙ h k }
 
-pub holds-all : {ws l : List ℕ} (m : List ℕ) → Holds ws l → Holds (markedAll ws m) (l ++ m)
-unfolding markedAll mem
+pub holds-all : {ws l : List ℕ} (m : List ℕ) → Holds ws l → Holds (withAllUsed ws m) (l ++ m)
+unfolding withAllUsed mem
 holds-all {ws} {l} [] v = rw (append-nil l) v
 holds-all {ws} {l} (n ∷ m) v = rw (← append-assoc l (n ∷ []) m) (holds-all {l = l ++ n ∷ []} m (holds-same (holds-mark v refl) last))
   where

@@ -7,14 +7,14 @@ use native.Mathlib.Omega.{arith}
 use lib.Dec.{eqb}
 use lib.Count.{trailingZeros}
 use lib.ListN.{getD}
-use Rattle.numbers.specs.Numbers.{limit, digit, used, marked, freeFrom, firstFree}
+use Rattle.numbers.specs.Numbers.{numberLimit, digit, used, withUsed, freeFrom, firstFree}
 use Rattle.numbers.proofs.Digits.{Found, found, full}
 use Rattle.numbers.proofs.FreeNumbers.{Smallest, smallest-free, is-number, number-range, free-here, free-skip, free-next, free-none, free-same}
 use Rattle.numbers.proofs.Maps.{used-at, marked-other}
 
 -- ---- one word
 
-module _ (ws : List ℕ) (at : ℕ) (pos : 1 ≤ at) (low : at < limit) (fits : getD ws (at / 64) 0 < 2 ^ 64) where
+module _ (ws : List ℕ) (at : ℕ) (pos : 1 ≤ at) (low : at < numberLimit) (fits : getD ws (at / 64) 0 < 2 ^ 64) where
   -- the word of `at`, flipped, from the digit of `at` up
   abbrev rest : ℕ
   rest = (2 ^ 64 - 1 - getD ws (at / 64) 0) / 2 ^ (at % 64)
@@ -34,7 +34,7 @@ module _ (ws : List ℕ) (at : ℕ) (pos : 1 ≤ at) (low : at < limit) (fits : 
     hit : Found (getD ws (at / 64) 0) (at % 64) (trailingZeros 64 rest)
     hit = found (getD ws (at / 64) 0) (at % 64) fits (omega arith) z
 
-    pub word-low : at + trailingZeros 64 rest < limit
+    pub word-low : at + trailingZeros 64 rest < numberLimit
     word-low = omega (arith, hit .inside)
 
     pub word-free : freeFrom (used ws) at ≡ (at + trailingZeros 64 rest) ∷ freeFrom (used ws) (at + trailingZeros 64 rest + 1)
@@ -59,7 +59,7 @@ module _ (ws : List ℕ) (at : ℕ) where
   unfolding firstFree headD
   first-is e = rw e
 
-  pub first-none : freeFrom (used ws) at ≡ [] → limit ≡ firstFree ws at
+  pub first-none : freeFrom (used ws) at ≡ [] → numberLimit ≡ firstFree ws at
   unfolding firstFree headD
   first-none e = rw e
 
@@ -75,11 +75,11 @@ module _ (ws : List ℕ) (at : ℕ) where
     smallest = rw e first-free
 
     -- a number is found: it comes first, and then those that are free once it is marked
-    pub next-found : n < limit → freeFrom (used ws) at ≡ n ∷ freeFrom (used (marked ws n)) (n + 1)
+    pub next-found : n < numberLimit → freeFrom (used ws) at ≡ n ∷ freeFrom (used (withUsed ws n)) (n + 1)
     next-found h =
         free-next (used ws) at smallest h
-        ∙ ap (λ (l : List ℕ). n ∷ l) (free-same (used ws) (used (marked ws n)) (n + 1) (λ k l. sym (marked-other ws n k (λ f. omega arith))))
+        ∙ ap (λ (l : List ℕ). n ∷ l) (free-same (used ws) (used (withUsed ws n)) (n + 1) (λ k l. sym (marked-other ws n k (λ f. omega arith))))
 
     -- none is found
-    pub next-none : limit ≤ n → freeFrom (used ws) at ≡ []
+    pub next-none : numberLimit ≤ n → freeFrom (used ws) at ≡ []
     next-none h = free-none (used ws) at smallest h

@@ -10,12 +10,12 @@ use lib.ListN.{length, getD, set, take, replicate}
 -- ---- numbers
 
 -- question numbers are 1 to 65,535 (document 01, refusal 5); 65,536 stands for no number
-abbrev pub limit : ℕ
-limit = 65536
+abbrev pub numberLimit : ℕ
+numberLimit = 65536
 
 -- n is a number that a question can bear
 abbrev pub isNumber : ℕ → Bool
-isNumber n = ltb 0 n && ltb n limit
+isNumber n = ltb 0 n && ltb n numberLimit
 
 -- of the m numbers from n up those that p holds of, ascending
 unfoldable pub picked : (ℕ → Bool) → ℕ → ℕ → List ℕ
@@ -24,7 +24,7 @@ picked p n (suc m) = let more = picked p (n + 1) m in cond (p n) (n ∷ more) mo
 
 -- the question numbers from n up that are not taken, ascending
 unfoldable pub freeFrom : (ℕ → Bool) → ℕ → List ℕ
-freeFrom taken n = picked (λ k. isNumber k && not (taken k)) n (limit - n)
+freeFrom taken n = picked (λ k. isNumber k && not (taken k)) n (numberLimit - n)
 
 -- ---- the map of used question numbers (document 01, "Rows")
 
@@ -41,21 +41,21 @@ unfoldable pub used : List ℕ → ℕ → Bool
 used words n = eqb (digit (getD words (n / 64) 0) (n % 64)) 1
 
 -- the map in which n is used too; what is no question number changes nothing
-unfoldable pub marked : List ℕ → ℕ → List ℕ
-marked words n = cond (isNumber n) (set words (n / 64) (bitOr (getD words (n / 64) 0) (2 ^ (n % 64)))) words
+unfoldable pub withUsed : List ℕ → ℕ → List ℕ
+withUsed words n = cond (isNumber n) (set words (n / 64) (bitOr (getD words (n / 64) 0) (2 ^ (n % 64)))) words
 
 -- the map in which every number of a list is used too
-unfoldable pub markedAll : List ℕ → List ℕ → List ℕ
-markedAll words [] = words
-markedAll words (n ∷ l) = markedAll (marked words n) l
+unfoldable pub withAllUsed : List ℕ → List ℕ → List ℕ
+withAllUsed words [] = words
+withAllUsed words (n ∷ l) = withAllUsed (withUsed words n) l
 
 -- how many numbers are used (document 01, "Rows": found from the ones in the map)
 unfoldable pub usedCount : List ℕ → ℕ
-usedCount words = length (picked (used words) 0 limit)
+usedCount words = length (picked (used words) 0 numberLimit)
 
 -- the smallest question number from n up that is not used, 65,536 where there is none
 unfoldable pub firstFree : List ℕ → ℕ → ℕ
-firstFree words n = headD (freeFrom (used words) n) limit
+firstFree words n = headD (freeFrom (used words) n) numberLimit
 
 -- ---- own numbers: what each question writes with `questionid`, in source order, 0 where it writes nothing
 
@@ -106,7 +106,7 @@ distinct (q ∷ l) = not (mem q l) && distinct l
 
 -- no element lies above 65,535 (document 01, refusal 5)
 abbrev pub Below : List ℕ → Type 0
-Below l = (k : ℕ) → mem k l ≡ true → k < limit
+Below l = (k : ℕ) → mem k l ≡ true → k < numberLimit
 
 -- ---- the map beside a list
 
@@ -121,4 +121,4 @@ given words n l = fill (freeFrom (used words) n) l
 
 -- the map in which the numbers so given are used too
 unfoldable pub givenMap : List ℕ → ℕ → List ℕ → List ℕ
-givenMap words n l = markedAll words (take (unwritten l) (freeFrom (used words) n))
+givenMap words n l = withAllUsed words (take (unwritten l) (freeFrom (used words) n))

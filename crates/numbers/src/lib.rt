@@ -1,6 +1,6 @@
 // The map of used question numbers (document 01, "Rows"). Which question gets which number is in specs/.
 ghost use mathlib.Core.Path.{_≡_};
-ghost use Rattle.numbers.specs.Numbers.{emptyMap, used, marked, usedCount, firstFree};
+ghost use Rattle.numbers.specs.Numbers.{emptyMap, used, withUsed, usedCount, firstFree};
 
 // How many words the map has.
 pub const WORDS: usize = 1024;
@@ -35,7 +35,7 @@ pub fn has(map: &Map, n: u64) -> bool
 
 // Marks n as used. 0 and what lies above 65,535 are no question numbers and change nothing.
 pub fn mark(map: &mut Map, n: u64)
-    ensures { λ r. ⌜ now (map .exit) ≡ marked (now (map .entry)) n ⌝ }
+    ensures { λ r. ⌜ now (map .exit) ≡ withUsed (now (map .entry)) n ⌝ }
 {
     if n == 0 {
         return;

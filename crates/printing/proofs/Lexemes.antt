@@ -11,7 +11,7 @@ use borrow.Author.Tests.{eqb-true, lt-ltb, le-ltb}
 use Rattle.lexemes.specs.Bytes.{isWordByte}
 use Rattle.lexemes.specs.Classes.{SIGNS, NAME}
 use Rattle.lexemes.specs.Lexemes.{signs, reserved, lexemes}
-use Rattle.lexemes.specs.Words.{all, same, placeOf}
+use Rattle.lexemes.specs.Words.{all, same, placeAmong}
 use Rattle.lex.specs.Tokens.{isGap, gap, wordClass, signClass, signToken, tokenFrom}
 use Rattle.values.specs.Numbers.{isHex}
 use Rattle.lexemes.proofs.Lists.{either-less, and-true}
@@ -37,7 +37,7 @@ lexemeTest k (c ∷ v) =
 
 -- every lexeme passes
 lexemes-pass : allAt lexemeTest lexemes ≡ true
-unfolding lexemes signs reserved all same placeOf isGap isHex wordClass signClass
+unfolding lexemes signs reserved all same placeAmong isGap isHex wordClass signClass
 lexemes-pass = refl
 
 pass-at : (p : ℕ → Word → Bool) (l : List Word) → allAt p l ≡ true → (k : ℕ) → k < length l → p k (getD l k []) ≡ true

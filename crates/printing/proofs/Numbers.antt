@@ -13,7 +13,7 @@ use borrow.Author.Tests.{lt-ltb, le-leb, lt-leb, leb-true, eqb-true, eqb-false}
 use Rattle.lexemes.specs.Bytes.{isDigit, isHexDigit, isWordByte}
 use Rattle.lexemes.specs.Classes.{NAME, HEX, DECIMAL}
 use Rattle.lexemes.specs.Lexemes.{reserved}
-use Rattle.lexemes.specs.Words.{run, all, same, placeOf, word}
+use Rattle.lexemes.specs.Words.{run, all, same, placeAmong, word}
 use Rattle.values.specs.Numbers.{isHex}
 use Rattle.lex.specs.Tokens.{wordClass}
 use Rattle.values.specs.Numbers.{valueFrom, numeral, fitted, valueAt}
@@ -64,7 +64,7 @@ hex-class w some h = rw (lt-ltb 2 (suc (suc (length w))) (omega arith), h)
 
 -- no reserved word is R and a digit
 name-class : (w : List ℕ) → 0 < length w → all isDigit w ≡ true → wordClass (82 ∷ w) ≡ NAME
-unfolding wordClass placeOf reserved same all
+unfolding wordClass placeAmong reserved same all
 name-class [] some h = absurd (omega arith)
 name-class (b ∷ w) some h = rw (not-byte isDigit b 69 (and-true (isDigit b) (all isDigit w) h .0) refl)
 

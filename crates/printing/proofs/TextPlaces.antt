@@ -14,7 +14,7 @@ use Rattle.values.specs.Numbers.{numeral}
 use Rattle.lexemes.proofs.Lists.{either-less, from-end}
 use Rattle.ll1.specs.Trees.{Token}
 use Rattle.answers.specs.Text.{Word, gapAfter, textOf}
-use Rattle.printing.specs.Spelling.{nameWord, Spells, a-lexeme, a-decimal, a-hex, a-name, Spelled, spelled-none, spelled-next}
+use Rattle.printing.specs.Spelling.{nameWord, SpellsToken, a-lexeme, a-decimal, a-hex, a-name, Spelled, spelled-none, spelled-next}
 use Rattle.printing.specs.Spelling.{placed, Stands, Standing, standing-none, standing-next}
 use Rattle.printing.proofs.Numbers.{decimal-in-word, hex-in-word, name-in-word, decimal-numeral, hex-numeral, name-numeral}
 
@@ -33,20 +33,20 @@ stand-placed {ws} sp = standing-from sp (textOf ws) 0 refl
 
 -- ---- the word at a place
 
-pub in-word : {w : Word} {k v : ℕ} → Spells w k v → NAME ≤ k → all isWordByte w ≡ true
+pub in-word : {w : Word} {k v : ℕ} → SpellsToken w k v → NAME ≤ k → all isWordByte w ≡ true
 in-word (a-lexeme k h) l = absurd (omega arith)
 in-word (a-decimal v) l = decimal-in-word v
 in-word (a-hex width v h) l = hex-in-word width v
 in-word (a-name n) l = name-in-word n
 
 -- the value of a number, and of a rule's name
-pub word-numeral : {w : Word} {k v : ℕ} → Spells w k v → NAME ≤ k → numeral w ≡ v
+pub word-numeral : {w : Word} {k v : ℕ} → SpellsToken w k v → NAME ≤ k → numeral w ≡ v
 word-numeral (a-lexeme k h) l = absurd (omega arith)
 word-numeral (a-decimal v) l = decimal-numeral v
 word-numeral (a-hex width v h) l = hex-numeral width v
 word-numeral (a-name n) l = name-numeral n
 
-pub name-is : {w : Word} {k n : ℕ} → Spells w k n → k ≡ NAME → w ≡ nameWord n
+pub name-is : {w : Word} {k n : ℕ} → SpellsToken w k n → k ≡ NAME → w ≡ nameWord n
 name-is (a-lexeme k h) e = absurd (omega arith)
 name-is (a-decimal v) e = absurd (omega arith)
 name-is (a-hex width v h) e = absurd (omega arith)

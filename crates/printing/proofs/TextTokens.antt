@@ -16,12 +16,12 @@ use Rattle.lex.proofs.Specimens.{tok}
 use Rattle.ll1.specs.Trees.{Token, token}
 use Rattle.grammar.specs.Source.{grammarTokens, sourceTokens}
 use Rattle.answers.specs.Text.{Word, gapAfter, textOf}
-use Rattle.printing.specs.Spelling.{Spells, a-lexeme, a-decimal, a-hex, a-name, Spelled, spelled-none, spelled-next, placed}
+use Rattle.printing.specs.Spelling.{SpellsToken, a-lexeme, a-decimal, a-hex, a-name, Spelled, spelled-none, spelled-next, placed}
 use Rattle.printing.proofs.Runs.{Blank, space, line, gap-blank, Reads}
 use Rattle.printing.proofs.Lexemes.{lexeme-reads}
 use Rattle.printing.proofs.Numbers.{decimal-reads, hex-reads, name-reads}
 
-pub spells-reads : {w : Word} {k v : ℕ} → Spells w k v → Reads w k
+pub spells-reads : {w : Word} {k v : ℕ} → SpellsToken w k v → Reads w k
 spells-reads (a-lexeme k h) = lexeme-reads k h
 spells-reads (a-decimal v) = decimal-reads v
 spells-reads (a-hex width v h) = hex-reads width v h

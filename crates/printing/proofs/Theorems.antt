@@ -21,7 +21,7 @@ use Rattle.ll1.specs.Trees.{Token}
 use Rattle.grammar.specs.Source.{sourceTokens, numberAt}
 use Rattle.grammar.specs.Ranges.{between, digits, within, keeps}
 use Rattle.answers.specs.Text.{Word, textOf}
-use Rattle.printing.specs.Spelling.{hexWord, Spells, a-hex, Spelled, placed, Stands, Standing}
+use Rattle.printing.specs.Spelling.{hexWord, SpellsToken, a-hex, Spelled, placed, Stands, Standing}
 use Rattle.printing.proofs.Digits.{hex-length}
 use Rattle.printing.proofs.Runs.{gap-blank, word-is}
 use Rattle.printing.proofs.Numbers.{same-names}
@@ -44,7 +44,7 @@ module _ {ws : List Word} {ts : List Token} (spelled : Spelled ws ts) where
 
 -- ---- the place p of a word of the class k and the value v
 
-module _ {s : List ℕ} {p k v : ℕ} {w : Word} (stands : Stands s p w) (spells : Spells w k v) where
+module _ {s : List ℕ} {p k v : ℕ} {w : Word} (stands : Stands s p w) (spells : SpellsToken w k v) where
   pub token-at : tokenAt s p ≡ tok k p (p + length w)
   unfolding tokenAt tokenAfterGap
   token-at =
@@ -92,7 +92,7 @@ module _ {s : List ℕ} {p : ℕ} (width v : ℕ) (stands : Stands s p (hexWord 
 
 -- two rule names are the same exactly where the rules' numbers are
 pub names-at : {s : List ℕ} {p q k l m n : ℕ} {w u : Word} →
-    Stands s p w → Spells w k m → k ≡ NAME → Stands s q u → Spells u l n → l ≡ NAME → sameWord s p q ≡ eqb m n
+    Stands s p w → SpellsToken w k m → k ≡ NAME → Stands s q u → SpellsToken u l n → l ≡ NAME → sameWord s p q ≡ eqb m n
 unfolding sameWord
 names-at {m = m} {n = n} a x e b y f =
     rw (word-at a x (omega arith), word-at b y (omega arith), name-is x e, name-is y f) (same-names m n)

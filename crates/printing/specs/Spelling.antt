@@ -24,17 +24,17 @@ abbrev pub nameWord : ℕ → Word
 nameWord n = 82 ∷ decimalWord n
 
 -- a word spells a token of a class and a value: a number's value, the number of the rule that a name stands for, and 0 for signs and reserved words
-pub data Spells : Word → (class value : ℕ) → Type 0 where
+pub data SpellsToken : Word → (class value : ℕ) → Type 0 where
   -- a sign or a reserved word
-  a-lexeme : (k : ℕ) → k < NAME → Spells (getD lexemes k []) k 0
-  a-decimal : (v : ℕ) → Spells (decimalWord v) DECIMAL v
-  a-hex : (width v : ℕ) → 0 < width → Spells (hexWord width v) HEX (v % 16 ^ width)
-  a-name : (n : ℕ) → Spells (nameWord n) NAME n
+  a-lexeme : (k : ℕ) → k < NAME → SpellsToken (getD lexemes k []) k 0
+  a-decimal : (v : ℕ) → SpellsToken (decimalWord v) DECIMAL v
+  a-hex : (width v : ℕ) → 0 < width → SpellsToken (hexWord width v) HEX (v % 16 ^ width)
+  a-name : (n : ℕ) → SpellsToken (nameWord n) NAME n
 
 -- words, one for each token; these tokens have a value in the place's stead
 pub data Spelled : List Word → List Token → Type 0 where
   spelled-none : Spelled [] []
-  spelled-next : {w : Word} {k v : ℕ} {ws : List Word} {ts : List Token} → Spells w k v → Spelled ws ts → Spelled (w ∷ ws) (token k v ∷ ts)
+  spelled-next : {w : Word} {k v : ℕ} {ws : List Word} {ts : List Token} → SpellsToken w k v → Spelled ws ts → Spelled (w ∷ ws) (token k v ∷ ts)
 
 -- ---- places
 
@@ -54,4 +54,4 @@ pub data Standing (s : List ℕ) : List Word → (places values : List Token) �
   standing-none : Standing s [] [] []
   standing-next :
       {w : Word} {k p v : ℕ} {ws : List Word} {ts us : List Token}
-      → Stands s p w → Spells w k v → Standing s ws ts us → Standing s (w ∷ ws) (token k p ∷ ts) (token k v ∷ us)
+      → Stands s p w → SpellsToken w k v → Standing s ws ts us → Standing s (w ∷ ws) (token k p ∷ ts) (token k v ∷ us)

@@ -16,7 +16,7 @@ use Rattle.rows.specs.Rows.{rowsFrom, laid}
 use Rattle.ll1.specs.Trees.{Trees}
 use Rattle.answers.specs.Stages.{ownNumbers, finished}
 use Rattle.answers.specs.Answer as grammar
-use Rattle.answers.specs.Answer.{LIMIT, accepts, refuses, drafts}
+use Rattle.answers.specs.Answer.{LONGEST, accepts, refuses, drafts}
 use Rattle.answers.specs.WholeAnswer.{quickCheck, readAnswer, readTable}
 use Rattle.answers.specs.Demand3.{Sound, Refuses, questionNumbers, GetsSmallest}
 use Rattle.answers.proofs.Answers.{passes-grammatical}
@@ -58,11 +58,11 @@ module _ {s : List ℕ} {n : ℕ} {r : Answer} {t′ : List ℕ} (v : Reading s 
 
   -- "For every source of at most 65,536 bytes and every table of at least as many whole rows as the source has bytes": accepted exactly when the
   -- grammar derives it "and its depths, ranges, 255-rule limit, uniqueness, reference and choice rules hold"
-  pub accepted-exactly : length s ≤ LIMIT → length s * ROW ≤ n → (told r .number ≡ 0) ↔ ((tree : Trees) × Sound s tree)
+  pub accepted-exactly : length s ≤ LONGEST → length s * ROW ≤ n → (told r .number ≡ 0) ↔ ((tree : Trees) × Sound s tree)
   accepted-exactly short large = rw (v .answer) (Demand3.accepts-exactly s n short large)
 
   -- and for every other source and table: exactly so, where its rows are no more than the whole rows lent
-  pub accepted-with-room : (told r .number ≡ 0) ↔ ((tree : Trees) × Sound s tree × (length s ≤ LIMIT) × (length (drafts s tree) ≤ n / ROW))
+  pub accepted-with-room : (told r .number ≡ 0) ↔ ((tree : Trees) × Sound s tree × (length s ≤ LONGEST) × (length (drafts s tree) ≤ n / ROW))
   accepted-with-room = rw (v .answer) (Demand3.accepts-with-room s n)
 
   module _ (accepted : told r .number ≡ 0) where

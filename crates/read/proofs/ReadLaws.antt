@@ -22,7 +22,7 @@ use Rattle.answers.proofs.Checks.{Decided, stopped, passed, decided}
 use Rattle.drafts.specs.Fits.{AllFit}
 use Rattle.drafts.proofs.CodingLaws.{sound-fit, are-encoded, drafts-held}
 use Rattle.read.specs.declared.Survey.{Survey}
-use Rattle.read.specs.Surveyed.{Derived, Surveyed}
+use Rattle.read.specs.Surveyed.{SurveyedWhole, Surveyed}
 use Rattle.read.specs.Drafted.{Drafted, tableAfter}
 
 -- ---- a refusal of stages 1 to 5
@@ -46,7 +46,7 @@ refused-read {s} {t} {r = r} v h =
 
 -- ---- stages 1 to 5 passed
 
-module _ {s t t′ : List ℕ} {count : ℕ} (v : Derived s count t t′) where
+module _ {s t t′ : List ℕ} {count : ℕ} (v : SurveyedWhole s count t t′) where
   abbrev ds : List Draft
   ds = drafts s (v .tree)
 

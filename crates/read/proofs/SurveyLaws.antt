@@ -19,7 +19,7 @@ use Rattle.grammar.specs.Grammar.{rules}
 use Rattle.grammar.specs.Reading.{verdict, derivation}
 use Rattle.grammar.specs.Ranges.{outOfRange}
 use Rattle.grammar.specs.Source.{sourceTokens}
-use Rattle.answers.specs.Answer.{LIMIT}
+use Rattle.answers.specs.Answer.{LONGEST}
 use Rattle.answers.specs.WholeAnswer.{refusal, derived, checked, parsed}
 use Rattle.answers.specs.Demand3.{Grammatical}
 use Rattle.grammar.proofs.Theorems.{verdict-right, accepted-exactly, one-derivation}
@@ -28,7 +28,7 @@ use Rattle.sound.proofs.DraftsSound.{drafts-sound}
 use Rattle.sound.proofs.NameCount.{names-six}
 use Rattle.elements.specs.Marks.{firstMark}
 use Rattle.walk.specs.declared.Outcome.{Outcome}
-use Rattle.walk.specs.Whole.{refusalNumber, refusalPlace, Derived, Walks}
+use Rattle.walk.specs.Whole.{refusalNumber, refusalPlace, WalkedWhole, Walks}
 use Rattle.read.specs.declared.Survey.{Survey}
 use Rattle.read.specs.Surveyed.{refusing, unlessBad, Surveyed}
 
@@ -37,7 +37,7 @@ refuses : {s t t′ : List ℕ} (n p : ℕ) → n ≢ 0 → checked s ≡ refusa
 refuses n p h e f = record { refused = λ z. e; zeros = λ z. (refl, f); passed = λ z. absurd (h z) }
 
 -- 1: source over 65,536 bytes
-pub too-long : {s t t′ : List ℕ} → LIMIT < length s → t′ ≡ cleared t 0 → Surveyed s (refusing 1 0) t t′
+pub too-long : {s t t′ : List ℕ} → LONGEST < length s → t′ ≡ cleared t 0 → Surveyed s (refusing 1 0) t t′
 too-long {s} {t} h f = refuses 1 0 (λ z. omega arith) (checked-1 s h) (f ∙ cleared-whole t)
 
 -- ---- a walk that refuses
@@ -54,7 +54,7 @@ parsed-refusal s accepted o h = absurd (h refl)
 parsed-refusal s ends-early o h = refl
 parsed-refusal s (refused n p) o h = refl
 
-module _ {s t t′ : List ℕ} {w : Outcome} (short : length s ≤ LIMIT) (v : Walks s w t t′) where
+module _ {s t t′ : List ℕ} {w : Outcome} (short : length s ≤ LONGEST) (v : Walks s w t t′) where
   abbrev tokens-verdict : Verdict
   tokens-verdict = verdict (sourceTokens s)
 
@@ -76,7 +76,7 @@ module _ {s t t′ : List ℕ} {w : Outcome} (short : length s ≤ LIMIT) (v : W
   -- ---- a walk that accepts
 
   module _ (h : w .no ≡ 0) where
-    walked : Derived s w t t′
+    walked : WalkedWhole s w t t′
     walked = v .derived h
 
     abbrev tree : Trees

@@ -26,7 +26,7 @@ unlessBad (At p) number place = refusing 2 p
 unlessBad Nothing number place = refusing number place
 
 -- the derivation that the stages pass; its draft rows, so many, written over the table t as far as whole rows fit
-pub record Derived (s : List ℕ) (count : ℕ) (t t′ : List ℕ) : Type 0 where
+pub record SurveyedWhole (s : List ℕ) (count : ℕ) (t t′ : List ℕ) : Type 0 where
   pub tree : Trees
   pub is : checked s ≡ derived tree
   pub sound : SoundRows (drafts s tree)
@@ -38,4 +38,4 @@ pub record Derived (s : List ℕ) (count : ℕ) (t t′ : List ℕ) : Type 0 whe
 pub record Surveyed (s : List ℕ) (r : Survey) (t t′ : List ℕ) : Type 0 where
   pub refused : r .number ≢ 0 → checked s ≡ refusal (r .number) (r .place)
   pub zeros : r .number ≢ 0 → (r .rows ≡ 0) × (t′ ≡ replicate (length t) 0)
-  pub passed : r .number ≡ 0 → (r .place ≡ 0) × Derived s (r .rows) t t′
+  pub passed : r .number ≡ 0 → (r .place ≡ 0) × SurveyedWhole s (r .rows) t t′

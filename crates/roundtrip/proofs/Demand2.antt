@@ -16,7 +16,7 @@ use Rattle.rows.specs.Columns.{ROW}
 use Rattle.ll1.specs.Trees.{Trees}
 use Rattle.answers.specs.Rows.{Draft}
 use Rattle.answers.specs.Stages.{cell, ownNumbers, finished}
-use Rattle.answers.specs.Answer.{LIMIT, accepts, drafts}
+use Rattle.answers.specs.Answer.{LONGEST, accepts, drafts}
 use Rattle.answers.specs.WholeAnswer.{derived, checked, readAnswer, rowsOf, readTable}
 use Rattle.answers.specs.Text.{textOf, rowFirstAt, resolvedText}
 use Rattle.answers.specs.Resolution.{textOfSource, room, resolvedInto, resolution, resolvedTable, resolvedOutput}
@@ -54,7 +54,7 @@ same-but-places (pair m p) = ap₂ (λ x y. x ∷ y) (m .same) (same-but-places 
 pub record Resolved (s : List ℕ) (n m : ℕ) : Type 0 where
   pub tree : Trees
   pub passes : PassesAll s n tree
-  pub short : length s ≤ LIMIT
+  pub short : length s ≤ LONGEST
   pub sound : Sound s tree
   pub rows-fit : length (drafts s tree) ≤ n / ROW
   pub text-fits : length (textOfSource s) ≤ room m
@@ -96,14 +96,14 @@ resolved s n m h = either (eqb (readAnswer s n .number) 0) accepted refused
 pub resolves-with-room :
     (s : List ℕ) (n m : ℕ)
     → (resolution s n m .number ≡ 0)
-    ↔ ((tree : Trees) × Sound s tree × (length s ≤ LIMIT) × (length (drafts s tree) ≤ n / ROW)
+    ↔ ((tree : Trees) × Sound s tree × (length s ≤ LONGEST) × (length (drafts s tree) ≤ n / ROW)
     × (length (resolvedText tree (finished s (drafts s tree))) ≤ room m))
 unfolding resolution
 resolves-with-room s n m =
     (λ h. let r = resolved s n m h in (r .tree, r .sound, r .short, r .rows-fit, rw (passes-text (r .passes)) at (r .text-fits)), found)
   where
     found :
-        ((tree : Trees) × Sound s tree × (length s ≤ LIMIT) × (length (drafts s tree) ≤ n / ROW) × (length (resolvedText tree (finished s (drafts s tree))) ≤ room m))
+        ((tree : Trees) × Sound s tree × (length s ≤ LONGEST) × (length (drafts s tree) ≤ n / ROW) × (length (resolvedText tree (finished s (drafts s tree))) ≤ room m))
         → resolution s n m .number ≡ 0
     found f =
         let p : PassesAll s n (f .0) = sound-passes (f .1) (f .2) (f .3) in
@@ -138,7 +138,7 @@ module _ (s : List ℕ) (n m : ℕ) (r : Resolved s n m) where
   unfolding resolvedText
   text-is = passes-text (r .passes) ∙ sym (the-trip .same-text)
 
-  short′ : length t ≤ LIMIT
+  short′ : length t ≤ LONGEST
   short′ = omega (arith, ap length text-is, r .text-fits)
 
   sound′ : Sound t tree′

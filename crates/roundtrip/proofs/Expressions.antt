@@ -21,7 +21,7 @@ use Rattle.answers.specs.Expression.{Constant, true′, false′, zero′, one�
 use Rattle.answers.specs.Expression.{Expression, number, constant, question-named, question-numbered, rule-named, negation, binary}
 use Rattle.answers.specs.Rows.{Draft, rowWith, operand, expressionRows}
 use Rattle.grammar.specs.Parts.{mark}
-use Rattle.answers.specs.Text.{held}
+use Rattle.answers.specs.Text.{operandNumber}
 use Rattle.sound.proofs.Lists.{All, none, more}
 use Rattle.printing.proofs.Numbers.{after-r}
 use Rattle.formulas.specs.Shapes.{ruleWord}
@@ -92,7 +92,7 @@ module _ (t : List ℕ) (look : ℕ → List ℕ) (source : ℕ → ℕ) (at : �
   N = numberAt t
 
   -- a row that names nothing
-  dull-match : (k a′ a p′ p : ℕ) → Dull k → Settled look (operand source at k a p 0) → a′ ≡ held look p → Match t look (operand N at k a′ p′ 0) (operand source at k a p 0)
+  dull-match : (k a′ a p′ p : ℕ) → Dull k → Settled look (operand source at k a p 0) → a′ ≡ operandNumber look p → Match t look (operand N at k a′ p′ 0) (operand source at k a p 0)
   dull-match k a′ a p′ p d s h =
       let e : look p ≡ rowWith k at p (column.A ≔ s .a ∷ []) = s .is-row ∙ (λ j. rowWith k at p (column.OWN ≔ s .own-same (d .asks-not) j ∷ column.A ≔ s .a ∷ [])) in
       let n : final t (operand N at k a′ p′ 0) ≡ rowWith k at p′ (column.A ≔ a′ ∷ []) = rw (d .no-rule-ref) in
@@ -107,12 +107,12 @@ module _ (t : List ℕ) (look : ℕ → List ℕ) (source : ℕ → ℕ) (at : �
       }
 
   -- one that holds 0
-  zero-held : (k p : ℕ) → Dull k → Settled look (operand source at k 0 p 0) → 0 ≡ held look p
+  zero-held : (k p : ℕ) → Dull k → Settled look (operand source at k 0 p 0) → 0 ≡ operandNumber look p
   zero-held k p d s =
       let z : eqb k code.QUESTION-REF || eqb k code.RULE-REF ≡ false = rw (d .no-question-ref, d .no-rule-ref) in
       sym (ap (λ r. getD r column.A 0) (s .is-row) ∙ s .a-same z)
 
-  question-match : (a p q′ p′ q : ℕ) → Settled look (operand source at code.QUESTION-REF a p (mark q)) → N q′ ≡ held look p → Match t look (operand N at code.QUESTION-REF (N q′) p′ (mark q′)) (operand source at code.QUESTION-REF a p (mark q))
+  question-match : (a p q′ p′ q : ℕ) → Settled look (operand source at code.QUESTION-REF a p (mark q)) → N q′ ≡ operandNumber look p → Match t look (operand N at code.QUESTION-REF (N q′) p′ (mark q′)) (operand source at code.QUESTION-REF a p (mark q))
   unfolding isQuestion member questions
   question-match a p q′ p′ q s h =
       let e : look p ≡ rowWith code.QUESTION-REF at p (column.A ≔ s .a ∷ []) = s .is-row ∙ (λ j. rowWith code.QUESTION-REF at p (column.OWN ≔ s .own-same refl j ∷ column.A ≔ s .a ∷ [])) in
@@ -129,7 +129,7 @@ module _ (t : List ℕ) (look : ℕ → List ℕ) (source : ℕ → ℕ) (at : �
   back : (q : ℕ) → mark q - 1 ≡ q
   back q = omega arith
 
-  rule-ref-match : (p q′ p′ q : ℕ) → Settled look (operand source at code.RULE-REF 0 p (mark q)) → N (suc q′) ≡ held look p → words.word (drop q′ t) ≡ ruleWord (N (suc q′)) → Match t look (operand N at code.RULE-REF 0 p′ (mark q′)) (operand source at code.RULE-REF 0 p (mark q))
+  rule-ref-match : (p q′ p′ q : ℕ) → Settled look (operand source at code.RULE-REF 0 p (mark q)) → N (suc q′) ≡ operandNumber look p → words.word (drop q′ t) ≡ ruleWord (N (suc q′)) → Match t look (operand N at code.RULE-REF 0 p′ (mark q′)) (operand source at code.RULE-REF 0 p (mark q))
   unfolding isQuestion member questions
   rule-ref-match p q′ p′ q s h w =
       let e : look p ≡ rowWith code.RULE-REF at p (column.A ≔ s .a ∷ []) = s .is-row ∙ (λ j. rowWith code.RULE-REF at p (column.OWN ≔ s .own-same refl j ∷ column.A ≔ s .a ∷ [])) in

@@ -22,7 +22,7 @@ use Rattle.ll1.proofs.Basics.{clash}
 use Rattle.grammar.specs.Rules.{<source>, <form>*, <form>, <item-or-rule>*, <rule>, <item>, <option>*, <item>*, <option>, <head>}
 use Rattle.grammar.specs.Grammar.{rules}
 use Rattle.grammar.specs.Ranges.{ranges, rangeOf}
-use Rattle.grammar.specs.Source.{held, numberAt}
+use Rattle.grammar.specs.Source.{heldValue, numberAt}
 use Rattle.grammar.specs.Parts.{child, chosen, placeAt}
 use Rattle.answers.specs.Expression.{Expression, number, constant, question-named, question-numbered, rule-named, negation, binary, expression}
 use Rattle.answers.specs.Rows.{Draft, rulesIn, draftsOf, expressionRows, item, ruleDraft}
@@ -57,7 +57,7 @@ number-small : (s : List ℕ) (p : ℕ) → numberAt s p < 2 ^ 64
 unfolding numberAt valueAt
 number-small s p = by (numeral (word (drop p s)))
   where
-    by : (v : ℕ) → held (fitted v) < 2 ^ 64
+    by : (v : ℕ) → heldValue (fitted v) < 2 ^ 64
     by v = either (ltb v (2 ^ 64)) (λ e. rw (e, fitted) (ltb-true v (2 ^ 64) e)) (λ e. rw (e, fitted) (omega arith))
 
 when-small : (b : Bool) (v : ℕ) → v < 2 ^ 64 → when b v < 2 ^ 64

@@ -12,7 +12,7 @@ use Rattle.grammar.specs.Derivation.{Derives, NowhereTooDeep}
 use Rattle.grammar.specs.Source.{sourceTokens, numberAt}
 use Rattle.grammar.specs.Ranges.{ranges, rangeOf, outOfRange}
 use Rattle.answers.specs.Rows.{Draft, draftsOf}
-use Rattle.answers.specs.Answer.{LIMIT, drafts}
+use Rattle.answers.specs.Answer.{LONGEST, drafts}
 use Rattle.answers.specs.Text.{wordsOf, textOf}
 use Rattle.sound.proofs.Lists.{All, none, more}
 use Rattle.sound.proofs.Places.{source-bounded}
@@ -99,7 +99,7 @@ module _ (s : List ℕ) (look : ℕ → List ℕ) where
             match-words look′ T (over-node {c = U} o over-nil) g = ap (λ ws. ws ++ []) (ok look′ .over U o .again (all-parts (within (numberAt t) look′ <source> i U 0 0 0) [] g .0))
 
   -- every derivation whose rows are finished
-  pub trip : (tree : Trees) → length s ≤ LIMIT → Derives (sourceTokens s) tree → NowhereTooDeep tree → outOfRange s tree ≡ [] → All (Fit s look) (drafts s tree) → Trip s look tree
+  pub trip : (tree : Trees) → length s ≤ LONGEST → Derives (sourceTokens s) tree → NowhereTooDeep tree → outOfRange s tree ≡ [] → All (Fit s look) (drafts s tree) → Trip s look tree
   unfolding drafts
   trip tree short d deep inside fit = by (fitted (d .fits) deep) (kept s (d .fits) (source-bounded s tree short (d .reads)) inside) fit
     where

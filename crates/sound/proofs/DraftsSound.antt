@@ -16,7 +16,7 @@ use Rattle.grammar.specs.Rules.{<source>, <form>, <rule>, <item>, <option>*, <o
 use Rattle.grammar.specs.Grammar.{rules}
 use Rattle.grammar.specs.Derivation.{Derives}
 use Rattle.grammar.specs.Source.{sourceTokens, numberAt}
-use Rattle.answers.specs.Answer.{LIMIT, drafts}
+use Rattle.answers.specs.Answer.{LONGEST, drafts}
 use Rattle.grammar.specs.Parts.{child}
 use Rattle.answers.specs.Rows.{Draft, condition, otherwise, ownRows, parentIn, draftsOf}
 use Rattle.grammar.specs.Ranges.{outOfRange}
@@ -187,7 +187,7 @@ module _ (s : List ℕ) where
       stands-append 0 (within <source> i c 0 0 0) [] first (stands-none _)
 
 -- the rows of a derivation whose numbers keep their ranges are sound
-pub drafts-sound : (s : List ℕ) (tree : Trees) → length s ≤ LIMIT → Derives (sourceTokens s) tree → outOfRange s tree ≡ [] → SoundRows (drafts s tree)
+pub drafts-sound : (s : List ℕ) (tree : Trees) → length s ≤ LONGEST → Derives (sourceTokens s) tree → outOfRange s tree ≡ [] → SoundRows (drafts s tree)
 unfolding drafts
 drafts-sound s tree short derives ranged =
     let few = rows-few s tree derives in

@@ -12,7 +12,7 @@ use Rattle.rows.specs.Codes.{member, questions, isQuestion}
 use Rattle.ll1.specs.Trees.{token, Trees, nil, leaf, node}
 use Rattle.ll1.proofs.Basics.{clash}
 use Rattle.grammar.specs.Rules.{<atom>}
-use Rattle.answers.specs.Answer.{LIMIT}
+use Rattle.answers.specs.Answer.{LONGEST}
 use Rattle.grammar.specs.Parts.{child, chosen, placeAt}
 use Rattle.answers.specs.Expression.{Operator, or, and, bit-or, bit-and, equal, not-equal, less, less-equal, greater, greater-equal, shift-left, shift-right, add, subtract, multiply, divide, modulo, operatorClass, operatorCode, operators}
 use Rattle.answers.specs.Expression.{Constant, true′, false′, zero′, one′, ones′, undefined′, constantCode}
@@ -25,19 +25,19 @@ use Rattle.sound.proofs.SoundRow.{isBare, Other, bare, reference-other}
 -- ---- the places of an expression
 
 abbrev Placed : Expression → Type 0
-Placed (number p) = p ≤ LIMIT
-Placed (constant c p) = p ≤ LIMIT
-Placed (question-named p q) = (p ≤ LIMIT) × (q ≤ LIMIT)
-Placed (question-numbered p q) = (p ≤ LIMIT) × (q ≤ LIMIT)
-Placed (rule-named p q) = (p ≤ LIMIT) × (q ≤ LIMIT)
-Placed (negation p e) = (p ≤ LIMIT) × Placed e
-Placed (binary o p l r) = (p ≤ LIMIT) × Placed l × Placed r
+Placed (number p) = p ≤ LONGEST
+Placed (constant c p) = p ≤ LONGEST
+Placed (question-named p q) = (p ≤ LONGEST) × (q ≤ LONGEST)
+Placed (question-numbered p q) = (p ≤ LONGEST) × (q ≤ LONGEST)
+Placed (rule-named p q) = (p ≤ LONGEST) × (q ≤ LONGEST)
+Placed (negation p e) = (p ≤ LONGEST) × Placed e
+Placed (binary o p l r) = (p ≤ LONGEST) × Placed l × Placed r
 
 abbrev PlacedPending : Pending → Type 0
 PlacedPending nothing = Unit {0}
-PlacedPending (operator o p) = p ≤ LIMIT
+PlacedPending (operator o p) = p ≤ LONGEST
 
-among-placed : (os : List Operator) (k p : ℕ) → p ≤ LIMIT → PlacedPending (operatorAmong os (token k p))
+among-placed : (os : List Operator) (k p : ℕ) → p ≤ LONGEST → PlacedPending (operatorAmong os (token k p))
 among-placed [] k p h = tt
 among-placed (o ∷ os) k p h =
     either (eqb (operatorClass o) k) (λ e. rw (e, operatorAmong) h) (λ e. rw (e, operatorAmong) (among-placed os k p h))
@@ -48,7 +48,7 @@ joined-placed :
 joined-placed nothing left right p l r = r
 joined-placed (operator o q) left right p l r = (p, l, r)
 
-asked-placed : (p : ℕ) (c : Trees) → p ≤ LIMIT → Bounded c → Placed (asked p c)
+asked-placed : (p : ℕ) (c : Trees) → p ≤ LONGEST → Bounded c → Placed (asked p c)
 asked-placed p c h b =
     let named = child-bounded 2 c b in
     either (eqb (chosen 2 c) 0)
@@ -108,7 +108,7 @@ constant-bare undefined′ = refl
 
 module _ (value : ℕ → ℕ) (parent : ℕ) where
   -- a row that names nothing
-  bare-operand : (k a p : ℕ) → isBare k ≡ true → p ≤ LIMIT → Other (operand value parent k a p 0)
+  bare-operand : (k a p : ℕ) → isBare k ≡ true → p ≤ LONGEST → Other (operand value parent k a p 0)
   bare-operand k a p b h = bare k parent 0 0 0 a 0 0 0 p b (omega arith) (omega arith) h
 
   rows-other : (e : Expression) → Placed e → All Other (expressionRows value parent e)

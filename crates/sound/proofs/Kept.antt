@@ -12,15 +12,15 @@ use borrow.Author.Tests.{eqb-true, leb-true}
 use Rattle.values.specs.declared.Value.{Value}
 use Rattle.values.specs.declared.Value.the-variants.{Fits as FitsWord, TooLarge}
 use Rattle.values.specs.Numbers.{valueAt}
-use Rattle.numbers.specs.Numbers.{limit}
+use Rattle.numbers.specs.Numbers.{numberLimit}
 use Rattle.ll1.specs.Trees.{token, Trees, nil, leaf, node, Symbol, terminal, nonterminal, Alternative, alternativeOf, Fits, fits-nil, fits-leaf, fits-node}
 use Rattle.ll1.specs.Test.{allAt}
 use Rattle.ll1.proofs.Basics.{clash, both, same, append-empty, allAt-at}
 use Rattle.grammar.specs.Rules.{<str>, <id>, <small>}
 use Rattle.grammar.specs.Grammar.{rules}
-use Rattle.grammar.specs.Source.{held, numberAt}
+use Rattle.grammar.specs.Source.{heldValue, numberAt}
 use Rattle.grammar.specs.Parts.{child, chosen, placeAt}
-use Rattle.answers.specs.Answer.{LIMIT}
+use Rattle.answers.specs.Answer.{LONGEST}
 use Rattle.grammar.specs.Parts.{mark}
 use Rattle.answers.specs.Rows.{value, string}
 use Rattle.grammar.specs.Ranges.{between, ranges, rangeOf, within, keeps, outOfRange}
@@ -48,7 +48,7 @@ none-out : (t : Bool) (p : ℕ) → cond t [] (p ∷ []) ≡ [] → t ≡ true
 none-out true p h = refl
 none-out false p h = clash cc
 
-in-range : (low high : ℕ) (v : Value) → within low high v ≡ true → (low ≤ held v) × (held v ≤ high)
+in-range : (low high : ℕ) (v : Value) → within low high v ≡ true → (low ≤ heldValue v) × (heldValue v ≤ high)
 in-range low high (FitsWord v) h = let t = both (leb low v) _ h in (leb-true low v (t .0), leb-true v high (t .1))
 in-range low high TooLarge h = clash cc
 
@@ -58,7 +58,7 @@ module _ (s : List ℕ) where
   -- the trees fit the symbols, their leaves are within the longest source, and the number of each node keeps the range of its rule
   pub data Kept : List Symbol → Trees → Type 0 where
     kept-nil : Kept [] nil
-    kept-leaf : {k p : ℕ} {σ : List Symbol} {f : Trees} → p ≤ LIMIT → Kept σ f → Kept (terminal k ∷ σ) (leaf (token k p) f)
+    kept-leaf : {k p : ℕ} {σ : List Symbol} {f : Trees} → p ≤ LONGEST → Kept σ f → Kept (terminal k ∷ σ) (leaf (token k p) f)
     kept-node :
         {A i : ℕ} {a : Alternative} {σ : List Symbol} {c f : Trees}
         → alternativeOf rules A i ≡ some a → keeps s (rangeOf A) (placeAt 0 c) ≡ true → Kept (a .symbols) c → Kept σ f
@@ -97,14 +97,14 @@ module _ (s : List ℕ) where
 
   module _ {A i : ℕ} {c : Trees} (t : Node A i c) (n : ℕ) where
     -- a leaf
-    pub place-at : placeAt n c ≤ LIMIT
+    pub place-at : placeAt n c ≤ LONGEST
     place-at = place-le n c (bounded (t .under))
 
     pub bounded-at : Bounded (child n c)
     bounded-at = child-bounded n c (bounded (t .under))
 
     -- a number
-    pub mark-at : mark (placeAt 0 (child n c)) ≤ suc LIMIT
+    pub mark-at : mark (placeAt 0 (child n c)) ≤ suc LONGEST
     mark-at = omega (arith, place-le 0 (child n c) bounded-at)
 
     -- a node of the rule B
@@ -118,16 +118,16 @@ module _ (s : List ℕ) where
     between-keeps B low high e h = in-range low high (valueAt s (placeAt 0 (child n c))) (rw e at (part B h .range))
 
     -- a number from 1 to 65,535
-    pub id-range : part? A i n <id> ≡ true → (0 < value (numberAt s) n c) × (value (numberAt s) n c < limit)
+    pub id-range : part? A i n <id> ≡ true → (0 < value (numberAt s) n c) × (value (numberAt s) n c < numberLimit)
     unfolding rangeOf ranges
     id-range h = omega (arith, between-keeps <id> 1 65535 refl h)
 
     -- a number up to 65,535
-    pub small-range : part? A i n <small> ≡ true → value (numberAt s) n c < limit
+    pub small-range : part? A i n <small> ≡ true → value (numberAt s) n c < numberLimit
     unfolding rangeOf ranges
     small-range h = omega (arith, between-keeps <small> 0 65535 refl h)
 
   -- STRING_TOKEN ( N )
-  pub string-range : {A i : ℕ} {c : Trees} → Node A i c → (n : ℕ) → part? A i n <str> ≡ true → string (numberAt s) n c < limit
+  pub string-range : {A i : ℕ} {c : Trees} → Node A i c → (n : ℕ) → part? A i n <str> ≡ true → string (numberAt s) n c < numberLimit
   unfolding rules
   string-range t n h = small-range (part t n <str> h) 2 refl

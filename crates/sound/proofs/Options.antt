@@ -13,7 +13,7 @@ use Rattle.rows.specs.Columns as column
 use Rattle.ll1.proofs.Basics.{clash}
 use Rattle.answers.specs.Rows.{Draft}
 use Rattle.answers.specs.Stages.{is, cell}
-use Rattle.drafts.specs.Sound.{Sound, AllSound, no-rows, add-row, ownerAfter, OptionsFollow}
+use Rattle.drafts.specs.Sound.{SoundRow, AllSound, no-rows, add-row, ownerAfter, OptionsFollow}
 use Rattle.sound.proofs.Lists.{All, none, more}
 use Rattle.sound.proofs.SoundRow.{Other}
 
@@ -59,7 +59,7 @@ stands-append i ds es u v =
 
 -- an option of the oneof in row p
 pub record Offer (p : ℕ) (d : Draft) : Type 0 where
-  pub sound : Sound d
+  pub sound : SoundRow d
   pub is-option : is code.OPTION d ≡ true
   pub of : cell column.PARENT d ≡ p
 

@@ -9,7 +9,7 @@ use lib.Dec.{eqb, ltb}
 use lib.ListN.{length}
 use borrow.Author.Tests.{eqb-true, not-true}
 use Rattle.lexemes.proofs.Lists.{either}
-use Rattle.numbers.specs.Numbers.{limit, isNumber}
+use Rattle.numbers.specs.Numbers.{numberLimit, isNumber}
 use Rattle.rows.specs.Codes as code
 use Rattle.rows.specs.Codes.{member, questions, isQuestion}
 use Rattle.rows.specs.Columns as column
@@ -17,10 +17,10 @@ use Rattle.rows.specs.Cells.{_≔_}
 use Rattle.rows.specs.Draft.{HALF}
 use Rattle.ll1.specs.Trees.{Trees}
 use Rattle.ll1.proofs.Basics.{clash, both}
-use Rattle.answers.specs.Answer.{LIMIT}
-use Rattle.answers.specs.Rows.{Draft, rowWith, plain, operand, question, string, writtenNumber, writtenMark, nameMark}
+use Rattle.answers.specs.Answer.{LONGEST}
+use Rattle.answers.specs.Rows.{Draft, rowWith, withoutMarks, operand, question, string, writtenNumber, writtenMark, nameMark}
 use Rattle.answers.specs.Stages.{cell, is, asks}
-use Rattle.drafts.specs.Sound.{Sound, MARKS}
+use Rattle.drafts.specs.Sound.{SoundRow, MARKS}
 use Rattle.sound.proofs.Lists.{apart}
 
 -- ---- a row by what it has to say
@@ -41,12 +41,12 @@ pub sound-row :
     {d : Draft}
     → Sized d
     → (is code.FORM d ≡ true → (isNumber (cell column.OWN d) ≡ true) × (0 < d .ownAt))
-    → (asks d ≡ true → (cell column.OWN d < limit) × (ltb 0 (cell column.OWN d) ≡ ltb 0 (d .ownAt)))
+    → (asks d ≡ true → (cell column.OWN d < numberLimit) × (ltb 0 (cell column.OWN d) ≡ ltb 0 (d .ownAt)))
     → ((is code.GOTO d || is code.NUMERIC d || is code.OPTION d) ≡ true → 0 < d .limitAt)
     → ((is code.QUESTION-REF d || is code.RULE-REF d) ≡ true → 0 < d .ownAt)
     → (is code.RULE-REF d ≡ true → cell column.A d ≡ 0)
     → (0 < cell column.NAME d → (asks d || is code.RULE d) ≡ true)
-    → Sound d
+    → SoundRow d
 sound-row sized form question limited reference rule-name name =
     record {
       whole = sized .whole;
@@ -70,7 +70,7 @@ sound-row sized form question limited reference rule-name name =
 
 -- a row that is sound and no option
 pub record Other (d : Draft) : Type 0 where
-  pub sound : Sound d
+  pub sound : SoundRow d
   pub no-option : is code.OPTION d ≡ false
 
 -- ---- rows that say nothing of their own
@@ -81,8 +81,8 @@ isBare k = not (isQuestion k) && not (member k (code.FORM ∷ code.OPTION ∷ co
 
 pub bare :
     (k parent own first second a b c d place : ℕ)
-    → isBare k ≡ true → first < limit → second < limit → place ≤ LIMIT
-    → Other (plain (rowWith k parent place (column.OWN ≔ own ∷ column.FIRST ≔ first ∷ column.SECOND ≔ second ∷ column.A ≔ a ∷ column.B ≔ b ∷ column.C ≔ c ∷ column.D ≔ d ∷ [])))
+    → isBare k ≡ true → first < numberLimit → second < numberLimit → place ≤ LONGEST
+    → Other (withoutMarks (rowWith k parent place (column.OWN ≔ own ∷ column.FIRST ≔ first ∷ column.SECOND ≔ second ∷ column.A ≔ a ∷ column.B ≔ b ∷ column.C ≔ c ∷ column.D ≔ d ∷ [])))
 unfolding isQuestion questions member
 bare k parent own first second a b c d place h f l p =
     let not-form = apart isBare k code.FORM h refl in
@@ -103,20 +103,20 @@ bare k parent own first second a b c d place h f l p =
 
 -- a HEAD: its strings, its written number with its mark, and its name's
 pub record Asked (value : ℕ → ℕ) (h : Trees) : Type 0 where
-  pub first : string value 4 h < limit
-  pub second : string value 8 h < limit
-  pub own : writtenNumber value h < limit
-  pub own-mark : writtenMark value h ≤ suc LIMIT
+  pub first : string value 4 h < numberLimit
+  pub second : string value 8 h < numberLimit
+  pub own : writtenNumber value h < numberLimit
+  pub own-mark : writtenMark value h ≤ suc LONGEST
   pub written : ltb 0 (writtenNumber value h) ≡ ltb 0 (writtenMark value h)
-  pub name : nameMark value h ≤ suc LIMIT
+  pub name : nameMark value h ≤ suc LONGEST
 
 pub question-other :
-    (value : ℕ → ℕ) (k parent : ℕ) (h : Trees) (flags a b c d place limit default : ℕ)
-    → isQuestion k ≡ true → Asked value h → flags < HALF → place ≤ LIMIT → limit ≤ suc LIMIT → default ≤ suc LIMIT
-    → (eqb k code.GOTO || eqb k code.NUMERIC ≡ true → 0 < limit)
-    → Other (question value k parent place h (column.FLAGS ≔ flags ∷ column.A ≔ a ∷ column.B ≔ b ∷ column.C ≔ c ∷ column.D ≔ d ∷ []) limit default)
+    (value : ℕ → ℕ) (k parent : ℕ) (h : Trees) (flags a b c d place numberLimit default : ℕ)
+    → isQuestion k ≡ true → Asked value h → flags < HALF → place ≤ LONGEST → numberLimit ≤ suc LONGEST → default ≤ suc LONGEST
+    → (eqb k code.GOTO || eqb k code.NUMERIC ≡ true → 0 < numberLimit)
+    → Other (question value k parent place h (column.FLAGS ≔ flags ∷ column.A ≔ a ∷ column.B ≔ b ∷ column.C ≔ c ∷ column.D ≔ d ∷ []) numberLimit default)
 unfolding isQuestion questions member
-question-other value k parent h flags a b c d place limit default q asked f p l m limited =
+question-other value k parent h flags a b c d place numberLimit default q asked f p l m limited =
     let not-form = apart isQuestion k code.FORM q refl in
     let not-option = apart isQuestion k code.OPTION q refl in
     let not-question-ref = apart isQuestion k code.QUESTION-REF q refl in
@@ -136,7 +136,7 @@ isReference k = eqb k code.QUESTION-REF || eqb k code.RULE-REF
 -- what it names stands at a place; a ruleref names no number
 pub reference-other :
     (value : ℕ → ℕ) (parent k a place at : ℕ)
-    → isReference k ≡ true → (eqb k code.RULE-REF ≡ true → a ≡ 0) → place ≤ LIMIT → at ≤ LIMIT
+    → isReference k ≡ true → (eqb k code.RULE-REF ≡ true → a ≡ 0) → place ≤ LONGEST → at ≤ LONGEST
     → Other (operand value parent k a place (suc at))
 unfolding isQuestion questions member
 reference-other value parent k a place at r n p l =

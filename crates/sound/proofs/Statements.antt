@@ -7,7 +7,7 @@ use Prim.Native.Nat.{ℕ, zero, suc, _+_, _≤_, _<_}
 use native.Mathlib.Omega.{arith}
 use lib.Dec.{eqb, ltb}
 use borrow.Author.Tests.{eqb-true, lt-ltb}
-use Rattle.numbers.specs.Numbers.{limit, isNumber}
+use Rattle.numbers.specs.Numbers.{numberLimit, isNumber}
 use Rattle.rows.specs.Codes as code
 use Rattle.rows.specs.Codes.{member, questions, isQuestion}
 use Rattle.rows.specs.Draft.{HALF}
@@ -17,12 +17,12 @@ use Rattle.ll1.proofs.Basics.{clash}
 use Rattle.grammar.specs.Rules.{<source>, <form>, <rule>, <item>, <number-default>?, <option>, <head>, <name>?, <questionid>?}
 use Rattle.grammar.specs.Grammar.{rules}
 use Rattle.grammar.specs.Source.{numberAt}
-use Rattle.answers.specs.Answer.{LIMIT}
+use Rattle.answers.specs.Answer.{LONGEST}
 use Rattle.grammar.specs.Parts.{child, chosen, placeAt}
 use Rattle.grammar.specs.Parts.{when, mark}
 use Rattle.grammar.specs.Flags.{hasFlag, flags}
 use Rattle.answers.specs.Rows.{value, item, option, ruleDraft, form, formSet}
-use Rattle.drafts.specs.Sound.{Sound}
+use Rattle.drafts.specs.Sound.{SoundRow}
 use Rattle.sound.proofs.Kept.{Node, part, place-at, mark-at, id-range, string-range}
 use Rattle.sound.proofs.SoundRow.{sound-row, Other, bare, Asked, question-other}
 
@@ -53,7 +53,7 @@ module _ (s : List ℕ) where
 
   -- the number is a question's, and written where its mark is
   abbrev Written : Bool → Trees → Type 0
-  Written t c = (when t (value number-at 2 c) < limit) × (ltb 0 (when t (value number-at 2 c)) ≡ ltb 0 (when t (mark (placeAt 0 (child 2 c)))))
+  Written t c = (when t (value number-at 2 c) < numberLimit) × (ltb 0 (when t (value number-at 2 c)) ≡ ltb 0 (when t (mark (placeAt 0 (child 2 c)))))
 
   written : {i : ℕ} {c : Trees} → Node s <questionid>? i c → (t : Bool) → eqb i 1 ≡ t → Written t c
   unfolding rules
@@ -121,7 +121,7 @@ module _ (s : List ℕ) where
     unfolding rules isQuestion questions member
     form-other parent t =
         let own = id-range s t 3 refl in
-        let numbered : isNumber (value number-at 3 c) ≡ true = rw (lt-ltb 0 _ (own .0), lt-ltb _ limit (own .1)) in
+        let numbered : isNumber (value number-at 3 c) ≡ true = rw (lt-ltb 0 _ (own .0), lt-ltb _ numberLimit (own .1)) in
         record {
           sound =
               sound-row (omega (arith, string-range s t 7 refl, mark-at s t 3, place-at s t 0))
@@ -137,10 +137,10 @@ module _ (s : List ℕ) where
           no-option = refl;
         }
 
-    pub option-sound : (parent : ℕ) → Node s <option> i c → Sound (option number-at parent c)
+    pub option-sound : (parent : ℕ) → Node s <option> i c → SoundRow (option number-at parent c)
     unfolding rules isQuestion questions member
     option-sound parent t =
         let default = eqb (chosen 11 c) 1 in
-        let word = when-le default (mark (placeAt 0 (child 11 c))) (suc LIMIT) (mark-at s t 11) in
+        let word = when-le default (mark (placeAt 0 (child 11 c))) (suc LONGEST) (mark-at s t 11) in
         let flags = when-le default flag.OPTION-DEFAULT 16 (omega arith) in
         sound-row (omega (arith, string-range s t 3 refl, mark-at s t 7, place-at s t 0)) never never (λ e. omega arith) never never (λ e. absurd (omega arith))

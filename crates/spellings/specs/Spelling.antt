@@ -22,7 +22,7 @@ part n = cond (ltb n 4) 2 (cond (ltb n 9) 4 8)
 unfoldable pub spelt : Spelling → List ℕ
 spelt s = lowBytes (s .2 - part (s .2)) (s .0) ++ lowBytes (part (s .2)) (s .1)
 
-pub record Spells (text : List ℕ) (s : Spelling) : Type 0 where
+pub record SpellsText (text : List ℕ) (s : Spelling) : Type 0 where
   pub same : spelt s ≡ text
   pub least : 2 ≤ s .2
   pub most : s .2 ≤ 15

@@ -4,12 +4,12 @@ use lexemes::classes::*;
 ghost use Prim.Native.Nat.{_<_};
 ghost use Rattle.lexemes.specs.Classes.{NAME};
 ghost use Rattle.answers.specs.Text.{lexeme, textOf};
-ghost use Rattle.spellings.specs.Spelling.{Spells};
+ghost use Rattle.spellings.specs.Spelling.{SpellsText};
 
 // Of a sign or a reserved word, by its class.
 pub fn spelling(class: u8) -> Spelling
     requires { ⌜ class < NAME ⌝ }
-    ensures { λ r. ⌜ Spells (textOf (lexeme class)) r ⌝ }
+    ensures { λ r. ⌜ SpellsText (textOf (lexeme class)) r ⌝ }
 {
     match class {
         // {

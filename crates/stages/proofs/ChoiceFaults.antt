@@ -12,7 +12,7 @@ use Rattle.answers.specs.Rows.{Draft}
 use Rattle.answers.specs.Stages.{cell, is, any, outside, faultsAfter, numericFaults, optionFaults, badChoices}
 use Rattle.drafts.specs.Faults.{firstFault}
 use Rattle.stages.specs.Choices.{limitsFault, leading, isDefault, optionFault, choiceFault}
-use Rattle.drafts.specs.Sound.{Sound, AllSound, no-rows, add-row, OptionsFollow, SoundRows, First, none}
+use Rattle.drafts.specs.Sound.{SoundRow, AllSound, no-rows, add-row, OptionsFollow, SoundRows, First, none}
 use Rattle.drafts.proofs.RowTests.{other-code, any-none, any-cons}
 use Rattle.stages.proofs.ChoiceLaws.{sameValue}
 use Rattle.drafts.proofs.Firsts.{orElse, first-append, first-if, first-is}
@@ -130,7 +130,7 @@ FirstFrom before os ds = First (orElse (optionFault os (leading ds)) (firstFault
 abbrev Rest : ℕ → List Draft → Draft → List Draft → Type 0
 Rest i before d ds = (owner : ℕ) (os : List Draft) → Among (i + 1) owner (d ∷ before) os → OptionsFollow (i + 1) owner ds → FirstFrom (d ∷ before) os ds
 
-module _ {i owner : ℕ} {before os : List Draft} (v : Among i owner before os) {d : Draft} (s : Sound d) (ds : List Draft) (w : OptionsFollow i owner (d ∷ ds)) (rest : Rest i before d ds) where
+module _ {i owner : ℕ} {before os : List Draft} (v : Among i owner before os) {d : Draft} (s : SoundRow d) (ds : List Draft) (w : OptionsFollow i owner (d ∷ ds)) (rest : Rest i before d ds) where
   at-option : is code.OPTION d ≡ true → FirstFrom before os (d ∷ ds)
   unfolding firstFault faultsAfter leading optionFault choiceFault
   at-option e =

@@ -12,7 +12,7 @@ use Rattle.rows.specs.Columns as column
 use Rattle.answers.specs.Rows.{Draft}
 use Rattle.answers.specs.Stages.{cell, is, writes, any, finds, refers, faultIf, unfound}
 use Rattle.drafts.specs.Faults.{alone, firstFault}
-use Rattle.drafts.specs.Sound.{Sound, SoundRows, First, none, some}
+use Rattle.drafts.specs.Sound.{SoundRow, SoundRows, First, none, some}
 use Rattle.names.specs.Names.{findIn, declaresMark, firstRow, Indexes}
 use Rattle.stages.specs.References.{findsQuestion, referenceFault}
 use Rattle.drafts.proofs.Firsts.{first-each}
@@ -74,7 +74,7 @@ module _ {ds : List Draft} {s xs : List ℕ} (index : Indexes s ds xs) where
         faultIf (is code.GOTO d && not (any (λ e. is code.FORM e && eqb (cell column.OWN e) (cell column.A d)) ds)) (d .limitAt)
         ++ faultIf (refers s d && not (any (finds s d) ds)) (d .ownAt)
 
-    reference-first : (before : List Draft) (d : Draft) → Sound d → First (referenceFault s xs forms written d) (referenceFaults before d)
+    reference-first : (before : List Draft) (d : Draft) → SoundRow d → First (referenceFault s xs forms written d) (referenceFaults before d)
     unfolding referenceFault
     reference-first before d u = go (is code.GOTO d) refl (is code.QUESTION-REF d) refl (is code.RULE-REF d) refl
       where

@@ -7,7 +7,7 @@ use native.Mathlib.Omega.{arith}
 use borrow.Author.Tests.{eq-eqb, ne-eqb, eqb-true, eqb-false, ltb-true, ltb-false, lt-ltb}
 use lib.Dec.{eqb, ltb}
 use lib.ListN.{length}
-use Rattle.numbers.specs.Numbers.{isNumber, limit, emptyMap, used, marked, mem, borne, Holds}
+use Rattle.numbers.specs.Numbers.{isNumber, numberLimit, emptyMap, used, withUsed, mem, borne, Holds}
 use Rattle.numbers.proofs.Ranges.{and-yes}
 use Rattle.numbers.proofs.Lists.{mem-cons, borne-or}
 use Rattle.numbers.proofs.Maps.{used-empty, used-marked, length-marked, holds-empty}
@@ -16,7 +16,7 @@ use Rattle.rows.specs.Columns as column
 use Rattle.answers.specs.Rows.{Draft}
 use Rattle.answers.specs.Stages.{cell, is, asks, writes, any, faultIf, faultsAfter, repeatedForms, repeatedQuestions, ownNumbers}
 use Rattle.stages.specs.Repeats.{formNumber, writtenNumber, repeatedMark, mapAfter}
-use Rattle.drafts.specs.Sound.{Sound, AllSound, no-rows, add-row, SoundRows, First, none}
+use Rattle.drafts.specs.Sound.{SoundRow, AllSound, no-rows, add-row, SoundRows, First, none}
 use Rattle.drafts.proofs.RowTests.{or-swap, any-none, any-cons}
 use Rattle.drafts.proofs.Firsts.{first-cond}
 
@@ -67,7 +67,7 @@ module _ {has : Draft → Bool} {number : Draft → ℕ} {d : Draft} (c : Counts
         go true e = rw (c .own e) (v .same (cell column.OWN d))
         go false e = rw (c .no-number e) (v .no-zero)
 
-    tells-next : Tells has (marked ws (number d)) (d ∷ before)
+    tells-next : Tells has (withUsed ws (number d)) (d ∷ before)
     tells-next =
         record {
           size = length-marked ws (number d) ∙ v .size;
@@ -88,7 +88,7 @@ record Gains (has : Draft → Bool) (ws : List ℕ) (before ds : List Draft) : T
 abbrev repeatsAfter : (Draft → Bool) → List Draft → Draft → List ℕ
 repeatsAfter has before d = faultIf (has d && any (λ e. has e && eqb (cell column.OWN e) (cell column.OWN d)) before) (d .ownAt)
 
-module _ (has : Draft → Bool) (number : Draft → ℕ) (counts : (d : Draft) → Sound d → Counts has number d) where
+module _ (has : Draft → Bool) (number : Draft → ℕ) (counts : (d : Draft) → SoundRow d → Counts has number d) where
   repeats-from : {ds : List Draft} → AllSound ds → (ws : List ℕ) (before : List Draft) → Tells has ws before
       → First (repeatedMark number ws ds) (faultsAfter (repeatsAfter has) before ds)
   unfolding repeatedMark faultsAfter
@@ -96,18 +96,18 @@ module _ (has : Draft → Bool) (number : Draft → ℕ) (counts : (d : Draft) �
   repeats-from (add-row {d = d} {ds = ds} s r) ws before v =
       rw (row-used (counts d s) v)
       (first-cond (has d && any (bears has (cell column.OWN d)) before) (λ e. counts d s .written (and-yes (has d) _ e .0))
-      (repeats-from r (marked ws (number d)) (d ∷ before) (tells-next (counts d s) v)))
+      (repeats-from r (withUsed ws (number d)) (d ∷ before) (tells-next (counts d s) v)))
 
   -- where no number is repeated, the map gains those of all rows
   map-from : {ds : List Draft} → AllSound ds → (ws : List ℕ) (before : List Draft) → Tells has ws before → repeatedMark number ws ds ≡ 0
       → Gains has (mapAfter number ws ds) before ds
   unfolding repeatedMark mapAfter
   map-from no-rows ws before v z = record { size = v .size; same = λ k. v .same k ∙ rw (any-none (bears has k)) (sym (or-false (any (bears has k) before))); no-zero = v .no-zero }
-  map-from (add-row {d = d} {ds = ds} s r) ws before v z = go (used ws (number d)) refl (map-from r (marked ws (number d)) (d ∷ before) (tells-next (counts d s) v)) z
+  map-from (add-row {d = d} {ds = ds} s r) ws before v z = go (used ws (number d)) refl (map-from r (withUsed ws (number d)) (d ∷ before) (tells-next (counts d s) v)) z
     where
-      go : (b : Bool) → used ws (number d) ≡ b → (repeatedMark number (marked ws (number d)) ds ≡ 0 → Gains has (mapAfter number (marked ws (number d)) ds) (d ∷ before) ds)
-          → cond b (d .ownAt) (repeatedMark number (marked ws (number d)) ds) ≡ 0
-          → Gains has (cond b ws (mapAfter number (marked ws (number d)) ds)) before (d ∷ ds)
+      go : (b : Bool) → used ws (number d) ≡ b → (repeatedMark number (withUsed ws (number d)) ds ≡ 0 → Gains has (mapAfter number (withUsed ws (number d)) ds) (d ∷ before) ds)
+          → cond b (d .ownAt) (repeatedMark number (withUsed ws (number d)) ds) ≡ 0
+          → Gains has (cond b ws (mapAfter number (withUsed ws (number d)) ds)) before (d ∷ ds)
       go true e f y = absurd (omega (arith, counts d s .written (and-yes (has d) _ (sym (row-used (counts d s) v) ∙ e) .0)))
       go false e f y =
           let g = f y in
@@ -133,7 +133,7 @@ module _ (has : Draft → Bool) (number : Draft → ℕ) (counts : (d : Draft) �
 
 -- ---- forms
 
-form-counts : (d : Draft) → Sound d → Counts (is code.FORM) formNumber d
+form-counts : (d : Draft) → SoundRow d → Counts (is code.FORM) formNumber d
 form-counts d s = go (is code.FORM d) refl
   where
     go : (b : Bool) → is code.FORM d ≡ b → Counts (is code.FORM) formNumber d
@@ -150,7 +150,7 @@ forms-told v = map-all (is code.FORM) formNumber form-counts (v .each)
 
 -- ---- questions
 
-question-counts : (d : Draft) → Sound d → Counts writes writtenNumber d
+question-counts : (d : Draft) → SoundRow d → Counts writes writtenNumber d
 question-counts d s = go (asks d) refl
   where
     marked-written : (a b : Bool) → (a && b) ≡ true → b ≡ ltb 0 (d .ownAt) → 0 < d .ownAt
@@ -159,7 +159,7 @@ question-counts d s = go (asks d) refl
     go : (b : Bool) → asks d ≡ b → Counts writes writtenNumber d
     go true e =
         let own : isNumber (cell column.OWN d) ≡ ltb 0 (d .ownAt) =
-        rw (lt-ltb (cell column.OWN d) limit (s .question e)) (and-true (ltb 0 (cell column.OWN d)) ∙ s .question-mark e) in
+        rw (lt-ltb (cell column.OWN d) numberLimit (s .question e)) (and-true (ltb 0 (cell column.OWN d)) ∙ s .question-mark e) in
         record {
           numbers = rw e own;
           own = λ f. rw e;

@@ -5,7 +5,7 @@ use mathlib.Core.Bool.{Bool, true, false}
 use mathlib.Core.List.{List, [], _∷_}
 use native.Mathlib.Omega.{arith}
 use borrow.Author.Tests.{eq-eqb, ne-eqb}
-use Rattle.numbers.specs.Numbers.{used, marked}
+use Rattle.numbers.specs.Numbers.{used, withUsed}
 use Rattle.rows.specs.Codes as code
 use Rattle.rows.specs.Codes.{isQuestion}
 use Rattle.rows.specs.Columns as column
@@ -53,11 +53,11 @@ module _ (number : Draft → ℕ) (ws : List ℕ) where
     unfolding mapAfter
     map-here e = rw e
 
-    repeated-later : used ws (number d) ≡ false → repeatedMark number ws (d ∷ ds) ≡ repeatedMark number (marked ws (number d)) ds
+    repeated-later : used ws (number d) ≡ false → repeatedMark number ws (d ∷ ds) ≡ repeatedMark number (withUsed ws (number d)) ds
     unfolding repeatedMark
     repeated-later e = rw e
 
-    map-later : used ws (number d) ≡ false → mapAfter number ws (d ∷ ds) ≡ mapAfter number (marked ws (number d)) ds
+    map-later : used ws (number d) ≡ false → mapAfter number ws (d ∷ ds) ≡ mapAfter number (withUsed ws (number d)) ds
     unfolding mapAfter
     map-later e = rw e
 
@@ -95,7 +95,7 @@ module _ {number : Draft → ℕ} {ws₀ t ws : List ℕ} {n i : ℕ} (v : Repea
       sym (v .map ∙ ap (mapAfter number ws) (drafts-next t i n h) ∙ map-here number ws (draftAt t i) after (test ∙ y)),
     )
 
-    pub repeating-next : {ws′ : List ℕ} → ws′ ≡ marked ws k → b ≡ false → Repeating number ws₀ t n ws′ (i + 1)
+    pub repeating-next : {ws′ : List ℕ} → ws′ ≡ withUsed ws k → b ≡ false → Repeating number ws₀ t n ws′ (i + 1)
     repeating-next g y =
         rw (g, e)
         record {

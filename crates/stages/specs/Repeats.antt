@@ -2,7 +2,7 @@
 use Prim.Native.Nat.{ℕ}
 use mathlib.Core.Bool.{Bool, true, false, cond}
 use mathlib.Core.List.{List, [], _∷_}
-use Rattle.numbers.specs.Numbers.{used, marked}
+use Rattle.numbers.specs.Numbers.{used, withUsed}
 use Rattle.rows.specs.Codes as code
 use Rattle.rows.specs.Columns as column
 use Rattle.answers.specs.Rows.{Draft}
@@ -23,9 +23,9 @@ module _ (number : Draft → ℕ) where
   -- the mark of the first row whose number the map or a row before has, 0 where there is none
   unfoldable pub repeatedMark : List ℕ → List Draft → ℕ
   repeatedMark words [] = 0
-  repeatedMark words (d ∷ ds) = let later = repeatedMark (marked words (number d)) ds in cond (used words (number d)) (d .ownAt) later
+  repeatedMark words (d ∷ ds) = let later = repeatedMark (withUsed words (number d)) ds in cond (used words (number d)) (d .ownAt) later
 
   -- the map with the numbers of the rows before it
   unfoldable pub mapAfter : List ℕ → List Draft → List ℕ
   mapAfter words [] = words
-  mapAfter words (d ∷ ds) = let later = mapAfter (marked words (number d)) ds in cond (used words (number d)) words later
+  mapAfter words (d ∷ ds) = let later = mapAfter (withUsed words (number d)) ds in cond (used words (number d)) words later

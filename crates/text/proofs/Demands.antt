@@ -14,7 +14,7 @@ use Rattle.rows.specs.Columns.{ROW}
 use Rattle.rows.specs.Rows.{laid}
 use Rattle.ll1.specs.Trees.{Trees}
 use Rattle.answers.specs.Stages.{finished}
-use Rattle.answers.specs.Answer.{LIMIT, accepts, drafts}
+use Rattle.answers.specs.Answer.{LONGEST, accepts, drafts}
 use Rattle.answers.specs.Text.{resolvedText}
 use Rattle.answers.specs.WholeAnswer.{readAnswer, readTable}
 use Rattle.answers.specs.Resolution.{room, textOfSource, resolvedInto, resolution, resolvedTable, resolvedOutput}
@@ -57,7 +57,7 @@ module _ {s : List ℕ} {n m : ℕ} {r : Answer} {t′ o′ : List ℕ} (v : Res
 
   pub accepted-with-room :
       (told r .number ≡ 0)
-      ↔ ((tree : Trees) × Sound s tree × (length s ≤ LIMIT) × (length (drafts s tree) ≤ n / ROW)
+      ↔ ((tree : Trees) × Sound s tree × (length s ≤ LONGEST) × (length (drafts s tree) ≤ n / ROW)
       × (length (resolvedText tree (finished s (drafts s tree))) ≤ room m))
   accepted-with-room = rw (v .answer) (Demand2.resolves-with-room s n m)
 

@@ -21,7 +21,7 @@ use Rattle.ll1.proofs.Lookups.{member-not}
 use Rattle.grammar.specs.Grammar.{rules}
 use Rattle.grammar.specs.Notation.{t, r, plain, group}
 use Rattle.grammar.specs.Lookahead.{lookahead}
-use Rattle.grammar.specs.Rules.{level, tail, <or>, <atom>}
+use Rattle.grammar.specs.Rules.{levelRule, tailRule, <or>, <atom>}
 use Rattle.grammar.specs.Derivation.{tooDeep, maxConditions, maxGroups}
 use Rattle.grammar.specs.Ranges.{rangeOf, outOfRange}
 use Rattle.elements.specs.Symbols.{symbolsOf, phraseSymbols, GROUP-CLOSE, NUMBER, QUESTION-REF, RULE-REF}
@@ -30,10 +30,10 @@ use Rattle.answers.specs.Expression.{operators, operator, operatorAmong, operat
 use Rattle.answers.specs.Drafts.{encoded}
 use Rattle.fields.specs.Words.{codeOf, wordDraft}
 use Rattle.walk.specs.declared.State.{State}
-use Rattle.walk.specs.Meanings.{Meaning, Counted, Worded, Spelling, Tailing}
+use Rattle.walk.specs.Meanings.{Meaning, Counted, Worded, OperandRows, Tailing}
 use Rattle.fields.specs.Operators.{LEVELS, levelOf}
 use Rattle.walk.specs.Starts.{constantWords, isConstant}
-use Rattle.walk.specs.Walked.{Room, Walked, Reads, Closes, passed, deep, advanced, WithRow, Groups, ReadsRow, Spells}
+use Rattle.walk.specs.Walked.{Room, Walked, Reads, Closes, passed, deep, advanced, WithRow, Groups, ReadsRow, ReadsOperand}
 use Rattle.walk.proofs.Walks.{walked-then, counted-joins, walked-off, walked-nil, token-walked, resume-in, resume-enter, resume-skip, walked-node, counted-node, deep-walked}
 use Rattle.walk.proofs.StartLaws.{none-of, none-append, tells-only}
 use Rattle.walk.proofs.StatementSteps.{Told}
@@ -100,13 +100,13 @@ one-less c left n l = ap (depth c) (omega arith)
 -- the word, its operand, and its row
 operated :
     {s : List ℕ} {parent k B : ℕ} {d : Depth} {st x : State} {t₀ t₁ : List ℕ}
-    → tooDeep d ≡ false → k < BAD → st .no ≡ 0 → st .token .class ≡ k → Walked s d (r B ∷ []) (Counted (Spelling s parent)) (passed s st) x t₀ t₁
+    → tooDeep d ≡ false → k < BAD → st .no ≡ 0 → st .token .class ≡ k → Walked s d (r B ∷ []) (Counted (OperandRows s parent)) (passed s st) x t₀ t₁
     → Walked s d (t k ∷ r B ∷ []) (Operated s parent k (st .token .start)) st x t₀ t₁
 operated {s} {parent} {k} {d = d} {st = st} o l z c w = walked-then (operated-joins s parent) (token-walked s d k st z c l {M = Passing s parent k (st .token .start)} o (record { is = refl; no-rows = refl; no-rules = refl })) w
 
 finished :
     {s : List ℕ} {parent k B : ℕ} {d : Depth} {st x y : State} {t₀ t₁ t₂ : List ℕ}
-    → tooDeep d ≡ false → k < BAD → st .no ≡ 0 → st .token .class ≡ k → Walked s d (r B ∷ []) (Counted (Spelling s parent)) (passed s st) x t₀ t₁
+    → tooDeep d ≡ false → k < BAD → st .no ≡ 0 → st .token .class ≡ k → Walked s d (r B ∷ []) (Counted (OperandRows s parent)) (passed s st) x t₀ t₁
     → WithRow parent (st .token) x y t₁ t₂ → Walked s d (t k ∷ r B ∷ []) (Finished s parent k (st .token .start)) st y t₀ t₂
 finished {s} {parent} {k} {d = d} {st = st} {x = x} {y = y} {t₁ = t₁} {t₂ = t₂} o l z c w v =
     let after : Walked s d [] (After s parent (st .token .class) (st .token .start)) x y t₁ t₂ = row-walked v in
@@ -118,18 +118,18 @@ groups-off A M h = record { walked = λ c l. walked-off (r A ∷ []) M h }
 module _ {s : List ℕ} {left parent : ℕ} where
   -- ---- NOT atom, and ( expression )
 
-  pub not-deep : {st : State} {t : List ℕ} → left ≡ 0 → st .no ≡ 0 → st .token .class ≡ class.«NOT» → Spells s left <atom> parent st (deep st) t t
+  pub not-deep : {st : State} {t : List ℕ} → left ≡ 0 → st .no ≡ 0 → st .token .class ≡ class.«NOT» → ReadsOperand s left <atom> parent st (deep st) t t
   unfolding rules lookahead
   not-deep n z c = record { walked = λ b l. rw n (deep-walked {i = 0} {k = class.«NOT»} {a = group (t class.«NOT» ∷ r <atom> ∷ [])} refl refl refl (rw (le-ltb 16 b l)) z c (omega arith)) }
 
-  pub group-deep : {st : State} {t : List ℕ} → left ≡ 0 → st .no ≡ 0 → st .token .class ≡ open-paren → Spells s left <atom> parent st (deep st) t t
+  pub group-deep : {st : State} {t : List ℕ} → left ≡ 0 → st .no ≡ 0 → st .token .class ≡ open-paren → ReadsOperand s left <atom> parent st (deep st) t t
   unfolding rules lookahead symbolsOf phraseSymbols
   group-deep n z c = record { walked = λ b l. rw n (deep-walked {i = 1} {k = open-paren} {a = group (t open-paren ∷ r <or> ∷ symbolsOf GROUP-CLOSE)} refl refl refl (rw (le-ltb 16 b l)) z c (omega arith)) }
 
   pub atom-not :
       {st p a r′ : State} {t₀ t₁ t₂ : List ℕ}
-      → left ≢ 0 → left ≤ maxGroups → st .no ≡ 0 → st .token .class ≡ class.«NOT» → p ≡ passed s st → Spells s (left - 1) <atom> parent p a t₀ t₁
-      → WithRow parent (st .token) a r′ t₁ t₂ → Spells s left <atom> parent st r′ t₀ t₂
+      → left ≢ 0 → left ≤ maxGroups → st .no ≡ 0 → st .token .class ≡ class.«NOT» → p ≡ passed s st → ReadsOperand s (left - 1) <atom> parent p a t₀ t₁
+      → WithRow parent (st .token) a r′ t₁ t₂ → ReadsOperand s left <atom> parent st r′ t₀ t₂
   unfolding rules lookahead rangeOf
   atom-not {st} n l z c pe x w =
       record {
@@ -143,14 +143,14 @@ module _ {s : List ℕ} {left parent : ℕ} where
 
   pub atom-group :
       {st p e r′ : State} {t₀ t₁ : List ℕ}
-      → left ≢ 0 → left ≤ maxGroups → st .no ≡ 0 → st .token .class ≡ open-paren → p ≡ passed s st → Spells s (left - 1) <or> parent p e t₀ t₁
-      → Closes s GROUP-CLOSE e r′ → Spells s left <atom> parent st r′ t₀ t₁
+      → left ≢ 0 → left ≤ maxGroups → st .no ≡ 0 → st .token .class ≡ open-paren → p ≡ passed s st → ReadsOperand s (left - 1) <or> parent p e t₀ t₁
+      → Closes s GROUP-CLOSE e r′ → ReadsOperand s left <atom> parent st r′ t₀ t₁
   unfolding rules lookahead rangeOf symbolsOf phraseSymbols
   atom-group {st} {r′ = r′} {t₀ = t₀} {t₁ = t₁} n l z c pe x w =
       record {
         walked = λ b h.
             let fine = groups-fine b (left - 1) h (omega arith) in
-            let inner : Walked s (depth b (maxGroups - (left - 1))) (t open-paren ∷ r <or> ∷ symbolsOf GROUP-CLOSE) (Counted (Spelling s parent)) st r′ t₀ t₁ = walked-then (group-joins s parent) (operated fine (omega arith) z c ((rw pe at x) .walked b h)) (w .reads t₁ .walked (depth b (maxGroups - (left - 1))) fine) in
+            let inner : Walked s (depth b (maxGroups - (left - 1))) (t open-paren ∷ r <or> ∷ symbolsOf GROUP-CLOSE) (Counted (OperandRows s parent)) st r′ t₀ t₁ = walked-then (group-joins s parent) (operated fine (omega arith) z c ((rw pe at x) .walked b h)) (w .reads t₁ .walked (depth b (maxGroups - (left - 1))) fine) in
             walked-node 1 {a = group (t open-paren ∷ r <or> ∷ symbolsOf GROUP-CLOSE)} refl refl
             (λ σ. resume-in s (depth b (maxGroups - left)) <atom> σ (st .no) (st .token) 1 (group (t open-paren ∷ r <or> ∷ symbolsOf GROUP-CLOSE)) (λ q. omega arith) (rw c) refl)
             (λ c ds k h m. counted-node (group-node s parent) m)
@@ -170,7 +170,7 @@ told-number k a b c e f =
 module _ {s : List ℕ} {parent : ℕ} {st r′ : State} {t₀ t₁ : List ℕ} where
   pub atom-constant :
       st .no ≡ 0 → isConstant (st .token .class) ≡ true → Reads s (t (st .token .class) ∷ []) (Counted (Worded s parent)) st r′ t₀ t₁
-      → Reads s (r <atom> ∷ []) (Counted (Spelling s parent)) st r′ t₀ t₁
+      → Reads s (r <atom> ∷ []) (Counted (OperandRows s parent)) st r′ t₀ t₁
   unfolding rangeOf
   atom-constant z c w =
       let k = constant-word (st .token .class) c in
@@ -186,7 +186,7 @@ module _ {s : List ℕ} {parent : ℕ} {st r′ : State} {t₀ t₁ : List ℕ} 
   -- a phrase, which the token tells
   pub atom-question-ref :
       st .token .class ≡ class.«questionref» → ReadsRow s QUESTION-REF parent st r′ t₀ t₁
-      → Reads s (r <atom> ∷ []) (Counted (Spelling s parent)) st r′ t₀ t₁
+      → Reads s (r <atom> ∷ []) (Counted (OperandRows s parent)) st r′ t₀ t₁
   unfolding rules lookahead rangeOf symbolsOf phraseSymbols
   atom-question-ref c w =
       record {
@@ -198,7 +198,7 @@ module _ {s : List ℕ} {parent : ℕ} {st r′ : State} {t₀ t₁ : List ℕ} 
       }
 
   pub atom-rule-ref :
-      st .token .class ≡ class.«ruleref» → ReadsRow s RULE-REF parent st r′ t₀ t₁ → Reads s (r <atom> ∷ []) (Counted (Spelling s parent)) st r′ t₀ t₁
+      st .token .class ≡ class.«ruleref» → ReadsRow s RULE-REF parent st r′ t₀ t₁ → Reads s (r <atom> ∷ []) (Counted (OperandRows s parent)) st r′ t₀ t₁
   unfolding rules lookahead rangeOf symbolsOf phraseSymbols
   atom-rule-ref c w =
       record {
@@ -212,7 +212,7 @@ module _ {s : List ℕ} {parent : ℕ} {st r′ : State} {t₀ t₁ : List ℕ} 
   -- a number
   pub atom-number :
       st .token .class ≢ class.«NOT» → st .token .class ≢ open-paren → isConstant (st .token .class) ≡ false → st .token .class ≢ class.«questionref»
-      → st .token .class ≢ class.«ruleref» → ReadsRow s NUMBER parent st r′ t₀ t₁ → Reads s (r <atom> ∷ []) (Counted (Spelling s parent)) st r′ t₀ t₁
+      → st .token .class ≢ class.«ruleref» → ReadsRow s NUMBER parent st r′ t₀ t₁ → Reads s (r <atom> ∷ []) (Counted (OperandRows s parent)) st r′ t₀ t₁
   unfolding rules rangeOf symbolsOf phraseSymbols
   atom-number a b c e f w =
       record {
@@ -225,7 +225,7 @@ module _ {s : List ℕ} {parent : ℕ} {st r′ : State} {t₀ t₁ : List ℕ} 
 
 pub atom-leaf :
     {s : List ℕ} {left parent : ℕ} {st r′ : State} {t₀ t₁ : List ℕ}
-    → left ≤ maxGroups → Reads s (r <atom> ∷ []) (Counted (Spelling s parent)) st r′ t₀ t₁ → Spells s left <atom> parent st r′ t₀ t₁
+    → left ≤ maxGroups → Reads s (r <atom> ∷ []) (Counted (OperandRows s parent)) st r′ t₀ t₁ → ReadsOperand s left <atom> parent st r′ t₀ t₁
 atom-leaf {left = left} l w = record { walked = λ c h. w .walked (depth c (maxGroups - left)) (groups-fine c left h l) }
 
 -- ---- levels
@@ -233,26 +233,26 @@ atom-leaf {left = left} l w = record { walked = λ c h. w .walked (depth c (maxG
 -- the code's next level is the grammar's
 next-level :
     {s : List ℕ} {left : ℕ} (n : ℕ) {M : Meaning} {st r′ : State} {t₀ t₁ : List ℕ}
-    → Groups s left (level (n + 1)) M st r′ t₀ t₁ → Groups s left (level (suc n)) M st r′ t₀ t₁
-next-level {s} {left} n {M} {st} {r′} {t₀} {t₁} w = subst (λ (A : ℕ). Groups s left A M st r′ t₀ t₁) (let e : level (n + 1) ≡ level (suc n) = omega arith in e) w
+    → Groups s left (levelRule (n + 1)) M st r′ t₀ t₁ → Groups s left (levelRule (suc n)) M st r′ t₀ t₁
+next-level {s} {left} n {M} {st} {r′} {t₀} {t₁} w = subst (λ (A : ℕ). Groups s left A M st r′ t₀ t₁) (let e : levelRule (n + 1) ≡ levelRule (suc n) = omega arith in e) w
 
 module _ {s : List ℕ} {left parent : ℕ} where
   pub level-atom :
       {n : ℕ} {st r′ : State} {t₀ t₁ : List ℕ}
-      → n ≤ LEVELS → LEVELS ≤ n → Spells s left <atom> parent st r′ t₀ t₁ → Spells s left (level n) parent st r′ t₀ t₁
+      → n ≤ LEVELS → LEVELS ≤ n → ReadsOperand s left <atom> parent st r′ t₀ t₁ → ReadsOperand s left (levelRule n) parent st r′ t₀ t₁
   level-atom {n} a b w = let e : n ≡ LEVELS = omega arith in rw e w
 
   -- an operand, and the operators and operands after it
   pub level-whole :
       {n : ℕ} {st c r′ : State} {t₀ t₁ t₂ : List ℕ}
-      → n < LEVELS → Spells s left (level (n + 1)) parent st c t₀ t₁ → Groups s left (tail n) (Counted (Tailing s parent)) c r′ t₁ t₂
-      → Spells s left (level n) parent st r′ t₀ t₂
+      → n < LEVELS → ReadsOperand s left (levelRule (n + 1)) parent st c t₀ t₁ → Groups s left (tailRule n) (Counted (Tailing s parent)) c r′ t₁ t₂
+      → ReadsOperand s left (levelRule n) parent st r′ t₀ t₂
   level-whole {n} {st} h w v =
       let k = level-is n h in
       record {
         walked = λ c l.
-            walked-node 0 {M = Counted (Spelling s parent)} (k .operand) (k .no-range)
-            (λ σ. resume-enter s (depth c (maxGroups - left)) (level n) σ (st .no) (st .token) 0 (plain (r (level (suc n)) ∷ r (tail n) ∷ [])) (k .present) (k .operand) (level-told n (st .token .class) h))
+            walked-node 0 {M = Counted (OperandRows s parent)} (k .operand) (k .no-range)
+            (λ σ. resume-enter s (depth c (maxGroups - left)) (levelRule n) σ (st .no) (st .token) 0 (plain (r (levelRule (suc n)) ∷ r (tailRule n) ∷ [])) (k .present) (k .operand) (level-told n (st .token .class) h))
             (λ c ds l h m. counted-node (level-node s parent (k .no-atom)) m)
             (walked-then (counted-joins (level-joins s parent)) (next-level n w .walked c l) (v .walked c l));
       }
@@ -260,14 +260,14 @@ module _ {s : List ℕ} {left parent : ℕ} where
   -- no operator of the level follows
   pub tail-end :
       {n : ℕ} {st : State} {t₀ : List ℕ}
-      → n < LEVELS → levelOf (st .token .class) ≢ n → Groups s left (tail n) (Counted (Tailing s parent)) st st t₀ t₀
+      → n < LEVELS → levelOf (st .token .class) ≢ n → Groups s left (tailRule n) (Counted (Tailing s parent)) st st t₀ t₀
   tail-end {n} {st} h e =
       let k = level-is n h in
       record {
         walked = λ c l.
             let d = depth c (maxGroups - left) in
             walked-node 0 (k .empty) (k .no-range-tail)
-            (λ σ. resume-skip s d (tail n) σ (st .no) (st .token) (k .absent) (tail-ends n (st .token .class) h e))
+            (λ σ. resume-skip s d (tailRule n) σ (st .no) (st .token) (k .absent) (tail-ends n (st .token .class) h e))
             (λ c ds l h m. counted-node (λ x. tail-node s parent (k .no-atom-tail) (tail-none s parent h x)) m)
             (walked-nil s d);
       }
@@ -275,24 +275,24 @@ module _ {s : List ℕ} {left parent : ℕ} where
   -- an operator of the level, its right operand, its row, and what follows
   pub tail-more :
       {n : ℕ} {st p x y r′ : State} {t₀ t₁ t₂ t₃ : List ℕ}
-      → n < LEVELS → left ≤ maxGroups → st .no ≡ 0 → levelOf (st .token .class) ≡ n → p ≡ passed s st → Spells s left (level (n + 1)) parent p x t₀ t₁
-      → WithRow parent (st .token) x y t₁ t₂ → Groups s left (tail n) (Counted (Tailing s parent)) y r′ t₂ t₃
-      → Groups s left (tail n) (Counted (Tailing s parent)) st r′ t₀ t₃
+      → n < LEVELS → left ≤ maxGroups → st .no ≡ 0 → levelOf (st .token .class) ≡ n → p ≡ passed s st → ReadsOperand s left (levelRule (n + 1)) parent p x t₀ t₁
+      → WithRow parent (st .token) x y t₁ t₂ → Groups s left (tailRule n) (Counted (Tailing s parent)) y r′ t₂ t₃
+      → Groups s left (tailRule n) (Counted (Tailing s parent)) st r′ t₀ t₃
   tail-more {n} {st} {p} {x} {t₀ = t₀} {t₁ = t₁} h g z e pe w v u =
       let f = operator-found n (st .token .class) h e in
       let o = f .operator in
       let q = operates o in
       let k = level-is n h in
       let known : st .token .class < BAD = rw (f .class) at (q .known) in
-      let tells : predict lookahead (tail n) (st .token .class) ≡ some (q .way) = rw (f .level, f .class) at (q .tells) in
-      let alternative : alternativeOf rules (tail n) (q .way) ≡ some (plain (t (st .token .class) ∷ r (level (suc n)) ∷ r (tail n) ∷ [])) = rw (f .level, f .class) at (q .alternative) in
+      let tells : predict lookahead (tailRule n) (st .token .class) ≡ some (q .way) = rw (f .level, f .class) at (q .tells) in
+      let alternative : alternativeOf rules (tailRule n) (q .way) ≡ some (plain (t (st .token .class) ∷ r (levelRule (suc n)) ∷ r (tailRule n) ∷ [])) = rw (f .level, f .class) at (q .alternative) in
       let among : operatorAmong operators (token (st .token .class) (st .token .start)) ≡ operator o (st .token .start) = rw (f .class) at (q .among (st .token .start)) in
       let code : codeOf (st .token .class) ≡ operatorCode o = rw (f .class) at (q .code) in
-      let operand : Spells s left (level (suc n)) parent (passed s st) x t₀ t₁ = next-level n (rw pe at w) in
+      let operand : ReadsOperand s left (levelRule (suc n)) parent (passed s st) x t₀ t₁ = next-level n (rw pe at w) in
       record {
         walked = λ c l.
             walked-node (q .way) {M = Counted (Tailing s parent)} alternative (k .no-range-tail)
-            (λ σ. resume-in s (depth c (maxGroups - left)) (tail n) σ (st .no) (st .token) (q .way) (plain (t (st .token .class) ∷ r (level (suc n)) ∷ r (tail n) ∷ [])) (λ y. omega arith) tells alternative)
+            (λ σ. resume-in s (depth c (maxGroups - left)) (tailRule n) σ (st .no) (st .token) (q .way) (plain (t (st .token .class) ∷ r (levelRule (suc n)) ∷ r (tailRule n) ∷ [])) (λ y. omega arith) tells alternative)
             (λ c ds l h m. counted-node (tail-node s parent (k .no-atom-tail)) m)
             (walked-then (tail-joins s parent among code) (finished (groups-fine c left l g) known z refl (operand .walked c l) v) (u .walked c l));
       }
@@ -319,7 +319,7 @@ room-operator {n = n} {st = st} m z h e pe = rw pe (room-passed m z (operator-kn
 pub record TailThen (s : List ℕ) (left parent n : ℕ) (Q : State → List ℕ → Type 0) (st : State) (t : List ℕ) : Type 0 where
   pub here : State
   pub table : List ℕ
-  pub first : Groups s left (tail n) (Counted (Tailing s parent)) st here t table
+  pub first : Groups s left (tailRule n) (Counted (Tailing s parent)) st here t table
   pub rest : Q here table
 
 -- from st to r′ the tails of k levels, of which `least` is the loosest, one after another, the tightest first
@@ -331,28 +331,28 @@ module _ {s : List ℕ} {left parent : ℕ} (least : ℕ) where
   -- an operand of a tight level, and the tails of all levels from there to a looser one
   pub tails-whole :
       (k : ℕ) {st c r′ : State} {t₀ t₁ t₂ : List ℕ}
-      → least + k ≤ LEVELS → Spells s left (level (least + k)) parent st c t₀ t₁ → Tails s left parent least k r′ t₂ c t₁
-      → Spells s left (level least) parent st r′ t₀ t₂
+      → least + k ≤ LEVELS → ReadsOperand s left (levelRule (least + k)) parent st c t₀ t₁ → Tails s left parent least k r′ t₂ c t₁
+      → ReadsOperand s left (levelRule least) parent st r′ t₀ t₂
   unfolding Tails
   tails-whole zero {st} {r′ = r′} {t₀ = t₀} {t₂ = t₂} h w (p, q) =
       let e : least + 0 ≡ least = omega arith in
-      subst (λ (n : ℕ). Spells s left (level n) parent st r′ t₀ t₂) e (rw (p, q) at w)
+      subst (λ (n : ℕ). ReadsOperand s left (levelRule n) parent st r′ t₀ t₂) e (rw (p, q) at w)
   tails-whole (suc k) {st} {c} {t₀ = t₀} {t₁ = t₁} h w v =
       let e : least + suc k ≡ least + k + 1 = omega arith in
-      let operand : Spells s left (level (least + k + 1)) parent st c t₀ t₁ = subst (λ (n : ℕ). Spells s left (level n) parent st c t₀ t₁) e w in
+      let operand : ReadsOperand s left (levelRule (least + k + 1)) parent st c t₀ t₁ = subst (λ (n : ℕ). ReadsOperand s left (levelRule n) parent st c t₀ t₁) e w in
       tails-whole k (omega arith) (level-whole (omega arith) operand (v .first)) (v .rest)
 
   -- an atom, and the tails of all levels from the tightest to `least`
   pub level-climbs :
       {st c r′ : State} {t₀ t₁ t₂ : List ℕ}
-      → least ≤ LEVELS → Spells s left <atom> parent st c t₀ t₁ → Tails s left parent least (LEVELS - least) r′ t₂ c t₁
-      → Spells s left (level least) parent st r′ t₀ t₂
+      → least ≤ LEVELS → ReadsOperand s left <atom> parent st c t₀ t₁ → Tails s left parent least (LEVELS - least) r′ t₂ c t₁
+      → ReadsOperand s left (levelRule least) parent st r′ t₀ t₂
   level-climbs h w v = tails-whole (LEVELS - least) (omega arith) (level-atom (omega arith) (omega arith) w) v
 
   -- each tail ends where it starts
   pub tails-none :
       (k : ℕ) {st : State} {t : List ℕ}
-      → ((n : ℕ) → least ≤ n → n < least + k → Groups s left (tail n) (Counted (Tailing s parent)) st st t t) → Tails s left parent least k st t st t
+      → ((n : ℕ) → least ≤ n → n < least + k → Groups s left (tailRule n) (Counted (Tailing s parent)) st st t t) → Tails s left parent least k st t st t
   unfolding Tails
   tails-none zero f = (refl, refl)
   tails-none (suc k) {st} {t} f = record { here = st; table = t; first = f (least + k) (omega arith) (omega arith); rest = tails-none k (λ n a b. f n a (omega arith)) }
@@ -361,7 +361,7 @@ module _ {s : List ℕ} {left parent : ℕ} (least : ℕ) where
   pub tails-more :
       (j k : ℕ) (r′ : State) (t₃ : List ℕ) {st p x y : State} {t₀ t₁ t₂ : List ℕ}
       → j < k → least + k ≤ LEVELS → left ≤ maxGroups → st .no ≡ 0 → levelOf (st .token .class) ≡ least + j → p ≡ passed s st
-      → Spells s left (level (least + j + 1)) parent p x t₀ t₁ → WithRow parent (st .token) x y t₁ t₂
+      → ReadsOperand s left (levelRule (least + j + 1)) parent p x t₀ t₁ → WithRow parent (st .token) x y t₁ t₂
       → Tails s left parent least (suc j) r′ t₃ y t₂ → Tails s left parent least k r′ t₃ st t₀
   unfolding Tails
   tails-more j zero r′ t₃ a h g z e pe w v u = absurd (omega arith)
@@ -381,8 +381,8 @@ pub record OperatorLoop (s : List ℕ) (left least parent : ℕ) (t₀ : List �
       (r′ : State) (t₂ : List ℕ)
       → Tails s left parent least (bound - least) r′ t₂ st t₁ → Tails s left parent least (LEVELS - least) r′ t₂ st₀ t₀
 
-module _ {s : List ℕ} {left n parent : ℕ} {st p x y : State} {t₁ t₂ t₃ : List ℕ} (h : n < LEVELS) (g : left ≤ maxGroups) (z : st .no ≡ 0) (e : levelOf (st .token .class) ≡ n) (pe : p ≡ passed s st) (w : Spells s left (level (n + 1)) parent p x t₁ t₂) (v : WithRow parent (st .token) x y t₂ t₃) where
-  turn : Walked s (depth 0 (maxGroups - left)) (t (st .token .class) ∷ r (level (n + 1)) ∷ []) (Finished s parent (st .token .class) (st .token .start)) st y t₁ t₃
+module _ {s : List ℕ} {left n parent : ℕ} {st p x y : State} {t₁ t₂ t₃ : List ℕ} (h : n < LEVELS) (g : left ≤ maxGroups) (z : st .no ≡ 0) (e : levelOf (st .token .class) ≡ n) (pe : p ≡ passed s st) (w : ReadsOperand s left (levelRule (n + 1)) parent p x t₁ t₂) (v : WithRow parent (st .token) x y t₂ t₃) where
+  turn : Walked s (depth 0 (maxGroups - left)) (t (st .token .class) ∷ r (levelRule (n + 1)) ∷ []) (Finished s parent (st .token .class) (st .token .start)) st y t₁ t₃
   turn = finished (groups-fine 0 left (omega arith) g) (operator-known n (st .token .class) h e) z refl ((rw pe at w) .walked 0 (omega arith)) v
 
   pub turn-less : ahead s y < ahead s st

@@ -27,9 +27,9 @@ use Rattle.elements.specs.Entries.{entries}
 use Rattle.elements.specs.Symbols.{symbolsOf, phraseSymbols, RULE-OPEN, RULE-CLOSE, EXPRESSION-CLOSE, CONDITION-CLOSE}
 use Rattle.fields.specs.Words.{wordCodes, codeOf, wordDraft}
 use Rattle.walk.specs.declared.State.{State}
-use Rattle.walk.specs.Meanings.{_⧺_, keptOf, Counted, Under, Opening, RuleRow, Worded, Spelling, rowsOwn, rowsFor}
+use Rattle.walk.specs.Meanings.{_⧺_, keptOf, Counted, Under, Opening, RuleRow, Worded, OperandRows, rowsOwn, rowsFor}
 use Rattle.walk.specs.Starts.{itemWords, startsItem, conditionWords, isCondition}
-use Rattle.walk.specs.Walked.{Walked, Reads, Closes, deep, listOf, conditionOf, OpensCondition, WalkedUnder, Spells}
+use Rattle.walk.specs.Walked.{Walked, Reads, Closes, deep, listOf, conditionOf, OpensCondition, WalkedUnder, ReadsOperand}
 use Rattle.walk.proofs.Walks.{Joins, walked-then, counted-joins, walked-off, walked-node, counted-node, resume-in, deep-walked}
 use Rattle.walk.proofs.MeaningLaws.{under-joins, opening-joins, Content, content-under, opening-content, content-joins}
 use Rattle.walk.proofs.StartLaws.{Each, one-of}
@@ -41,7 +41,7 @@ use Rattle.walk.proofs.ListSteps.{list-more, items-are, rules-are, List
 -- a rule's row, and those of its expression
 rule-joins :
     {s : List ℕ} {parent at n : ℕ}
-    → Joins (symbolsOf RULE-OPEN) (r <or> ∷ []) (RuleRow s parent) (Spelling s at) (Opening s <rule> 0 parent) at n
+    → Joins (symbolsOf RULE-OPEN) (r <or> ∷ []) (RuleRow s parent) (OperandRows s at) (Opening s <rule> 0 parent) at n
 unfolding symbolsOf phraseSymbols entries keptOf expression rowsOwn rowsFor _⧺_
 rule-joins {n = n} f g ds es k l (fits-leaf {p = p} (fits-leaf {p = q} (fits-leaf fits-nil))) (fits-node {c = c} e h fits-nil) x y =
     let spells = y .spells (number 0) in
@@ -50,7 +50,7 @@ rule-joins {n = n} f g ds es k l (fits-leaf {p = p} (fits-leaf {p = q} (fits-lea
 pub rule-walked :
     {s : List ℕ} {d : Depth} {parent : ℕ} {st o e r′ : State} {t₀ t₁ t₂ : List ℕ}
     → tooDeep d ≡ false → st .token .class ≡ class.«rule» → Reads s (symbolsOf RULE-OPEN) (Counted (RuleRow s parent)) st o t₀ t₁
-    → Walked s d (r <or> ∷ []) (Counted (Spelling s (st .rows))) o e t₁ t₂ → Closes s RULE-CLOSE e r′
+    → Walked s d (r <or> ∷ []) (Counted (OperandRows s (st .rows))) o e t₁ t₂ → Closes s RULE-CLOSE e r′
     → WalkedUnder s d (r <rule> ∷ []) parent st r′ t₀ t₂
 unfolding rules lookahead rangeOf symbolsOf phraseSymbols
 rule-walked {s} {d} {parent} {st} {e = e} {r′ = r′} {t₀ = t₀} {t₂ = t₂} fine c w v u =
@@ -96,7 +96,7 @@ condition-list false w = w .inside
 -- a condition's row, and those of its expression
 condition-joins :
     {s : List ℕ} {k parent at n : ℕ}
-    → ConditionWord k → Joins (t k ∷ []) (r <or> ∷ []) (Worded s parent) (Spelling s at) (Opening s <item> (conditionOf k) parent) at n
+    → ConditionWord k → Joins (t k ∷ []) (r <or> ∷ []) (Worded s parent) (OperandRows s at) (Opening s <item> (conditionOf k) parent) at n
 unfolding expression _⧺_
 condition-joins {s} {k} {parent} {at} {n} w f g ds es c l (fits-leaf {p = p} fits-nil) (fits-node {i = i} {c = x} e h fits-nil) u v =
     let spells = v .spells (number 0) in
@@ -105,7 +105,7 @@ condition-joins {s} {k} {parent} {at} {n} w f g ds es c l (fits-leaf {p = p} fit
 pub condition-opens :
     {s : List ℕ} {parent : ℕ} {st o e r′ : State} {t₀ t₁ t₂ : List ℕ}
     → isCondition (st .token .class) ≡ true → Reads s (t (st .token .class) ∷ []) (Counted (Worded s parent)) st o t₀ t₁
-    → Spells s maxGroups <or> (st .rows) o e t₁ t₂ → Closes s EXPRESSION-CLOSE e r′ → OpensCondition s parent st r′ t₀ t₂
+    → ReadsOperand s maxGroups <or> (st .rows) o e t₁ t₂ → Closes s EXPRESSION-CLOSE e r′ → OpensCondition s parent st r′ t₀ t₂
 condition-opens {s} {parent} {st} {e = e} {r′ = r′} {t₀ = t₀} {t₂ = t₂} is w v u =
     let k = condition-word (st .token .class) is in
     record {

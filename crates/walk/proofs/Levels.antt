@@ -15,7 +15,7 @@ use Rattle.ll1.specs.ParseTable.{entryOf, predict, member, find, nullable}
 use Rattle.ll1.specs.Test.{all, joined}
 use Rattle.ll1.proofs.Basics.{clash, all-member, find-joined}
 use Rattle.ll1.proofs.Lookups.{find-one}
-use Rattle.grammar.specs.Rules.{level, tail, <atom>}
+use Rattle.grammar.specs.Rules.{levelRule, tailRule, <atom>}
 use Rattle.grammar.specs.Grammar.{rules}
 use Rattle.grammar.specs.Notation.{t, r, plain}
 use Rattle.grammar.specs.Lookahead.{lookahead}
@@ -54,17 +54,17 @@ single-told (f ∷ g ∷ l) k h = clash cc
 
 pub record Level (n : ℕ) : Type 0 where
   -- an operand of the next level, and the tail
-  pub operand : alternativeOf rules (level n) 0 ≡ some (plain (r (level (suc n)) ∷ r (tail n) ∷ []))
-  pub alone : single (entryOf lookahead (level n) .firsts) ≡ true
-  pub present : nullable rules (level n) ≡ false
-  pub no-range : rangeOf (level n) ≡ free
-  pub no-atom : eqb (level n) <atom> ≡ false
+  pub operand : alternativeOf rules (levelRule n) 0 ≡ some (plain (r (levelRule (suc n)) ∷ r (tailRule n) ∷ []))
+  pub alone : single (entryOf lookahead (levelRule n) .firsts) ≡ true
+  pub present : nullable rules (levelRule n) ≡ false
+  pub no-range : rangeOf (levelRule n) ≡ free
+  pub no-atom : eqb (levelRule n) <atom> ≡ false
   -- the tail is empty, or starts with an operator of the level
-  pub empty : alternativeOf rules (tail n) 0 ≡ some (plain [])
-  pub absent : nullable rules (tail n) ≡ true
-  pub no-range-tail : rangeOf (tail n) ≡ free
-  pub no-atom-tail : eqb (tail n) <atom> ≡ false
-  pub only : all (λ k. eqb (levelOf k) n) (joined (entryOf lookahead (tail n) .firsts)) ≡ true
+  pub empty : alternativeOf rules (tailRule n) 0 ≡ some (plain [])
+  pub absent : nullable rules (tailRule n) ≡ true
+  pub no-range-tail : rangeOf (tailRule n) ≡ free
+  pub no-atom-tail : eqb (tailRule n) <atom> ≡ false
+  pub only : all (λ k. eqb (levelOf k) n) (joined (entryOf lookahead (tailRule n) .firsts)) ≡ true
 
 all-levels : Below Level LEVELS
 unfolding rules lookahead rangeOf operatorLevels levelOf
@@ -74,17 +74,17 @@ all-levels =
 pub level-is : (n : ℕ) → n < LEVELS → Level n
 level-is = below Level LEVELS all-levels
 
-pub level-told : (n k : ℕ) → n < LEVELS → Told (level n) 0 k
-level-told n k h = single-told (entryOf lookahead (level n) .firsts) k (level-is n h .alone)
+pub level-told : (n k : ℕ) → n < LEVELS → Told (levelRule n) 0 k
+level-told n k h = single-told (entryOf lookahead (levelRule n) .firsts) k (level-is n h .alone)
 
 -- a token that is no operator of the level ends the tail
-pub tail-ends : (n k : ℕ) → n < LEVELS → levelOf k ≢ n → predict lookahead (tail n) k ≡ none
-tail-ends n k h e = by (predict lookahead (tail n) k) refl
+pub tail-ends : (n k : ℕ) → n < LEVELS → levelOf k ≢ n → predict lookahead (tailRule n) k ≡ none
+tail-ends n k h e = by (predict lookahead (tailRule n) k) refl
   where
-    by : (o : Option ℕ) → predict lookahead (tail n) k ≡ o → predict lookahead (tail n) k ≡ none
+    by : (o : Option ℕ) → predict lookahead (tailRule n) k ≡ o → predict lookahead (tailRule n) k ≡ none
     by none q = q
     by (some i) q =
-        let firsts = entryOf lookahead (tail n) .firsts in
+        let firsts = entryOf lookahead (tailRule n) .firsts in
         let m : member k (joined firsts) ≡ true = sym (find-joined firsts k) ∙ rw q in
         absurd (e (eqb-true (levelOf k) n (all-member (λ k. eqb (levelOf k) n) (joined firsts) k (level-is n h .only) m)))
 
@@ -93,8 +93,8 @@ tail-ends n k h e = by (predict lookahead (tail n) k) refl
 pub record Operates (o : Operator) : Type 0 where
   pub way : ℕ
   pub known : operatorClass o < BAD
-  pub tells : predict lookahead (tail (expr.level o)) (operatorClass o) ≡ some way
-  pub alternative : alternativeOf rules (tail (expr.level o)) way ≡ some (plain (t (operatorClass o) ∷ r (level (suc (expr.level o))) ∷ r (tail (expr.level o)) ∷ []))
+  pub tells : predict lookahead (tailRule (expr.level o)) (operatorClass o) ≡ some way
+  pub alternative : alternativeOf rules (tailRule (expr.level o)) way ≡ some (plain (t (operatorClass o) ∷ r (levelRule (suc (expr.level o))) ∷ r (tailRule (expr.level o)) ∷ []))
   pub among : (p : ℕ) → operatorAmong operators (token (operatorClass o) p) ≡ operator o p
   pub code : codeOf (operatorClass o) ≡ operatorCode o
 
@@ -122,14 +122,14 @@ operates expr.modulo = record { way = 3; known = omega arith; tells = refl; alte
 pub record Found (n k : ℕ) : Type 0 where
   pub operator : Operator
   pub class : operatorClass operator ≡ k
-  pub level : expr.level operator ≡ n
+  pub levelRule : expr.level operator ≡ n
 
 among-found : (l : List Operator) (n k : ℕ) → n ≢ LEVELS → lookUp (map (λ o. pair (operatorClass o) (expr.level o)) l) LEVELS k ≡ n → Found n k
 among-found [] n k h e = absurd (h (sym e))
 among-found (o ∷ l) n k h e = by (among-found l n k h) (eqb (operatorClass o) k) refl
   where
     by : (lookUp (map (λ o. pair (operatorClass o) (expr.level o)) l) LEVELS k ≡ n → Found n k) → (b : Bool) → eqb (operatorClass o) k ≡ b → Found n k
-    by f true q = record { operator = o; class = eqb-true (operatorClass o) k q; level = rw (q, lookUp) at e }
+    by f true q = record { operator = o; class = eqb-true (operatorClass o) k q; levelRule = rw (q, lookUp) at e }
     by f false q = f (rw (q, lookUp) at e)
 
 pub operator-found : (n k : ℕ) → n < LEVELS → levelOf k ≡ n → Found n k

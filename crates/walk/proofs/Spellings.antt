@@ -18,7 +18,7 @@ use Rattle.answers.specs.Expression.{Expression, negation, binary, Operator, op
 use Rattle.answers.specs.Rows.{Draft}
 use Rattle.elements.specs.Symbols.{symbolsOf, phraseSymbols, GROUP-CLOSE}
 use Rattle.fields.specs.Words.{wordCodes, codeOf, wordDraft}
-use Rattle.walk.specs.Meanings.{_⧺_, Counted, Silent, Worded, rowsFor, Spelling, Tailing}
+use Rattle.walk.specs.Meanings.{_⧺_, Counted, Silent, Worded, rowsFor, OperandRows, Tailing}
 use Rattle.walk.proofs.TreeLaws.{beside-nil, leaves-beside}
 use Rattle.walk.proofs.Walks.{Joins}
 
@@ -33,7 +33,7 @@ module _ (s : List ℕ) (parent : ℕ) where
   -- ---- levels
 
   -- a first operand, and its tail
-  pub level-joins : {A B at n : ℕ} → Joins (r A ∷ []) (r B ∷ []) (Spelling s parent) (Tailing s parent) (Spelling s parent) at n
+  pub level-joins : {A B at n : ℕ} → Joins (r A ∷ []) (r B ∷ []) (OperandRows s parent) (Tailing s parent) (OperandRows s parent) at n
   level-joins f g ds es k l h₁ h₂ x y =
       record {
         expr = spelled (x .expr) nothing g;
@@ -45,7 +45,7 @@ module _ (s : List ℕ) (parent : ℕ) where
   -- a level over its operand and tail
   pub level-node :
       {A i at n : ℕ} {c : Trees} {ds : List Draft} {k : ℕ}
-      → eqb A <atom> ≡ false → Spelling s parent at n c ds k → Spelling s parent at n (node A i c nil) ds k
+      → eqb A <atom> ≡ false → OperandRows s parent at n c ds k → OperandRows s parent at n (node A i c nil) ds k
   level-node b m = record { expr = m .expr; spells = λ left. rw (b, spelled) (m .spells left); rows = m .rows; no-rules = m .no-rules }
 
   -- an empty tail
@@ -98,7 +98,7 @@ module _ (s : List ℕ) (parent : ℕ) where
     pub no-rules : c ≡ 0
     pub few : length ds ≤ length (leaves f)
 
-  pub operated-joins : {k p B at n : ℕ} → Joins (t k ∷ []) (r B ∷ []) (Passing k p) (Counted (Spelling s parent)) (Operated k p) at n
+  pub operated-joins : {k p B at n : ℕ} → Joins (t k ∷ []) (r B ∷ []) (Passing k p) (Counted (OperandRows s parent)) (Operated k p) at n
   unfolding _⧺_
   operated-joins {k} {p} f g ds es c l h₁ h₂ x y =
       rw (x .is, x .no-rows)
@@ -150,7 +150,7 @@ module _ (s : List ℕ) (parent : ℕ) where
   -- NOT atom
   pub negation-node :
       {p at n : ℕ} {c : Trees} {ds : List Draft} {k : ℕ}
-      → Finished class.«NOT» p at n c ds k → Counted (Spelling s parent) at n (node <atom> 0 c nil) ds k
+      → Finished class.«NOT» p at n c ds k → Counted (OperandRows s parent) at n (node <atom> 0 c nil) ds k
   unfolding rowsFor codeOf wordCodes
   negation-node {p} {c = c} m =
       let place : placeAt 0 c ≡ p = rw (beside-nil c) at (m .starts nil) in
@@ -170,7 +170,7 @@ module _ (s : List ℕ) (parent : ℕ) where
   -- ( expression )
   pub group-joins :
       {p at n : ℕ} {α : List Symbol}
-      → Joins α (symbolsOf GROUP-CLOSE) (Operated open-paren p) (Counted Silent) (Counted (Spelling s parent)) at n
+      → Joins α (symbolsOf GROUP-CLOSE) (Operated open-paren p) (Counted Silent) (Counted (OperandRows s parent)) at n
   unfolding symbolsOf phraseSymbols
   group-joins f g ds es c l h₁ (fits-leaf fits-nil) x y =
       rw (y .means .no-rows, append-nil ds)
@@ -182,5 +182,5 @@ module _ (s : List ℕ) (parent : ℕ) where
 
   pub group-node :
       {at n : ℕ} {c : Trees} {ds : List Draft} {k : ℕ}
-      → Spelling s parent at n c ds k → Spelling s parent at n (node <atom> 1 c nil) ds k
+      → OperandRows s parent at n c ds k → OperandRows s parent at n (node <atom> 1 c nil) ds k
   group-node m = record { expr = m .expr; spells = m .spells; rows = m .rows; no-rules = m .no-rules }

@@ -36,7 +36,7 @@ use Rattle.walk.specs.declared.State.{State}
 use Rattle.walk.specs.declared.Outcome.{Outcome}
 use Rattle.walk.specs.Meanings.{Counted, Opening, rowsIn}
 use Rattle.walk.specs.Walked.{Room, Walked, Closes, starting, setOpen, WalkedUnder}
-use Rattle.walk.specs.Whole.{refusalNumber, refusalPlace, Derived, Walks, refusing, ended}
+use Rattle.walk.specs.Whole.{refusalNumber, refusalPlace, WalkedWhole, Walks, refusing, ended}
 use Rattle.walk.proofs.Walks.{walked-then, counted-joins, walked-node, counted-node, resume-enter}
 use Rattle.walk.proofs.MeaningLaws.{under-joins, Content, content-under, content-joins}
 use Rattle.walk.proofs.StatementSteps.{Told, closes-under}
@@ -84,7 +84,7 @@ record Ends (s : List ℕ) (r : Outcome) (t t′ : List ℕ) : Type 0 where
   number : r .no ≡ refusalNumber (verdict (sourceTokens s))
   place : r .place ≡ refusalPlace s (verdict (sourceTokens s))
   nothing : r .no ≢ 0 → (r .rows ≡ 0) × (r .rules ≡ 0) × (r .bad ≡ 0)
-  derived : r .no ≡ 0 → Derived s r t t′
+  derived : r .no ≡ 0 → WalkedWhole s r t t′
 
 module _ {s : List ℕ} {k : lex.Token} {r′ : State} {t₀ t₁ : List ℕ} (e : k ≡ tokenAt s 0) (w : WalkedUnder s (depth 0 0) (r <source> ∷ []) 0 (starting k) r′ t₀ t₁) (few : r′ .no ≡ 0 → r′ .rows ≤ length s) where
   begins : verdict (sourceTokens s) ≡ resume s [] (r′ .no) (r′ .token)
@@ -96,7 +96,7 @@ module _ {s : List ℕ} {k : lex.Token} {r′ : State} {t₀ t₁ : List ℕ} (e
 
   derive :
       verdict (sourceTokens s) ≡ accepted → r′ .token .class ≡ END → r′ .no ≡ 0
-      → Derived s (record { no = 0; place = 0; rows = r′ .rows; rules = r′ .rules; bad = r′ .bad }) t₀ t₁
+      → WalkedWhole s (record { no = 0; place = 0; rows = r′ .rows; rules = r′ .rules; bad = r′ .bad }) t₀ t₁
   unfolding drafts rowsIn marked
   derive v q z =
       let x = w .got z in

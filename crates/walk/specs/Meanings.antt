@@ -96,7 +96,7 @@ module _ (s : List ℕ) where
   rowsFor parent e = expressionRows (numberAt s) parent e
 
   -- an operand
-  pub record Spelling (parent at n : ℕ) (f : Trees) (ds : List Draft) (k : ℕ) : Type 0 where
+  pub record OperandRows (parent at n : ℕ) (f : Trees) (ds : List Draft) (k : ℕ) : Type 0 where
     pub expr : Expression
     pub spells : (left : Expression) → spelled left nothing f ≡ expr
     pub rows : ds ≡ rowsFor parent expr

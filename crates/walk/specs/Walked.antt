@@ -27,7 +27,7 @@ use Rattle.elements.specs.Marks.{marked}
 use Rattle.elements.specs.Symbols.{symbolsOf, titleAndHelp, EXPRESSION-CLOSE}
 use Rattle.fields.specs.Words.{wordDraft}
 use Rattle.walk.specs.declared.State.{State}
-use Rattle.walk.specs.Meanings.{Meaning, Counted, Silent, Under, Opening, Rowed, Spelling}
+use Rattle.walk.specs.Meanings.{Meaning, Counted, Silent, Under, Opening, Rowed, OperandRows}
 
 -- there is a token left for each row to come, and each rule has a row
 pub record Room (s : List ℕ) (st : State) : Type 0 where
@@ -106,8 +106,8 @@ pub record Groups (s : List ℕ) (left A : ℕ) (M : Meaning) (st st′ : State)
   pub walked : (c : ℕ) → c ≤ maxConditions → Walked s (depth c (maxGroups - left)) (r A ∷ []) M st st′ t t′
 
 -- an operand of the rule A, with its rows
-abbrev pub Spells : List ℕ → ℕ → ℕ → ℕ → State → State → List ℕ → List ℕ → Type 0
-Spells s left A parent st st′ t₀ t₁ = Groups s left A (Counted (Spelling s parent)) st st′ t₀ t₁
+abbrev pub ReadsOperand : List ℕ → ℕ → ℕ → ℕ → State → State → List ℕ → List ℕ → Type 0
+ReadsOperand s left A parent st st′ t₀ t₁ = Groups s left A (Counted (OperandRows s parent)) st st′ t₀ t₁
 
 -- a form's items and rules, or the items of a condition
 abbrev pub listOf : Bool → ℕ

@@ -36,7 +36,7 @@ refusalPlace s ends-early = length s
 refusalPlace s (refused n p) = p
 
 -- the derivation of the source's tokens; its draft rows, written from row 0 on over the table t as far as whole rows fit
-pub record Derived (s : List ℕ) (r : Outcome) (t t′ : List ℕ) : Type 0 where
+pub record WalkedWhole (s : List ℕ) (r : Outcome) (t t′ : List ℕ) : Type 0 where
   pub accepts : verdict (sourceTokens s) ≡ accepted
   pub tree : Trees
   pub derives : Derives (sourceTokens s) tree
@@ -54,7 +54,7 @@ pub record Walks (s : List ℕ) (r : Outcome) (t t′ : List ℕ) : Type 0 where
   pub place : r .place ≡ refusalPlace s (verdict (sourceTokens s))
   pub nothing : r .no ≢ 0 → (r .rows ≡ 0) × (r .rules ≡ 0) × (r .bad ≡ 0)
   pub zeros : r .no ≢ 0 → t′ ≡ replicate (length t) 0
-  pub derived : r .no ≡ 0 → Derived s r t t′
+  pub derived : r .no ≡ 0 → WalkedWhole s r t t′
 
 -- ---- what the end of a walk over a source of n bytes means
 

@@ -17,11 +17,11 @@ ghost use mathlib.Core.List.{[], _∷_};
 ghost use Prim.Native.Nat.{_≤_};
 ghost use Rattle.lexemes.specs.Classes.{open-paren, «NOT»};
 ghost use Rattle.grammar.specs.Notation.{r};
-ghost use Rattle.grammar.specs.Rules.{level, <atom>, <or>};
+ghost use Rattle.grammar.specs.Rules.{levelRule, <atom>, <or>};
 ghost use Rattle.grammar.specs.Derivation.{maxGroups};
 ghost use Rattle.fields.specs.Operators.{LEVELS};
-ghost use Rattle.walk.specs.Meanings.{Counted, Spelling};
-ghost use Rattle.walk.specs.Walked.{Room, Reads, Spells};
+ghost use Rattle.walk.specs.Meanings.{Counted, OperandRows};
+ghost use Rattle.walk.specs.Walked.{Room, Reads, ReadsOperand};
 
 // How many grouping parentheses and NOTs may be unfinished at once (document 01, Depths).
 const GROUPS: usize = 32;
@@ -29,7 +29,7 @@ const GROUPS: usize = 32;
 // An atom that holds no other.
 fn leaf(src: &[u8], table: &mut [u64], s: State, parent: usize) -> State
     requires { ⌜ Room (now src) s × (s .no ≡ 0) × (s .token .class ≢ «NOT») × (s .token .class ≢ open-paren) ⌝ }
-    ensures { λ s′. ⌜ Reads (now (src .entry)) (r <atom> ∷ []) (Counted (Spelling (now (src .entry)) parent)) s s′ (now (table .entry)) (now (table .exit)) ⌝ }
+    ensures { λ s′. ⌜ Reads (now (src .entry)) (r <atom> ∷ []) (Counted (OperandRows (now (src .entry)) parent)) s s′ (now (table .entry)) (now (table .exit)) ⌝ }
 {
     let class = s.token.class;
     if is_constant(class) {
@@ -47,7 +47,7 @@ fn leaf(src: &[u8], table: &mut [u64], s: State, parent: usize) -> State
 // An atom, with `left` groups left to open.
 fn atom(src: &[u8], table: &mut [u64], s: State, parent: usize, left: usize) -> State
     requires { ⌜ Room (now src) s × (left ≤ maxGroups) ⌝ }
-    ensures { λ s′. ⌜ Spells (now (src .entry)) left <atom> parent s s′ (now (table .entry)) (now (table .exit)) ⌝ }
+    ensures { λ s′. ⌜ ReadsOperand (now (src .entry)) left <atom> parent s s′ (now (table .entry)) (now (table .exit)) ⌝ }
 {
     let token = s.token;
     let class = token.class;
@@ -75,7 +75,7 @@ fn atom(src: &[u8], table: &mut [u64], s: State, parent: usize, left: usize) -> 
 // operator only those of its own level or looser ones are left for this reader.
 fn level(src: &[u8], table: &mut [u64], s: State, parent: usize, left: usize, at: u8) -> State
     requires { ⌜ Room (now src) s × (left ≤ maxGroups) × (at ≤ LEVELS) ⌝ }
-    ensures { λ s′. ⌜ Spells (now (src .entry)) left (level at) parent s s′ (now (table .entry)) (now (table .exit)) ⌝ }
+    ensures { λ s′. ⌜ ReadsOperand (now (src .entry)) left (levelRule at) parent s s′ (now (table .entry)) (now (table .exit)) ⌝ }
 {
     let mut s = atom(src, table, s, parent, left);
     let mut bound = LEVELS;
@@ -100,7 +100,7 @@ fn level(src: &[u8], table: &mut [u64], s: State, parent: usize, left: usize, at
 // A whole expression, whose rows have the parent.
 pub fn expression(src: &[u8], table: &mut [u64], s: State, parent: usize) -> State
     requires { ⌜ Room (now src) s ⌝ }
-    ensures { λ s′. ⌜ Spells (now (src .entry)) maxGroups <or> parent s s′ (now (table .entry)) (now (table .exit)) ⌝ }
+    ensures { λ s′. ⌜ ReadsOperand (now (src .entry)) maxGroups <or> parent s s′ (now (table .entry)) (now (table .exit)) ⌝ }
 {
     level(src, table, s, parent, GROUPS, 0)
 }

@@ -9,7 +9,7 @@ use Rattle.lexemes.specs.Bytes.{isWordByte}
 use Rattle.lexemes.specs.Classes.{SIGNS}
 use Rattle.lexemes.specs.Lexemes.{reserved}
 use Rattle.lex.specs.Likely.{LikelyEnd}
-use Rattle.lexemes.specs.Words.{run, word, placeOf}
+use Rattle.lexemes.specs.Words.{run, word, placeAmong}
 use Rattle.lexemes.proofs.Steps.{run-yes}
 use Rattle.lexemes.proofs.Equality.{place-le}
 use Rattle.lexemes.proofs.WordParts.{word-inside, word-part, word-stops}
@@ -50,7 +50,7 @@ returns-2 c =
     let s = c .before .before .before .before .before .before .before .args .src .now in
     let is-end = c .before .before .before .before .loop .inv .1 (c .if2 .taken) in
     let w = word (drop (c .before .before .before .before .before .before .before .args .at) s) in
-    let is-class = c .before .before .class-of .ensures ∙ ap (λ w. SIGNS + placeOf w reserved) (word-part s (c .before .before .before .before .before .before .before .args .at) (c .before .before .before .before .loop .end) is-end) in
+    let is-class = c .before .before .class-of .ensures ∙ ap (λ w. SIGNS + placeAmong w reserved) (word-part s (c .before .before .before .before .before .before .before .args .at) (c .before .before .before .before .loop .end) is-end) in
     name-token s (c .before .before .before .before .before .before .before .args .at) (c .before .before .before .before .before .before .before .pre .1) (c .before .before .before .before .before .before .before .pre .2) 72 (c .before .before .before .before .loop .end) (omega (arith, is-class, place-le w reserved, c .before .if1 .left)) is-end
 
 add-word-end : tie.Need-add-word-end Inv-loop μ-loop

@@ -2,13 +2,13 @@
 use mathlib.Core.Path.{sym}
 use mathlib.Core.List.{[], _∷_}
 use Rattle.lexemes.specs.Lexemes.{signs}
-use Rattle.lexemes.specs.Words.{same, placeOf}
+use Rattle.lexemes.specs.Words.{same, placeAmong}
 use Rattle.lexemes.proofs.Missed.{byte-missed}
 use Rattle.lex.proofs.signs.before_equals.Statement.{statement}
 use Rattle.lex.proofs.signs.before_equals.Tie as tie
 
 pub before-equals-spec : {M : Type 1} → statement M
-unfolding signs same placeOf
+unfolding signs same placeAmong
 before-equals-spec =
     tie.close
     (tie.spec

@@ -2,13 +2,13 @@
 use mathlib.Core.Path.{sym}
 use mathlib.Core.List.{[]}
 use Rattle.lexemes.specs.Lexemes.{signs}
-use Rattle.lexemes.specs.Words.{same, placeOf}
+use Rattle.lexemes.specs.Words.{same, placeAmong}
 use Rattle.lexemes.proofs.Missed.{byte-missed}
 use Rattle.lex.proofs.signs.one_byte.Statement.{statement}
 use Rattle.lex.proofs.signs.one_byte.Tie as tie
 
 pub one-byte-spec : {M : Type 1} → statement M
-unfolding signs same placeOf
+unfolding signs same placeAmong
 one-byte-spec =
     tie.close
     (tie.spec

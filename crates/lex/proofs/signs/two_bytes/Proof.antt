@@ -4,7 +4,7 @@ use mathlib.Core.List.{[], _∷_}
 use native.Mathlib.Omega.{arith}
 use borrow.Author.Needs.{needs}
 use Rattle.lexemes.specs.Lexemes.{signs}
-use Rattle.lexemes.specs.Words.{same, placeOf}
+use Rattle.lexemes.specs.Words.{same, placeAmong}
 use Rattle.lexemes.proofs.Missed.{byte-missed}
 use Rattle.lex.proofs.Cases.{no-second}
 use Rattle.lex.proofs.signs.two_bytes.Statement.{statement}
@@ -20,7 +20,7 @@ returns-2 : tie.Need-returns-2
 returns-2 c = rw (c .before .if2 .taken) (c .before-equals .ensures)
 
 returns-3 : tie.Need-returns-3
-unfolding signs same placeOf
+unfolding signs same placeAmong
 returns-3 c = rw (c .before .if3 .taken, c .if4 .taken)
 
 returns-4 : tie.Need-returns-4
@@ -28,7 +28,7 @@ unfolding signs same
 returns-4 c = rw (c .before .if3 .taken) (sym (byte-missed (c .before .before .before .before .args .b) (60 ∷ []) signs (tt, c .if4 .left)))
 
 returns-5 : tie.Need-returns-5
-unfolding signs same placeOf
+unfolding signs same placeAmong
 returns-5 c = rw (c .before .if5 .taken, c .if6 .taken)
 
 returns-6 : tie.Need-returns-6

@@ -15,9 +15,10 @@ use spellings::words::word_length;
 use statements::put_operand;
 ghost use mathlib.Core.Path.{_≡_};
 ghost use Prim.Native.Nat.{_≤_};
-ghost use Rattle.rows.specs.Table.{rowAt};
+ghost use Rattle.rows.specs.Columns.{CODE};
+ghost use Rattle.rows.specs.Table.{rowAt, cellAt};
 ghost use Rattle.answers.specs.Text.{lexeme};
-ghost use Rattle.fields.specs.Operators.{LEVELS};
+ghost use Rattle.fields.specs.Operators.{LEVELS, codeClass};
 ghost use Rattle.spellings.specs.Output.{Prints};
 ghost use Rattle.text.specs.Operators.{atomWords};
 ghost use Rattle.text.specs.Before.{WordBefore, AtomBefore, ExpressionBefore, ExpressionCounted, ExpressionPrinted};
@@ -37,12 +38,11 @@ fn put_word_before(out: &mut [u8], a: Ahead, class: u8) -> Ahead
     Ahead { row: a.row, at }
 }
 
-// An operand that is no operator's: a constant's word, a number or a reference.
-fn put_atom(out: &mut [u8], at: usize, table: &[u64], row: usize) -> usize
+// An operand that is no operator's: a constant's word, a number or a reference, by the class of its row's code.
+fn put_atom(out: &mut [u8], at: usize, table: &[u64], row: usize, class: u8) -> usize
+    requires { ⌜ class ≡ codeClass (cellAt (now table) row CODE) ⌝ }
     ensures { λ r. ⌜ Prints (now (out .entry)) at (atomWords (rowAt (now (table .entry)) row)) (now (out .exit)) r ⌝ }
 {
-    let code = cell(table, row, CODE);
-    let class = class_of(code);
     if class < NAME {
         return put_word(out, at, class);
     }
@@ -54,9 +54,10 @@ fn put_atom_before(out: &mut [u8], a: Ahead, table: &[u64]) -> Ahead
     ensures { λ r. ⌜ AtomBefore (now (table .entry)) (now (out .entry)) a (now (out .exit)) r ⌝ }
 {
     let row = start_of(a.row, 1);
+    let class = class_of(cell(table, row, CODE));
     let mut none = [0u8; 0];
-    let at = start_of(a.at, put_atom(&mut none, 0, table, row));
-    put_atom(out, at, table, row);
+    let at = start_of(a.at, put_atom(&mut none, 0, table, row, class));
+    put_atom(out, at, table, row, class);
     Ahead { row, at }
 }
 

@@ -6,12 +6,6 @@ use borrow.Author.Needs.{needs}
 use Rattle.text.proofs.expressions.put_atom.Statement.{statement}
 use Rattle.text.proofs.expressions.put_atom.Tie as tie
 
-cell-requires : tie.Need-cell-requires
-cell-requires c κs = search needs
-
-class-of-requires : tie.Need-class-of-requires
-class-of-requires c κs = search needs
-
 put-word-requires : tie.Need-put-word-requires
 put-word-requires c κs = search needs
 
@@ -21,11 +15,10 @@ same-length c = search needs
 returns : tie.Need-returns
 unfolding atomWords
 returns c =
-    let cell = c .before .before .before .before .before .before .cell in
-    let class-of = c .before .before .before .before .before .class-of in
+    let pre = c .before .before .before .before .before .before .before .pre in
     let if1 = c .before .before .before .before .if1 in
     let put-word = c .before .before .put-word in
-    rw (← cell .ensures, ← class-of .ensures, lt-ltb _ 72 (if1 .taken)) (put-word .ensures)
+    rw (← pre, lt-ltb _ 72 (if1 .taken)) (put-word .ensures)
 
 put-operand-requires : tie.Need-put-operand-requires
 put-operand-requires c κs = search needs
@@ -36,18 +29,15 @@ same-length-2 c = search needs
 returns-2 : tie.Need-returns-2
 unfolding atomWords
 returns-2 c =
-    let cell = c .before .before .before .before .before .before .cell in
-    let class-of = c .before .before .before .before .before .class-of in
+    let pre = c .before .before .before .before .before .before .before .pre in
     let if1 = c .before .before .before .before .if1 in
     let put-operand = c .before .before .put-operand in
-    rw (← cell .ensures, ← class-of .ensures, le-ltb _ 72 (if1 .left)) (put-operand .ensures)
+    rw (← pre, le-ltb _ 72 (if1 .left)) (put-operand .ensures)
 
 pub put-atom-spec : {M : Type 1} → statement M
 put-atom-spec =
     tie.close
     (tie.spec
-    cell-requires
-    class-of-requires
     put-word-requires
     same-length
     returns

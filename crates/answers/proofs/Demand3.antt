@@ -28,7 +28,8 @@ use Rattle.answers.proofs.RowCount as RowCount
 use Rattle.answers.proofs.FoundRows.{finished-count}
 use Rattle.answers.proofs.RowShape.{Wide, rows-wide, finished-wide}
 use Rattle.answers.proofs.Checks as Checks
-use Rattle.answers.proofs.Answers.{sound-passes, passes-grammatical, passes-room, passes-sound, passes-rows, accepted-answer, laid-rows, refused-answer, refused-number, Right, accepting, refusing, answer-right}
+use Rattle.answers.proofs.Answers.{sound-passes, passes-grammatical, passes-room, passes-sound, passes-rows, accepted-answer, laid-rows}
+use Rattle.answers.proofs.Answers.{refused-answer, refused-number, Right, accepting, refusing, answer-right}
 use Rattle.answers.proofs.QuickCheck as QuickCheck
 use Rattle.answers.proofs.QuestionNumbers.{question-numbers, questions-few, gets-smallest}
 

@@ -121,7 +121,8 @@ module _ (l : List ℕ) where
   below-picked (suc n) h =
       let more : unwrittenBelow l (suc n) ≡ unwrittenBelow l n + one (isFree n) = rw (free-test n (omega arith)) (one-more (isFree n) (unwrittenBelow l n)) in
       let e : n + 1 ≡ suc n = omega arith in
-      let counts : length (picked isFree 0 (suc n)) ≡ length (picked isFree 0 n) + length (picked isFree n 1) = rw (zero-add n, e) at (count-add isFree n 1 0) in
+      let counts : length (picked isFree 0 (suc n)) ≡ length (picked isFree 0 n) + length (picked isFree n 1) =
+      rw (zero-add n, e) at (count-add isFree n 1 0) in
       omega (arith, more, counts, count-next isFree n 0, count-none isFree (n + 1), below-picked n (omega arith))
 
   -- of the free numbers, the one with i before it has i below it
@@ -130,7 +131,8 @@ module _ (l : List ℕ) where
   below-free k i number h e =
       let range = number-range k number in
       let m : k ≡ suc (k - 1) = omega arith in
-      let from-1 : length (picked isFree 0 k) ≡ length (picked isFree 1 (k - 1)) = ap (λ (c : ℕ). length (picked isFree 0 c)) m ∙ ap length (pick-no isFree 0 (k - 1) refl) in
+      let from-1 : length (picked isFree 0 k) ≡ length (picked isFree 1 (k - 1)) =
+      ap (λ (c : ℕ). length (picked isFree 0 c)) m ∙ ap length (pick-no isFree 0 (k - 1) refl) in
       let index : length (picked isFree 1 (k - 1)) ≡ i = rw (← e) at (pick-index isFree 65535 1 i h) in
       below-picked k (omega arith) ∙ (from-1 ∙ index)
 

@@ -62,7 +62,10 @@ pub record Resolved (s : List ℕ) (n m : ℕ) : Type 0 where
   pub answer : readAnswer s n ≡ accepts (length (drafts s tree)) (freeCount (numbered (ownNumbers (drafts s tree))))
   pub resolves : resolution s n m ≡ resolvedInto m (length (textOfSource s)) (readAnswer s n)
 
-passed : {s : List ℕ} {n m : ℕ} {tree : Trees} → PassesAll s n tree → length (textOfSource s) ≤ room m → resolution s n m ≡ resolvedInto m (length (textOfSource s)) (readAnswer s n) → Resolved s n m
+passed :
+    {s : List ℕ} {n m : ℕ} {tree : Trees}
+    → PassesAll s n tree → length (textOfSource s) ≤ room m → resolution s n m ≡ resolvedInto m (length (textOfSource s)) (readAnswer s n)
+    → Resolved s n m
 passed {s} {n} {m} {tree} p l r =
     record {
       tree = tree;
@@ -99,16 +102,15 @@ pub resolves-with-room :
     ↔ ((tree : Trees) × Sound s tree × (length s ≤ LONGEST) × (length (drafts s tree) ≤ n / ROW)
     × (length (resolvedText tree (finished s (drafts s tree))) ≤ room m))
 unfolding resolution
-resolves-with-room s n m =
-    (λ h. let r = resolved s n m h in (r .tree, r .sound, r .short, r .rows-fit, rw (passes-text (r .passes)) at (r .text-fits)), found)
+resolves-with-room s n m = (
+  λ h. let r = resolved s n m h in (r .tree, r .sound, r .short, r .rows-fit, rw (passes-text (r .passes)) at (r .text-fits)),
+  λ f. found (f .0) (sound-passes (f .1) (f .2) (f .3)) (f .4),
+)
   where
-    found :
-        ((tree : Trees) × Sound s tree × (length s ≤ LONGEST) × (length (drafts s tree) ≤ n / ROW) × (length (resolvedText tree (finished s (drafts s tree))) ≤ room m))
-        → resolution s n m .number ≡ 0
-    found f =
-        let p : PassesAll s n (f .0) = sound-passes (f .1) (f .2) (f .3) in
-        let short : length (textOfSource s) ≤ room m = rw (passes-text p) (f .4) in
-        let number : readAnswer s n .number ≡ 0 = ap (λ a. a .number) (accepted-answer s n (f .0) p) in
+    found : (tree : Trees) → PassesAll s n tree → length (resolvedText tree (finished s (drafts s tree))) ≤ room m → resolution s n m .number ≡ 0
+    found tree p h =
+        let short : length (textOfSource s) ≤ room m = rw (passes-text p) h in
+        let number : readAnswer s n .number ≡ 0 = ap (λ a. a .number) (accepted-answer s n tree p) in
         let e : resolution s n m ≡ resolvedInto m (length (textOfSource s)) (readAnswer s n) = rw (number, resolution) in
         ap (λ a. a .number) e ∙ rw (le-ltb (room m) (length (textOfSource s)) short, resolvedInto)
 

@@ -122,14 +122,14 @@ operates expr.modulo = record { way = 3; known = omega arith; tells = refl; alte
 pub record Found (n k : ℕ) : Type 0 where
   pub operator : Operator
   pub class : operatorClass operator ≡ k
-  pub levelRule : expr.level operator ≡ n
+  pub level : expr.level operator ≡ n
 
 among-found : (l : List Operator) (n k : ℕ) → n ≢ LEVELS → lookUp (map (λ o. pair (operatorClass o) (expr.level o)) l) LEVELS k ≡ n → Found n k
 among-found [] n k h e = absurd (h (sym e))
 among-found (o ∷ l) n k h e = by (among-found l n k h) (eqb (operatorClass o) k) refl
   where
     by : (lookUp (map (λ o. pair (operatorClass o) (expr.level o)) l) LEVELS k ≡ n → Found n k) → (b : Bool) → eqb (operatorClass o) k ≡ b → Found n k
-    by f true q = record { operator = o; class = eqb-true (operatorClass o) k q; levelRule = rw (q, lookUp) at e }
+    by f true q = record { operator = o; class = eqb-true (operatorClass o) k q; level = rw (q, lookUp) at e }
     by f false q = f (rw (q, lookUp) at e)
 
 pub operator-found : (n k : ℕ) → n < LEVELS → levelOf k ≡ n → Found n k

@@ -15,7 +15,7 @@ use Rattle.rows.specs.Columns.{ROW}
 use Rattle.rows.specs.Rows.{rowsFrom, laid}
 use Rattle.ll1.specs.Trees.{Trees}
 use Rattle.answers.specs.Stages.{ownNumbers, finished}
-use Rattle.answers.specs.Answer as grammar
+use Rattle.answers.specs.Answer as answers
 use Rattle.answers.specs.Answer.{LONGEST, accepts, refuses, drafts}
 use Rattle.answers.specs.WholeAnswer.{quickCheck, readAnswer, readTable}
 use Rattle.answers.specs.Demand3.{Sound, Refuses, questionNumbers, GetsSmallest}
@@ -51,7 +51,7 @@ module _ {s : List ℕ} {n : ℕ} {r : Answer} {t′ : List ℕ} (v : Reading s 
   refused-zeros h = v .table ∙ rw (ne-eqb (readAnswer s n .number) 0 (λ e. h (number ∙ e)))
 
   -- a refusal is given with an answer exactly when a line of document 01's table says so
-  pub refused-exactly : (a : grammar.Answer) → Refuses s n a ↔ ((told r ≡ a) × (a .number ≢ 0))
+  pub refused-exactly : (a : answers.Answer) → Refuses s n a ↔ ((told r ≡ a) × (a .number ≢ 0))
   refused-exactly a = rw (v .answer) (Demand3.refuses-exactly s n a)
 
   -- ---- demand 3

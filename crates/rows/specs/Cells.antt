@@ -14,6 +14,6 @@ abbrev pub filled : List Entry → List ℕ
 filled [] = replicate ROW 0
 filled (c ≔ v ∷ entries) = set (filled entries) c v
 
--- a row "but the two columns of places" (document 01, "What we demand", 2): with 0 in both
+-- a row "but the two columns of places" (demand 2): with 0 in both
 abbrev pub withoutPlaces : List ℕ → List ℕ
 withoutPlaces r = set (set r NAME 0) PLACE 0

@@ -9,7 +9,7 @@ use lib.Seq.{sets, sets-eq, take-append-seam, length-sets}
 use borrow.Author.Tests.{lt-ltb, le-ltb}
 use Rattle.rows.specs.Table.{cleared}
 use Rattle.rows.proofs.ClearLaws.{cleared-whole}
-use Rattle.answers.specs.Answer as grammar
+use Rattle.answers.specs.Answer as answers
 use Rattle.answers.specs.Answer.{accepts}
 use Rattle.answers.specs.Resolution.{room, resolvedInto}
 use Rattle.spellings.specs.Output.{MOST}
@@ -25,7 +25,7 @@ unfolding cleared
 fits-cleared o text h =
     rw (length-sets o 0 text, sets-eq text o 0 (omega arith)) (ap (λ (l : List ℕ). l ++ replicate (length o - length text) 0) (take-append-seam text (drop (0 + length text) o)))
 
-into-long : (m need : ℕ) (a : grammar.Answer) → room m < need → resolvedInto m need a ≡ told (Long need)
+into-long : (m need : ℕ) (a : answers.Answer) → room m < need → resolvedInto m need a ≡ told (Long need)
 into-long m need a h = rw (lt-ltb (room m) need h, resolvedInto)
 
 into-room : (m need rows free : ℕ) → need ≤ room m → resolvedInto m need (accepts rows free) ≡ told (Resolved rows free need)

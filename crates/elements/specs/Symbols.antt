@@ -153,48 +153,100 @@ eight = H2 ∷ comma ∷ H2 ∷ comma ∷ H2 ∷ comma ∷ H2 ∷ comma ∷ H2 �
 abbrev titleHelp : List ℕ
 titleHelp = comma ∷ «title» ∷ «=» ∷ string ++ comma ∷ «help» ∷ «=» ∷ string ++ comma ∷ []
 
+-- formset guid = { H8 , H4 , H4 ,
+abbrev pub formSetOpenElements : List ℕ
+formSetOpenElements = «formset» ∷ «guid» ∷ «=» ∷ open-brace ∷ H8 ∷ comma ∷ H4 ∷ comma ∷ H4 ∷ comma ∷ []
+
+-- the rest of a form set's opening, with the inner braces and without
+abbrev pub formSetBracedElements : List ℕ
+formSetBracedElements = open-brace ∷ eight ++ close-brace ∷ close-brace ∷ titleHelp
+
+abbrev pub formSetPlainElements : List ℕ
+formSetPlainElements = eight ++ close-brace ∷ titleHelp
+
+abbrev pub formSetCloseElements : List ℕ
+formSetCloseElements = «endformset» ∷ semicolon ∷ []
+
+-- form formid = N , title = STR ;
+abbrev pub formOpenElements : List ℕ
+formOpenElements = «form» ∷ «formid» ∷ «=» ∷ ID ∷ comma ∷ «title» ∷ «=» ∷ string ++ semicolon ∷ []
+
+abbrev pub formCloseElements : List ℕ
+formCloseElements = «endform» ∷ semicolon ∷ []
+
+-- rule NAME ,
+abbrev pub ruleOpenElements : List ℕ
+ruleOpenElements = «rule» ∷ NAME ∷ comma ∷ []
+
+abbrev pub ruleCloseElements : List ℕ
+ruleCloseElements = «endrule» ∷ semicolon ∷ []
+
+-- subtitle text = STR ;
+abbrev pub subtitleElements : List ℕ
+subtitleElements = «subtitle» ∷ «text» ∷ «=» ∷ string ++ semicolon ∷ []
+
+-- text help = STR , text = STR ;
+abbrev pub textElements : List ℕ
+textElements = «text» ∷ «help» ∷ «=» ∷ string ++ comma ∷ «text» ∷ «=» ∷ string ++ semicolon ∷ []
+
+-- label N ;
+abbrev pub labelElements : List ℕ
+labelElements = «label» ∷ SMALL ∷ semicolon ∷ []
+
+-- goto N , HEAD [, flags = FL] ;
+abbrev pub gotoElements : List ℕ
+gotoElements = «goto» ∷ ID ∷ comma ∷ head ++ MAYBE ∷ comma ∷ «flags» ∷ «=» ∷ FLAG-LIST ∷ semicolon ∷ []
+
+-- checkbox HEAD , [flags = FL ,] [default = TRUE or FALSE ,] endcheckbox ;
+abbrev pub checkboxElements : List ℕ
+checkboxElements = «checkbox» ∷ head ++ comma ∷ flagsMaybe ++ MAYBE ∷ «default» ∷ «=» ∷ TRUTH ∷ comma ∷ «endcheckbox» ∷ semicolon ∷ []
+
+-- numeric HEAD , [flags = FL ,] minimum = N , maximum = N , [step = N ,] [default = N ,] endnumeric ;
+abbrev pub numericElements : List ℕ
+numericElements =
+    «numeric» ∷ head ++ comma ∷ flagsMaybe ++ «minimum» ∷ «=» ∷ LARGE ∷ comma ∷ «maximum» ∷ «=» ∷ LARGE ∷ comma
+    ∷ MAYBE ∷ «step» ∷ «=» ∷ LARGE ∷ comma ∷ MAYBE ∷ «default» ∷ «=» ∷ LARGE ∷ comma ∷ «endnumeric» ∷ semicolon ∷ []
+
+-- oneof HEAD , [flags = FL ,]
+abbrev pub oneOfOpenElements : List ℕ
+oneOfOpenElements = «oneof» ∷ head ++ comma ∷ flagsMaybe
+
+abbrev pub oneOfCloseElements : List ℕ
+oneOfCloseElements = «endoneof» ∷ semicolon ∷ []
+
+-- option text = STR , value = N , flags = (N or DEFAULT) ;
+abbrev pub optionElements : List ℕ
+optionElements = «option» ∷ «text» ∷ «=» ∷ string ++ comma ∷ «value» ∷ «=» ∷ LARGE ∷ comma ∷ «flags» ∷ «=» ∷ OPTION-FLAGS ∷ semicolon ∷ []
+
+abbrev pub conditionCloseElements : List ℕ
+conditionCloseElements = «endif» ∷ semicolon ∷ []
+
+abbrev pub expressionCloseElements : List ℕ
+expressionCloseElements = semicolon ∷ []
+
+-- N
+abbrev pub numberElements : List ℕ
+numberElements = LARGE ∷ []
+
+-- questionref ( NAME or N )
+abbrev pub questionRefElements : List ℕ
+questionRefElements = «questionref» ∷ open-paren ∷ REFERENCE ∷ close-paren ∷ []
+
+-- ruleref ( NAME )
+abbrev pub ruleRefElements : List ℕ
+ruleRefElements = «ruleref» ∷ open-paren ∷ NAME ∷ close-paren ∷ []
+
+abbrev pub groupCloseElements : List ℕ
+groupCloseElements = close-paren ∷ []
+
 -- in the order of their numbers
 unfoldable pub phraseElements : List (List ℕ)
 phraseElements =
-    -- formset guid = { H8 , H4 , H4 ,
-    («formset» ∷ «guid» ∷ «=» ∷ open-brace ∷ H8 ∷ comma ∷ H4 ∷ comma ∷ H4 ∷ comma ∷ [])
-    -- the rest of a form set's opening, with the inner braces and without
-    ∷ (open-brace ∷ eight ++ close-brace ∷ close-brace ∷ titleHelp)
-    ∷ (eight ++ close-brace ∷ titleHelp)
-    ∷ («endformset» ∷ semicolon ∷ [])
-    -- form formid = N , title = STR ;
-    ∷ («form» ∷ «formid» ∷ «=» ∷ ID ∷ comma ∷ «title» ∷ «=» ∷ string ++ semicolon ∷ [])
-    ∷ («endform» ∷ semicolon ∷ [])
-    -- rule NAME ,
-    ∷ («rule» ∷ NAME ∷ comma ∷ [])
-    ∷ («endrule» ∷ semicolon ∷ [])
-    -- subtitle text = STR ;
-    ∷ («subtitle» ∷ «text» ∷ «=» ∷ string ++ semicolon ∷ [])
-    -- text help = STR , text = STR ;
-    ∷ («text» ∷ «help» ∷ «=» ∷ string ++ comma ∷ «text» ∷ «=» ∷ string ++ semicolon ∷ [])
-    -- label N ;
-    ∷ («label» ∷ SMALL ∷ semicolon ∷ [])
-    -- goto N , HEAD [, flags = FL] ;
-    ∷ («goto» ∷ ID ∷ comma ∷ head ++ MAYBE ∷ comma ∷ «flags» ∷ «=» ∷ FLAG-LIST ∷ semicolon ∷ [])
-    -- checkbox HEAD , [flags = FL ,] [default = TRUE or FALSE ,] endcheckbox ;
-    ∷ («checkbox» ∷ head ++ comma ∷ flagsMaybe ++ MAYBE ∷ «default» ∷ «=» ∷ TRUTH ∷ comma ∷ «endcheckbox» ∷ semicolon ∷ [])
-    -- numeric HEAD , [flags = FL ,] minimum = N , maximum = N , [step = N ,] [default = N ,] endnumeric ;
-    ∷ («numeric» ∷ head ++ comma ∷ flagsMaybe ++ «minimum» ∷ «=» ∷ LARGE ∷ comma ∷ «maximum» ∷ «=» ∷ LARGE ∷ comma
-    ∷ MAYBE ∷ «step» ∷ «=» ∷ LARGE ∷ comma ∷ MAYBE ∷ «default» ∷ «=» ∷ LARGE ∷ comma ∷ «endnumeric» ∷ semicolon ∷ [])
-    -- oneof HEAD , [flags = FL ,]
-    ∷ («oneof» ∷ head ++ comma ∷ flagsMaybe)
-    ∷ («endoneof» ∷ semicolon ∷ [])
-    -- option text = STR , value = N , flags = (N or DEFAULT) ;
-    ∷ («option» ∷ «text» ∷ «=» ∷ string ++ comma ∷ «value» ∷ «=» ∷ LARGE ∷ comma ∷ «flags» ∷ «=» ∷ OPTION-FLAGS ∷ semicolon ∷ [])
-    ∷ («endif» ∷ semicolon ∷ [])
-    ∷ (semicolon ∷ [])
-    -- N
-    ∷ (LARGE ∷ [])
-    -- questionref ( NAME or N )
-    ∷ («questionref» ∷ open-paren ∷ REFERENCE ∷ close-paren ∷ [])
-    -- ruleref ( NAME )
-    ∷ («ruleref» ∷ open-paren ∷ NAME ∷ close-paren ∷ [])
-    ∷ (close-paren ∷ [])
+    formSetOpenElements ∷ formSetBracedElements ∷ formSetPlainElements ∷ formSetCloseElements ∷ formOpenElements
+    ∷ formCloseElements ∷ ruleOpenElements ∷ ruleCloseElements ∷ subtitleElements ∷ textElements
+    ∷ labelElements ∷ gotoElements ∷ checkboxElements ∷ numericElements ∷ oneOfOpenElements
+    ∷ oneOfCloseElements ∷ optionElements ∷ conditionCloseElements ∷ expressionCloseElements ∷ numberElements
+    ∷ questionRefElements ∷ ruleRefElements ∷ groupCloseElements
     ∷ []
 
 -- the elements of a phrase; a number that no phrase has has none

@@ -1,3 +1,3 @@
 -- The laws of `statements`: the patterns of statements give the phrases of the resolved text.
-pub mod Patterns
+pub mod Sources
 pub mod StatementLaws

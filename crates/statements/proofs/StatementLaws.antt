@@ -16,40 +16,41 @@ use Rattle.rows.specs.Codes.{member, questions, isQuestion}
 use Rattle.answers.specs.Text.{Word, words, decimal, decimalDigits, head, flagList, framed, Phrase, _prints_, opening, phraseAmong}
 use Rattle.print.specs.Phrase.{bit, flagWords, optionFlags, elementWords, shownBy, anyFlag, hasDefault, valueFrom, added, skipAfter, passedAfter, phraseFrom, elementIn, phraseWords}
 use Rattle.statements.specs.Statements.{conditionWords, closing, operandWords}
-use Rattle.statements.proofs.Patterns as p
+use Rattle.elements.specs.Symbols as phrase
+use Rattle.statements.proofs.Sources as source
 
 -- ---- phrases with nothing that may be absent
 
 module _ (r : List ℕ) where
-  pub form-words : phraseWords p.form-open-elements p.form-sources r ≡ text.form r
+  pub form-words : phraseWords phrase.formOpenElements source.form-sources r ≡ text.form r
   unfolding phraseWords phraseFrom added skipAfter passedAfter elementWords valueFrom lexemes signs reserved
   form-words = refl
 
-  pub rule-words : phraseWords p.rule-open-elements p.rule-sources r ≡ text.rule r
+  pub rule-words : phraseWords phrase.ruleOpenElements source.rule-sources r ≡ text.rule r
   unfolding phraseWords phraseFrom added skipAfter passedAfter elementWords valueFrom lexemes signs reserved
   rule-words = refl
 
-  pub subtitle-words : phraseWords p.subtitle-elements p.subtitle-sources r ≡ text.subtitle r
+  pub subtitle-words : phraseWords phrase.subtitleElements source.subtitle-sources r ≡ text.subtitle r
   unfolding phraseWords phraseFrom added skipAfter passedAfter elementWords valueFrom lexemes signs reserved
   subtitle-words = refl
 
-  pub text-words : phraseWords p.text-elements p.text-sources r ≡ text.text r
+  pub text-words : phraseWords phrase.textElements source.text-sources r ≡ text.text r
   unfolding phraseWords phraseFrom added skipAfter passedAfter elementWords valueFrom lexemes signs reserved
   text-words = refl
 
-  pub label-words : phraseWords p.label-elements p.label-sources r ≡ text.label r
+  pub label-words : phraseWords phrase.labelElements source.label-sources r ≡ text.label r
   unfolding phraseWords phraseFrom added skipAfter passedAfter elementWords valueFrom lexemes signs reserved
   label-words = refl
 
-  pub question-ref-words : phraseWords p.question-ref-elements p.operand-sources r ≡ words "questionref (" ++ decimal (getD r column.A 0) ++ words ")"
+  pub question-ref-words : phraseWords phrase.questionRefElements source.operand-sources r ≡ words "questionref (" ++ decimal (getD r column.A 0) ++ words ")"
   unfolding phraseWords phraseFrom added skipAfter passedAfter elementWords valueFrom lexemes signs reserved
   question-ref-words = refl
 
-  pub rule-ref-words : phraseWords p.rule-ref-elements p.operand-sources r ≡ words "ruleref (" ++ text.ruleName (getD r column.A 0) ++ words ")"
+  pub rule-ref-words : phraseWords phrase.ruleRefElements source.operand-sources r ≡ words "ruleref (" ++ text.ruleName (getD r column.A 0) ++ words ")"
   unfolding phraseWords phraseFrom added skipAfter passedAfter elementWords valueFrom lexemes signs reserved
   rule-ref-words = refl
 
-  pub form-set-words : phraseWords p.form-set-open-elements p.form-set-open-sources r ++ phraseWords p.form-set-braced-elements p.form-set-braced-sources r ≡ text.formSet r
+  pub form-set-words : phraseWords phrase.formSetOpenElements source.form-set-open-sources r ++ phraseWords phrase.formSetBracedElements source.form-set-braced-sources r ≡ text.formSet r
   unfolding phraseWords phraseFrom added skipAfter passedAfter elementWords valueFrom lexemes signs reserved
   form-set-words = refl
 
@@ -61,7 +62,7 @@ module _ (r : List ℕ) where
   abbrev optionWith : List Word → List Word
   optionWith f = words "option text =" ++ text.string (getD r column.FIRST 0) ++ words ", value =" ++ decimal (getD r column.A 0) ++ words ", flags =" ++ f ++ words ";"
 
-  pub option-words : phraseWords p.option-elements p.option-sources r ≡ text.option r
+  pub option-words : phraseWords phrase.optionElements source.option-sources r ≡ text.option r
   unfolding phraseWords phraseFrom added skipAfter passedAfter elementWords valueFrom lexemes signs reserved optionFlags
   option-words = ap optionWith (option-flags (bit flag.OPTION-DEFAULT (getD r column.FLAGS 0)))
 
@@ -126,12 +127,12 @@ module _ (r : List ℕ) where
   abbrev gotoStart : List Word
   gotoStart = words "goto" ++ decimal (getD r column.A 0) ++ words "," ++ head r
 
-  goto-shape : (f d : Bool) → phraseFrom (shownBy f d) (elementIn p.goto-sources r) p.goto-elements 0 0 ≡ gotoStart ++ partThen f (words ", flags =") (flagWords set) [] (words ";")
+  goto-shape : (f d : Bool) → phraseFrom (shownBy f d) (elementIn source.goto-sources r) phrase.gotoElements 0 0 ≡ gotoStart ++ partThen f (words ", flags =") (flagWords set) [] (words ";")
   unfolding phraseFrom added skipAfter passedAfter elementWords valueFrom lexemes signs reserved
   goto-shape true d = refl
   goto-shape false d = refl
 
-  pub goto-words : phraseWords p.goto-elements p.goto-sources r ≡ text.goto r
+  pub goto-words : phraseWords phrase.gotoElements source.goto-sources r ≡ text.goto r
   unfolding phraseWords
   goto-words =
       goto-shape (anyFlag set) (hasDefault set) ∙ ap (_++_ gotoStart) (flags-are (words ", flags =") [] (words ";"))
@@ -144,14 +145,14 @@ module _ (r : List ℕ) where
   abbrev checkboxDefault : Bool → List Word
   checkboxDefault d = partThen d (words "default =") (text.truth (getD r column.D 0)) (words ",") (words "endcheckbox ;")
 
-  checkbox-shape : (f d : Bool) → phraseFrom (shownBy f d) (elementIn p.checkbox-sources r) p.checkbox-elements 0 0 ≡ checkboxStart ++ partThen f (words "flags =") (flagWords set) (words ",") (checkboxDefault d)
+  checkbox-shape : (f d : Bool) → phraseFrom (shownBy f d) (elementIn source.checkbox-sources r) phrase.checkboxElements 0 0 ≡ checkboxStart ++ partThen f (words "flags =") (flagWords set) (words ",") (checkboxDefault d)
   unfolding phraseFrom added skipAfter passedAfter elementWords valueFrom lexemes signs reserved
   checkbox-shape true true = refl
   checkbox-shape true false = refl
   checkbox-shape false true = refl
   checkbox-shape false false = refl
 
-  pub checkbox-words : phraseWords p.checkbox-elements p.checkbox-sources r ≡ text.checkbox r
+  pub checkbox-words : phraseWords phrase.checkboxElements source.checkbox-sources r ≡ text.checkbox r
   unfolding phraseWords
   checkbox-words =
       checkbox-shape (anyFlag set) (hasDefault set)
@@ -169,14 +170,14 @@ module _ (r : List ℕ) where
   numericLimits later =
       words "minimum =" ++ (decimal (getD r column.A 0) ++ (words ", maximum =" ++ (decimal (getD r column.B 0) ++ (words ", step =" ++ (decimal (getD r column.C 0) ++ (words "," ++ later))))))
 
-  numeric-shape : (f d : Bool) → phraseFrom (shownBy f d) (elementIn p.numeric-sources r) p.numeric-elements 0 0 ≡ numericStart ++ partThen f (words "flags =") (flagWords set) (words ",") (numericLimits (numericDefault d))
+  numeric-shape : (f d : Bool) → phraseFrom (shownBy f d) (elementIn source.numeric-sources r) phrase.numericElements 0 0 ≡ numericStart ++ partThen f (words "flags =") (flagWords set) (words ",") (numericLimits (numericDefault d))
   unfolding phraseFrom added skipAfter passedAfter elementWords valueFrom lexemes signs reserved
   numeric-shape true true = refl
   numeric-shape true false = refl
   numeric-shape false true = refl
   numeric-shape false false = refl
 
-  pub numeric-words : phraseWords p.numeric-elements p.numeric-sources r ≡ text.numeric r
+  pub numeric-words : phraseWords phrase.numericElements source.numeric-sources r ≡ text.numeric r
   unfolding phraseWords
   numeric-words =
       numeric-shape (anyFlag set) (hasDefault set)
@@ -187,12 +188,12 @@ module _ (r : List ℕ) where
   abbrev oneOfStart : List Word
   oneOfStart = words "oneof" ++ head r ++ words ","
 
-  one-of-shape : (f d : Bool) → phraseFrom (shownBy f d) (elementIn p.one-of-sources r) p.one-of-open-elements 0 0 ≡ oneOfStart ++ partThen f (words "flags =") (flagWords set) (words ",") []
+  one-of-shape : (f d : Bool) → phraseFrom (shownBy f d) (elementIn source.one-of-sources r) phrase.oneOfOpenElements 0 0 ≡ oneOfStart ++ partThen f (words "flags =") (flagWords set) (words ",") []
   unfolding phraseFrom added skipAfter passedAfter elementWords valueFrom lexemes signs reserved
   one-of-shape true d = refl
   one-of-shape false d = refl
 
-  pub one-of-words : phraseWords p.one-of-open-elements p.one-of-sources r ≡ text.oneOf r
+  pub one-of-words : phraseWords phrase.oneOfOpenElements source.one-of-sources r ≡ text.oneOf r
   unfolding phraseWords
   one-of-words =
       one-of-shape (anyFlag set) (hasDefault set)
@@ -223,27 +224,27 @@ module _ (r : List ℕ) where
 -- ---- the ends of statements and of expressions
 
 module _ (r : List ℕ) where
-  pub form-set-close-words : phraseWords p.form-set-close-elements [] r ≡ words "endformset ;"
+  pub form-set-close-words : phraseWords phrase.formSetCloseElements [] r ≡ words "endformset ;"
   unfolding phraseWords phraseFrom added skipAfter passedAfter lexemes signs reserved
   form-set-close-words = refl
 
-  pub form-close-words : phraseWords p.form-close-elements [] r ≡ words "endform ;"
+  pub form-close-words : phraseWords phrase.formCloseElements [] r ≡ words "endform ;"
   unfolding phraseWords phraseFrom added skipAfter passedAfter lexemes signs reserved
   form-close-words = refl
 
-  pub one-of-close-words : phraseWords p.one-of-close-elements [] r ≡ words "endoneof ;"
+  pub one-of-close-words : phraseWords phrase.oneOfCloseElements [] r ≡ words "endoneof ;"
   unfolding phraseWords phraseFrom added skipAfter passedAfter lexemes signs reserved
   one-of-close-words = refl
 
-  pub condition-close-words : phraseWords p.condition-close-elements [] r ≡ words "endif ;"
+  pub condition-close-words : phraseWords phrase.conditionCloseElements [] r ≡ words "endif ;"
   unfolding phraseWords phraseFrom added skipAfter passedAfter lexemes signs reserved
   condition-close-words = refl
 
-  pub rule-close-words : phraseWords p.rule-close-elements [] r ≡ words "endrule ;"
+  pub rule-close-words : phraseWords phrase.ruleCloseElements [] r ≡ words "endrule ;"
   unfolding phraseWords phraseFrom added skipAfter passedAfter lexemes signs reserved
   rule-close-words = refl
 
-  pub expression-close-words : phraseWords p.expression-close-elements [] r ≡ words ";"
+  pub expression-close-words : phraseWords phrase.expressionCloseElements [] r ≡ words ";"
   unfolding phraseWords phraseFrom added skipAfter passedAfter lexemes signs reserved
   expression-close-words = refl
 
@@ -302,11 +303,11 @@ question-rest k q h = eqb-true k 5 (last (eqb k 5) (rw (ne-eqb k 15 (h .0 .0 .1)
 -- ---- operands
 
 module _ (r : List ℕ) where
-  pub operand-question : kind r ≡ 64 → phraseWords p.question-ref-elements p.operand-sources r ≡ operandWords r
+  pub operand-question : kind r ≡ 64 → phraseWords phrase.questionRefElements source.operand-sources r ≡ operandWords r
   unfolding operandWords
   operand-question e = question-ref-words r ∙ sym (rw e)
 
-  pub operand-rule : kind r ≡ 63 → phraseWords p.rule-ref-elements p.operand-sources r ≡ operandWords r
+  pub operand-rule : kind r ≡ 63 → phraseWords phrase.ruleRefElements source.operand-sources r ≡ operandWords r
   unfolding operandWords
   operand-rule e = rule-ref-words r ∙ sym (rw e)
 

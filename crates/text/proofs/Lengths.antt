@@ -20,7 +20,8 @@ use Rattle.statements.specs.Statements.{closing, expressionEnd}
 use Rattle.spellings.proofs.Outputs.{text-append}
 use Rattle.spellings.proofs.DigitLaws.{digits-few}
 use Rattle.spellings.proofs.SpellingLaws.{lexeme-short}
-use Rattle.statements.proofs.Patterns as p
+use Rattle.elements.specs.Symbols as phrase
+use Rattle.statements.proofs.Sources as source
 use Rattle.statements.proofs.StatementLaws.{form-words, rule-words, subtitle-words, text-words, label-words, form-set-words, option-words, goto-words, checkbox-words, numeric-words, one-of-words}
 use Rattle.laid.specs.Spans.{Spans, spans-number, spans-constant, spans-question-named, spans-question-numbered, spans-rule-named, spans-negation, spans-binary}
 use Rattle.laid.specs.Items.{Inner, Items}
@@ -153,9 +154,9 @@ form-set-short r h =
     omega (
       arith,
       ap size (form-set-words r),
-      size-append (phraseWords p.form-set-open-elements p.form-set-open-sources r) (phraseWords p.form-set-braced-elements p.form-set-braced-sources r),
-      words-short p.form-set-open-elements p.form-set-open-sources r h,
-      words-short p.form-set-braced-elements p.form-set-braced-sources r h,
+      size-append (phraseWords phrase.formSetOpenElements source.form-set-open-sources r) (phraseWords phrase.formSetBracedElements source.form-set-braced-sources r),
+      words-short phrase.formSetOpenElements source.form-set-open-sources r h,
+      words-short phrase.formSetBracedElements source.form-set-braced-sources r h,
     )
 
 condition-words-short : (size (words "suppressif") ≤ 16) × (size (words "grayoutif") ≤ 16) × (size (words "disableif") ≤ 16)
@@ -167,25 +168,25 @@ opening-short r h =
     among-short statements r (
       form-set-short r h,
       (
-        phrase-small r p.form-open-elements p.form-sources h (omega arith) (text.form r) (form-words r),
+        phrase-small r phrase.formOpenElements source.form-sources h (omega arith) (text.form r) (form-words r),
         (
-          phrase-small r p.rule-open-elements p.rule-sources h (omega arith) (text.rule r) (rule-words r),
+          phrase-small r phrase.ruleOpenElements source.rule-sources h (omega arith) (text.rule r) (rule-words r),
           (
-            phrase-small r p.subtitle-elements p.subtitle-sources h (omega arith) (text.subtitle r) (subtitle-words r),
+            phrase-small r phrase.subtitleElements source.subtitle-sources h (omega arith) (text.subtitle r) (subtitle-words r),
             (
-              phrase-small r p.text-elements p.text-sources h (omega arith) (text.text r) (text-words r),
+              phrase-small r phrase.textElements source.text-sources h (omega arith) (text.text r) (text-words r),
               (
-                phrase-small r p.label-elements p.label-sources h (omega arith) (text.label r) (label-words r),
+                phrase-small r phrase.labelElements source.label-sources h (omega arith) (text.label r) (label-words r),
                 (
-                  phrase-small r p.goto-elements p.goto-sources h (omega arith) (text.goto r) (goto-words r),
+                  phrase-small r phrase.gotoElements source.goto-sources h (omega arith) (text.goto r) (goto-words r),
                   (
-                    phrase-small r p.checkbox-elements p.checkbox-sources h (omega arith) (text.checkbox r) (checkbox-words r),
+                    phrase-small r phrase.checkboxElements source.checkbox-sources h (omega arith) (text.checkbox r) (checkbox-words r),
                     (
-                      phrase-small r p.numeric-elements p.numeric-sources h (omega arith) (text.numeric r) (numeric-words r),
+                      phrase-small r phrase.numericElements source.numeric-sources h (omega arith) (text.numeric r) (numeric-words r),
                       (
-                        phrase-small r p.one-of-open-elements p.one-of-sources h (omega arith) (text.oneOf r) (one-of-words r),
+                        phrase-small r phrase.oneOfOpenElements source.one-of-sources h (omega arith) (text.oneOf r) (one-of-words r),
                         (
-                          phrase-small r p.option-elements p.option-sources h (omega arith) (text.option r) (option-words r),
+                          phrase-small r phrase.optionElements source.option-sources h (omega arith) (text.option r) (option-words r),
                           (
                             omega (arith, condition-words-short .0),
                             (

@@ -45,7 +45,7 @@ module _ {s : List ℕ} {n : ℕ} {r : Answer} {t′ : List ℕ} (v : Reading s 
 
   -- ---- demand 1
 
-  -- "the lent table [is] then all zeros"
+  -- "all lent memory for results is then zero"
   pub refused-zeros : told r .number ≢ 0 → t′ ≡ replicate n 0
   unfolding readTable
   refused-zeros h = v .table ∙ rw (ne-eqb (readAnswer s n .number) 0 (λ e. h (number ∙ e)))

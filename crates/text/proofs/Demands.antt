@@ -47,7 +47,7 @@ module _ {s : List ℕ} {n m : ℕ} {r : Answer} {t′ o′ : List ℕ} (v : Res
   number : told r .number ≡ resolution s n m .number
   number = ap (λ a. a .number) (v .answer)
 
-  -- ---- demand 1: "the lent table and output are then all zeros"
+  -- ---- demand 1: "all lent memory for results is then zero"
 
   pub refused-zeros : told r .number ≢ 0 → (t′ ≡ replicate n 0) × (o′ ≡ replicate m 0)
   unfolding resolvedTable resolvedOutput

@@ -99,6 +99,11 @@ questions-few value (fits-node {c = c} e r₁ r₂) = after-other (formSet value
 
 -- ---- the i-th without a number gets the i-th smallest that none writes
 
+-- where 3 and 4 are written, three numbers below 6 are not: 1, 2 and 5
+unwritten-below-six : unwrittenBelow (3 ∷ 0 ∷ 4 ∷ []) 6 ≡ 3
+unfolding unwrittenBelow mem
+unwritten-below-six = refl
+
 module _ (l : List ℕ) where
   -- no question writes the number k
   abbrev isFree : ℕ → Bool

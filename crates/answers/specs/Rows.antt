@@ -12,11 +12,16 @@ use Rattle.rows.specs.Flags as flag
 use Rattle.ll1.specs.Trees.{Trees, nil, leaf, node}
 use Rattle.grammar.specs.Rules.{<rule>, <item>, <option>, <form>, <source>}
 use Rattle.grammar.specs.Parts.{mark, when, child, chosen, written, placeAt}
-use Rattle.grammar.specs.Positions.{formset·guid, formset·title, formset·help, guid·first, guid·second, guid·third, guid·end, guid-end·braced, guid-end·bare, eight·byte, str·number, form·number, form·title, rule·name, rule·expression}
-use Rattle.grammar.specs.Positions.{subtitle·text, text·help, text·text, label·number, goto·form, goto·head, goto·flags, checkbox·head, checkbox·flags, checkbox·default, numeric·head, numeric·flags, numeric·minimum, numeric·maximum, numeric·step, numeric·default, oneof·head, oneof·flags, condition·expression}
-use Rattle.grammar.specs.Positions.{default·value, step·value, option·text, option·value, option·flags, head·name, head·number, head·prompt, head·help, name·word, questionid·number}
+use Rattle.grammar.specs.Positions.{formset·guid, formset·title, formset·help, guid·first, guid·second, guid·third, guid·end, guid-end·braced, guid-end·bare}
+use Rattle.grammar.specs.Positions.{eight·byte, str·number, form·number, form·title, rule·name, rule·expression}
+use Rattle.grammar.specs.Positions.{subtitle·text, text·help, text·text, label·number, goto·form, goto·head, goto·flags, checkbox·head, checkbox·flags}
+use Rattle.grammar.specs.Positions.{checkbox·default, numeric·head, numeric·flags, numeric·minimum, numeric·maximum, numeric·step, numeric·default}
+use Rattle.grammar.specs.Positions.{oneof·head, oneof·flags, condition·expression}
+use Rattle.grammar.specs.Positions.{default·value, step·value, option·text, option·value, option·flags, head·name, head·number, head·prompt, head·help}
+use Rattle.grammar.specs.Positions.{name·word, questionid·number}
 use Rattle.grammar.specs.Flags.{flags}
-use Rattle.answers.specs.Expression.{Expression, number, constant, question-named, question-numbered, rule-named, negation, binary, constantCode, operatorCode, expression}
+use Rattle.answers.specs.Expression.{Expression, number, constant, question-named, question-numbered, rule-named, negation, binary, constantCode}
+use Rattle.answers.specs.Expression.{operatorCode, expression}
 
 -- A row, and the marks of what later stages name in it:
 -- ownAt    a form's number, a question's written number, what a reference names

@@ -4,9 +4,12 @@ use Prim.Native.Nat.{ℕ}
 use mathlib.Core.List.{List, [], _∷_, _++_}
 use lib.ListN.{getD}
 use Rattle.lexemes.specs.Classes.{open-brace, close-brace, open-paren, close-paren, comma, semicolon, «=»}
-use Rattle.lexemes.specs.Classes.{«STRING_TOKEN», «checkbox», «default», «endcheckbox», «endform», «endformset», «endif», «endnumeric», «endoneof», «endrule», «flags», «form», «formid», «formset», «goto», «guid», «help», «label», «maximum», «minimum», «name», «numeric», «oneof», «option», «prompt», «questionid», «questionref», «rule», «ruleref», «step», «subtitle», «text», «title», «value», NAME}
+use Rattle.lexemes.specs.Classes.{«STRING_TOKEN», «checkbox», «default», «endcheckbox», «endform», «endformset», «endif», «endnumeric», «endoneof», «endrule»}
+use Rattle.lexemes.specs.Classes.{«flags», «form», «formid», «formset», «goto», «guid», «help», «label», «maximum», «minimum», «name», «numeric», «oneof»}
+use Rattle.lexemes.specs.Classes.{«option», «prompt», «questionid», «questionref», «rule», «ruleref», «step», «subtitle», «text», «title», «value», NAME}
 use Rattle.ll1.specs.Trees.{Symbol}
-use Rattle.grammar.specs.Rules.{<eight>, <H8>, <H4>, <str>, <id>, <small>, <large>, <goto-flags>?, <flags>?, <truth-default>?, <step>?, <number-default>?, <option-flags>, <head>, <name-or-number>}
+use Rattle.grammar.specs.Rules.{<eight>, <H8>, <H4>, <str>, <id>, <small>, <large>, <goto-flags>?, <flags>?, <truth-default>?, <step>?, <number-default>?}
+use Rattle.grammar.specs.Rules.{<option-flags>, <head>, <name-or-number>}
 use Rattle.grammar.specs.Notation.{t, r}
 use Rattle.elements.specs.Kinds.{ID, SMALL, LARGE, OPTION-FLAGS, REFERENCE, TRUTH, FLAG-LIST, H8, H4, H2, MAYBE}
 

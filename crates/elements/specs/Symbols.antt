@@ -114,7 +114,8 @@ phraseSymbols =
     -- checkbox HEAD , [flags = FL ,] [default = TRUE or FALSE ,] endcheckbox ;
     ∷ (t «checkbox» ∷ r <head> ∷ t comma ∷ r <flags>? ∷ r <truth-default>? ∷ t «endcheckbox» ∷ t semicolon ∷ [])
     -- numeric HEAD , [flags = FL ,] minimum = N , maximum = N , [step = N ,] [default = N ,] endnumeric ;
-    ∷ (t «numeric» ∷ r <head> ∷ t comma ∷ r <flags>? ∷ t «minimum» ∷ t «=» ∷ r <large> ∷ t comma ∷ t «maximum» ∷ t «=» ∷ r <large> ∷ t comma ∷ r <step>? ∷ r <number-default>? ∷ t «endnumeric» ∷ t semicolon ∷ [])
+    ∷ (t «numeric» ∷ r <head> ∷ t comma ∷ r <flags>? ∷ t «minimum» ∷ t «=» ∷ r <large> ∷ t comma
+    ∷ t «maximum» ∷ t «=» ∷ r <large> ∷ t comma ∷ r <step>? ∷ r <number-default>? ∷ t «endnumeric» ∷ t semicolon ∷ [])
     -- oneof HEAD , [flags = FL ,]
     ∷ (t «oneof» ∷ r <head> ∷ t comma ∷ r <flags>? ∷ [])
     ∷ (t «endoneof» ∷ t semicolon ∷ [])

@@ -26,6 +26,7 @@ struct Told {
 impl Told {
     /// With the zeros past what was written.
     fn filled(mut self, table_len: usize, out_len: usize) -> Self {
+        assert!(self.table.len() <= table_len && self.output.len() <= out_len, "more is written than is lent");
         self.table.resize(table_len, 0);
         self.output.resize(out_len, 0);
         self

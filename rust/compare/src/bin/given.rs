@@ -90,14 +90,16 @@ fn case(line: &str) -> Case {
 /// The sort of a token's class, as the cases name it.
 fn sort(class: u64) -> String {
     const LAST_SIGN: u64 = Kind::Percent as u64;
-    const NAME: u64 = Kind::Word as u64;
+    const FIRST_WORD: u64 = Kind::And as u64;
+    const LAST_WORD: u64 = Kind::Word as u64;
+    const HEX: u64 = Kind::Hex as u64;
     const DECIMAL: u64 = Kind::Decimal as u64;
     const BAD: u64 = Kind::Bad as u64;
     const END: u64 = Kind::End as u64;
     let sort = match class {
         0..=LAST_SIGN => "sign",
-        ..=NAME => "word",
-        ..=DECIMAL => "number",
+        FIRST_WORD..=LAST_WORD => "word",
+        HEX | DECIMAL => "number",
         BAD => "bad",
         END => "end",
         _ => "no class",

@@ -19,6 +19,9 @@ use std::time::{Duration, Instant, SystemTime, UNIX_EPOCH};
 /// The seconds from which on every answer has to be met; the gate's run is as long.
 const WHOLE_RUN: u64 = 60;
 
+/// How long a source that fails is made shorter.
+const SHRINKING: Duration = Duration::from_secs(20);
+
 fn seconds_and_seed() -> Option<(u64, u64)> {
     let mut words = env::args().skip(1);
     let seconds = words.next()?.parse().ok()?;
@@ -130,49 +133,62 @@ fn output_length(source: &[u8], random: &mut Random) -> usize {
     }
 }
 
-/// A shorter source that fails the same check: runs of bytes, then runs of statements are taken out.
-fn shrunk(source: &[u8], check: Check) -> Vec<u8> {
-    let mut least = source.to_vec();
-    loop {
-        let before = least.len();
-        without_bytes(&mut least, check);
-        without_statements(&mut least, check);
-        if least.len() == before {
-            return least;
+/// A source that fails a check, and until when shorter ones are tried.
+struct Shrinking {
+    source: Vec<u8>,
+    check: Check,
+    until: Instant,
+}
+
+impl Shrinking {
+    /// Takes a run out, if the check still fails; answers that.
+    fn take_out(&mut self, start: usize, end: usize) -> bool {
+        if Instant::now() > self.until {
+            return false;
+        }
+        let shorter = [&self.source[..start], &self.source[end..]].concat();
+        let fails = outcome(&shorter, self.check).is_err();
+        if fails {
+            self.source = shorter;
+        }
+        fails
+    }
+
+    fn without_bytes(&mut self) {
+        let mut run = self.source.len().div_ceil(2);
+        while run > 0 {
+            let mut at = 0;
+            while at < self.source.len() {
+                let end = (at + run).min(self.source.len());
+                if !self.take_out(at, end) {
+                    at += run;
+                }
+            }
+            run /= 2;
         }
     }
-}
 
-/// Takes a run out, if the check still fails; answers that.
-fn take_out(source: &mut Vec<u8>, start: usize, end: usize, check: Check) -> bool {
-    let shorter = [&source[..start], &source[end..]].concat();
-    let fails = outcome(&shorter, check).is_err();
-    if fails {
-        *source = shorter;
-    }
-    fails
-}
-
-fn without_bytes(source: &mut Vec<u8>, check: Check) {
-    let mut run = source.len().div_ceil(2);
-    while run > 0 {
-        let mut at = 0;
-        while at < source.len() {
-            let end = (at + run).min(source.len());
-            if !take_out(source, at, end, check) {
-                at += run;
+    fn without_statements(&mut self) {
+        let mut start = 0;
+        while start < self.source.len() {
+            let ends = (start..self.source.len()).rev().filter(|&at| self.source[at] == b';').collect::<Vec<_>>();
+            if !ends.into_iter().any(|end| self.take_out(start, end + 1)) {
+                let next = self.source[start..].iter().position(|&byte| byte == b';');
+                start += next.map_or(self.source.len(), |at| at + 1);
             }
         }
-        run /= 2;
     }
 }
 
-fn without_statements(source: &mut Vec<u8>, check: Check) {
-    let mut start = 0;
-    while start < source.len() {
-        let ends = (start..source.len()).rev().filter(|&at| source[at] == b';').collect::<Vec<_>>();
-        if !ends.into_iter().any(|end| take_out(source, start, end + 1, check)) {
-            start += source[start..].iter().position(|&byte| byte == b';').map_or(source.len(), |at| at + 1);
+/// A shorter source that fails the same check: runs of bytes, then runs of statements are taken out.
+fn shrunk(source: &[u8], check: Check) -> Vec<u8> {
+    let mut least = Shrinking { source: source.to_vec(), check, until: Instant::now() + SHRINKING };
+    loop {
+        let before = least.source.len();
+        least.without_bytes();
+        least.without_statements();
+        if least.source.len() == before {
+            return least.source;
         }
     }
 }

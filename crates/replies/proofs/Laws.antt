@@ -9,8 +9,8 @@ use lib.Dec.{eqb}
 use borrow.Author.Tests.{ne-eqb}
 use Rattle.positions.specs.declared.Position.{Position}
 use Rattle.positions.specs.Positions.{positionAt, lineAt, columnAt}
-use Rattle.answers.specs.Answer.{Answer}
-use Rattle.replies.specs.Replies.{hasPlace, positionOf, replied, readReplied}
+use Rattle.answers.specs.Answer.{Answer, accepts}
+use Rattle.replies.specs.Replies.{hasPlace, positionOf, replied, accepting, readReplied}
 use Rattle.replies.specs.Lines.{Unplaced, GivesLine}
 
 module _ (s : List ℕ) (number place : ℕ) where
@@ -42,6 +42,10 @@ gives-line s number place rows free written =
       unplaced = λ h. let e = position-none s number place (has-none number h) in (ap (λ (p : Position). p .line) e, ap (λ (p : Position). p .column) e);
     }
 
--- an answer in full tells the answer
+-- ---- the answer in full tells the answer
+
 pub read-replied-only : (s : List ℕ) {a b : Answer} → readReplied s a ≡ readReplied s b → a ≡ b
 read-replied-only s e = λ i. record { number = e i .number; place = e i .place; rows = e i .rows; free = e i .free }
+
+pub accepting-only : (s : List ℕ) {rows free : ℕ} {a : Answer} → accepting rows free 0 ≡ readReplied s a → accepts rows free ≡ a
+accepting-only s e = λ i. record { number = e i .number; place = e i .place; rows = e i .rows; free = e i .free }

@@ -3,8 +3,7 @@
 -- Assumes nothing.
 use mathlib.Core.Path.{_≡_, refl, sym, ap, _∙_}
 use mathlib.Core.List.{List}
-use Prim.Native.Nat.{ℕ, zero, suc, _+_, _^_, _≤_, _<_}
-use native.Mathlib.Numerals.{add-one}
+use Prim.Native.Nat.{ℕ, zero, suc, _^_, _≤_, _<_}
 use native.Mathlib.Omega.{arith}
 use lib.ListN.{length}
 use denote.Ref.{RefT, now}
@@ -12,12 +11,12 @@ use Rattle.lexemes.specs.Classes.{BAD}
 use Rattle.lex.specs.Tokens.{tokenAt}
 use Rattle.lexemes.proofs.Lists.{either-less}
 use Rattle.lex.proofs.Progress.{token-moves, past-end, start-is}
-use Rattle.positions.specs.Positions.{lineFeeds, columnPast, lineAt, columnAt, positionAt, positionFrom}
+use Rattle.positions.specs.Positions.{lineFeeds, columnPast, lineAt, columnAt, positionAt}
 use Rattle.positions.proofs.Laws.{position-onward}
-use Rattle.viewer.specs.declared.Place.{Place}
+use Rattle.viewer.specs.declared.Seen.{Seen}
 use Rattle.viewer.specs.declared.Reader.{Reader}
-use Rattle.viewer.specs.Viewed.{atAfter, atOfNth, nthToken, positioned, placeAt, placeFrom, positionedFrom, placeAfter, placeOfNth, tokenOf, movedTo, movedOn, started, afterNth}
-use Rattle.viewer.proofs.Onward.{at-stays, at-past, place-stays, place-past}
+use Rattle.viewer.specs.Viewed.{placeAfter, placeOfNth, nthToken, positioned, seenAt, seenFrom, seenBy, movedTo, movedOn, started, standing, afterNth}
+use Rattle.viewer.proofs.Onward.{place-stays, place-past}
 
 -- a source is shorter than 2^63 bytes, as every slice is
 module _ (s : List ℕ) (short : length s < 2 ^ 63) where
@@ -27,63 +26,53 @@ module _ (s : List ℕ) (short : length s < 2 ^ 63) where
     starts-after =
         either-less at (length s) (λ h. omega (arith, start-is s at h)) (λ h. rw (past-end s at h) inside)
 
-    goes-on : (p : ℕ) → at ≤ p → placeFrom s at (lineAt s at) (columnAt s at) p ≡ placeAt s p
-    unfolding placeFrom placeAt positionAt
-    goes-on p h = let there = position-onward s at p h short in λ i. record { at = p; line = there i .line; column = there i .column }
-
-    pub token-own : positionedFrom s at (lineAt s at) (columnAt s at) ≡ positioned s (tokenAt s at)
-    unfolding positionedFrom positioned placeAt
-    token-own =
-        let there = goes-on (tokenAt s at .start) starts-after in
-        λ i. record { token = tokenAt s at; line = there i .line; column = there i .column }
-
-    pub place-own : placeAfter s at (lineAt s at) (columnAt s at) ≡ placeAt s (atAfter s at)
-    unfolding placeAt
-    place-own =
+    pub goes-after : (at ≤ placeAfter s at) × (placeAfter s at ≤ length s)
+    goes-after =
         either-less (tokenAt s at .class) BAD
-        (λ h.
-        place-past s at (lineAt s at) (columnAt s at) h
-        ∙ goes-on (tokenAt s at .end) (omega (arith, token-moves s at h))
-        ∙ ap (placeAt s) (sym (at-past s at h)))
-        (λ h. place-stays s at (lineAt s at) (columnAt s at) h ∙ ap (placeAt s) (sym (at-stays s at h)))
+        (λ h. omega (arith, place-past s at h, token-moves s at h))
+        (λ h. omega (arith, place-stays s at h))
 
-    pub after-inside : atAfter s at ≤ length s
-    after-inside =
-        either-less (tokenAt s at .class) BAD
-        (λ h. rw (at-past s at h) (token-moves s at h .within))
-        (λ h. rw (at-stays s at h) inside)
+    -- where the line and column are the place's own, so is all that is seen
+    pub seen-own : seenFrom s at (lineAt s at) (columnAt s at) ≡ seenAt s at
+    unfolding seenFrom seenAt positioned positionAt
+    seen-own =
+        let first = position-onward s at (tokenAt s at .start) starts-after short in
+        let past = position-onward s at (placeAfter s at) (goes-after .0) short in
+        λ i.
+        record {
+          token = record { token = tokenAt s at; line = first i .line; column = first i .column };
+          at = placeAfter s at;
+          line = past i .line;
+          column = past i .column;
+        }
 
   -- ---- after n tokens
 
-  pub nth-inside : (n : ℕ) → atOfNth s n ≤ length s
-  unfolding atOfNth
+  pub nth-inside : (n : ℕ) → placeOfNth s n ≤ length s
+  unfolding placeOfNth
   nth-inside zero = omega arith
-  nth-inside (suc n) = after-inside (atOfNth s n) (nth-inside n)
+  nth-inside (suc n) = goes-after (placeOfNth s n) (nth-inside n) .1
 
-  pub nth-place : (n : ℕ) → placeOfNth s n ≡ placeAt s (atOfNth s n)
-  unfolding placeOfNth atOfNth placeAt lineAt columnAt lineFeeds columnPast
-  nth-place zero = refl
-  nth-place (suc n) =
-      ap (λ (p : Place). placeAfter s (p .at) (p .line) (p .column)) (nth-place n) ∙ place-own (atOfNth s n) (nth-inside n)
-
-  -- the reader's n-th token is the source's, with the line and column of its start
-  pub nth-token : (n : ℕ) → let p = placeOfNth s n in positionedFrom s (p .at) (p .line) (p .column) ≡ positioned s (nthToken s n)
-  unfolding nthToken placeAt
-  nth-token n =
-      ap (λ (p : Place). positionedFrom s (p .at) (p .line) (p .column)) (nth-place n) ∙ token-own (atOfNth s n) (nth-inside n)
+  -- what is seen of the n-th token on from its own line and column
+  pub nth-seen : (n at line column : ℕ) → at ≡ placeOfNth s n → line ≡ lineAt s (placeOfNth s n) → column ≡ columnAt s (placeOfNth s n)
+      → (v : Seen) → v ≡ seenFrom s at line column → v ≡ seenAt s (placeOfNth s n)
+  nth-seen n at line column at-is line-is column-is v is =
+      is ∙ (λ i. seenFrom s (at-is i) (line-is i) (column-is i)) ∙ seen-own (placeOfNth s n) (nth-inside n)
 
 -- ---- a reader that `new` made, and that went on n times
 
-started-at : (src : RefT (List ℕ)) (n : ℕ) → afterNth n (started src) ≡ movedTo (started src) (placeOfNth (now src) n)
-unfolding placeOfNth afterNth
-started-at src zero = refl
-started-at src (suc n) = ap movedOn (started-at src n)
+-- it stands at its place with that place's own line and column
+pub started-place : (src : RefT (List ℕ)) → length (now src) < 2 ^ 63 → (n : ℕ) → afterNth n (started src) ≡ standing src (placeOfNth (now src) n)
+unfolding afterNth placeOfNth standing seenAt lineAt columnAt lineFeeds columnPast
+started-place src short zero = refl
+started-place src short (suc n) =
+    ap movedOn (started-place src short n)
+    ∙ ap (movedTo (started src)) (seen-own (now src) short (placeOfNth (now src) n) (nth-inside (now src) short n))
 
--- it stands at its place with that place's own line and column, and gives the n-th token with the line and column of its start
-pub started-place : (src : RefT (List ℕ)) → length (now src) < 2 ^ 63 → (n : ℕ)
-    → afterNth n (started src) ≡ movedTo (started src) (placeAt (now src) (atOfNth (now src) n))
-started-place src short n = started-at src n ∙ ap (movedTo (started src)) (nth-place (now src) short n)
-
+-- and gives the n-th token with the line and column of its start
 pub started-token : (src : RefT (List ℕ)) → length (now src) < 2 ^ 63 → (n : ℕ)
-    → tokenOf (afterNth n (started src)) ≡ positioned (now src) (nthToken (now src) n)
-started-token src short n = ap tokenOf (started-at src n) ∙ nth-token (now src) short n
+    → seenBy (afterNth n (started src)) .token ≡ positioned (now src) (nthToken (now src) n)
+unfolding nthToken standing seenAt
+started-token src short n =
+    ap (λ (r : Reader). seenBy r .token) (started-place src short n)
+    ∙ ap (λ (v : Seen). v .token) (seen-own (now src) short (placeOfNth (now src) n) (nth-inside (now src) short n))

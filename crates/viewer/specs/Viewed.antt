@@ -12,81 +12,68 @@ use Rattle.lex.specs.Tokens.{tokenAt}
 use Rattle.positions.specs.declared.Position.{Position}
 use Rattle.positions.specs.Positions.{lineAt, columnAt, positionFrom}
 use Rattle.viewer.specs.declared.Positioned.{Positioned}
-use Rattle.viewer.specs.declared.Place.{Place}
 use Rattle.viewer.specs.declared.Seen.{Seen}
 use Rattle.viewer.specs.declared.Reader.{Reader}
 
 -- ---- the tokens of a source in their order
 
 -- past a token t that is neither bad nor the end; else the place stays
-unfoldable pub atPast : Token → ℕ → ℕ
-atPast t at = cond (ltb (t .class) BAD) (t .end) at
+unfoldable pub placePast : Token → ℕ → ℕ
+placePast t at = cond (ltb (t .class) BAD) (t .end) at
 
-unfoldable pub atAfter : List ℕ → ℕ → ℕ
-atAfter s at = atPast (tokenAt s at) at
+unfoldable pub placeAfter : List ℕ → ℕ → ℕ
+placeAfter s at = placePast (tokenAt s at) at
 
 -- the place after n tokens
-unfoldable pub atOfNth : List ℕ → ℕ → ℕ
-atOfNth s zero = 0
-atOfNth s (suc n) = atAfter s (atOfNth s n)
+unfoldable pub placeOfNth : List ℕ → ℕ → ℕ
+placeOfNth s zero = 0
+placeOfNth s (suc n) = placeAfter s (placeOfNth s n)
 
 -- the tokens of a source, counted from 0; a bad token and the end repeat
 unfoldable pub nthToken : List ℕ → ℕ → Token
-nthToken s n = tokenAt s (atOfNth s n)
+nthToken s n = tokenAt s (placeOfNth s n)
+
+-- ---- with lines and columns
 
 -- a token with the line and column of its start
 unfoldable pub positioned : List ℕ → Token → Positioned
 positioned s t = record { token = t; line = lineAt s (t .start); column = columnAt s (t .start) }
 
--- a place with its own line and column
-unfoldable pub placeAt : List ℕ → ℕ → Place
-placeAt s at = record { at = at; line = lineAt s at; column = columnAt s at }
+-- what there is to see at a place: the token, and the place after it
+unfoldable pub seenAt : List ℕ → ℕ → Seen
+seenAt s at =
+    let next = placeAfter s at in
+    record { token = positioned s (tokenAt s at); at = next; line = lineAt s next; column = columnAt s next }
 
--- ---- what a reader gives at a place, whatever line and column it keeps
-
--- the place p from `at` on, which has that line and column
-unfoldable pub placeFrom : List ℕ → ℕ → ℕ → ℕ → ℕ → Place
-placeFrom s at line column p =
-    let q = positionFrom (record { line = line; column = column }) s at p in
-    record { at = p; line = q .line; column = q .column }
-
-unfoldable pub positionedFrom : List ℕ → ℕ → ℕ → ℕ → Positioned
-positionedFrom s at line column =
-    let t = tokenAt s at in
-    let p = placeFrom s at line column (t .start) in
-    record { token = t; line = p .line; column = p .column }
-
--- past the token; at a bad token and at the end the place stays
-unfoldable pub placeAfter : List ℕ → ℕ → ℕ → ℕ → Place
-placeAfter s at line column =
-    let t = tokenAt s at in
-    cond (ltb (t .class) BAD) (placeFrom s at line column (t .end)) (record { at = at; line = line; column = column })
-
--- the token, and the place after it
+-- the same from a place `at` that is said to have some line and column: both numbers are counted on from these
 unfoldable pub seenFrom : List ℕ → ℕ → ℕ → ℕ → Seen
 seenFrom s at line column =
-    let p = placeAfter s at line column in
-    record { token = positionedFrom s at line column; at = p .at; line = p .line; column = p .column }
-
--- the place after n tokens, from the start on
-unfoldable pub placeOfNth : List ℕ → ℕ → Place
-placeOfNth s zero = record { at = 0; line = 1; column = 1 }
-placeOfNth s (suc n) = let p = placeOfNth s n in placeAfter s (p .at) (p .line) (p .column)
+    let t = tokenAt s at in
+    let next = placeAfter s at in
+    let said : Position = record { line = line; column = column } in
+    let first = positionFrom said s at (t .start) in
+    let past = positionFrom said s at next in
+    record { token = record { token = t; line = first .line; column = first .column }; at = next; line = past .line; column = past .column }
 
 -- ---- the same of a reader
 
-abbrev pub tokenOf : Reader → Positioned
-tokenOf r = positionedFrom (now (r .src)) (r .at) (r .line) (r .column)
+abbrev pub seenBy : Reader → Seen
+seenBy r = seenFrom (now (r .src)) (r .at) (r .line) (r .column)
 
-abbrev pub movedTo : Reader → Place → Reader
-movedTo r p = record { src = r .src; at = p .at; line = p .line; column = p .column }
+abbrev pub movedTo : Reader → Seen → Reader
+movedTo r v = record { src = r .src; at = v .at; line = v .line; column = v .column }
 
+-- past the token that it stands before
 abbrev pub movedOn : Reader → Reader
-movedOn r = movedTo r (placeAfter (now (r .src)) (r .at) (r .line) (r .column))
+movedOn r = movedTo r (seenBy r)
 
 -- as `new` makes it
 abbrev pub started : RefT (List ℕ) → Reader
 started src = record { src = src; at = 0; line = 1; column = 1 }
+
+-- at a place, with that place's own line and column
+unfoldable pub standing : RefT (List ℕ) → ℕ → Reader
+standing src at = record { src = src; at = at; line = lineAt (now src) at; column = columnAt (now src) at }
 
 -- a reader that went on n times
 unfoldable pub afterNth : ℕ → Reader → Reader

@@ -1,7 +1,7 @@
-// The viewer's token reader with lines and columns: a struct that keeps the lent source, a place in it and that place's line and column, and
-// thin functions over it. The work is done by `positioned_from` and `place_after`, on a slice and numbers: each reads only from the kept place on.
+// The viewer's token reader (document 01, The shape of some places): a struct that keeps the lent source, a place in it and that place's line
+// and column (W-201), and thin functions over it. The work is done by `view`, on a slice and numbers: it reads only from the kept place on.
 ghost use mathlib.Core.Path.{_≡_};
-ghost use Rattle.viewer.specs.Viewed.{positionedFrom, placeAfter, seenFrom, nthToken, positioned, tokenOf, movedOn};
+ghost use Rattle.viewer.specs.Viewed.{seenFrom, nthToken, positioned, started, seenBy, movedOn};
 use lex::Token;
 use lexemes::classes::BAD;
 use positions::Position;
@@ -20,40 +20,41 @@ pub struct Positioned {
     pub column: usize,
 }
 
-// A place with its line and column.
-pub struct Place {
+// A token, and the place past it with its line and column.
+pub struct Seen {
+    pub token: Positioned,
     pub at: usize,
     pub line: usize,
     pub column: usize,
 }
 
-// The token that stands first from `at` on, where `at` has that line and column.
-pub fn positioned_from(src: &[u8], at: usize, line: usize, column: usize) -> Positioned
-    ensures { λ r. ⌜ r ≡ positionedFrom (now (src .entry)) at line column ⌝ }
+// What a reader at the place `at` gives, where `at` has that line and column: the token that stands first from there on, and the place at
+// which to go on, past that token. At a bad token and at the end that is `at`.
+pub fn view(src: &[u8], at: usize, line: usize, column: usize) -> Seen
+    ensures { λ s. ⌜ s ≡ seenFrom (now (src .entry)) at line column ⌝ }
 {
     let t = lex::token_at(src, at);
     let p = positions::onward(src, at, t.start, Position { line, column });
-    Positioned {
+    let token = Positioned {
         token: t,
         line: p.line,
         column: p.column,
-    }
-}
-
-// The place past that token; at a bad token and at the end, `at`.
-pub fn place_after(src: &[u8], at: usize, line: usize, column: usize) -> Place
-    ensures { λ r. ⌜ r ≡ placeAfter (now (src .entry)) at line column ⌝ }
-{
-    let t = lex::token_at(src, at);
+    };
     if t.class < BAD {
-        let p = positions::onward(src, at, t.end, Position { line, column });
-        return Place {
+        let q = positions::onward(src, t.start, t.end, p);
+        return Seen {
+            token,
             at: t.end,
-            line: p.line,
-            column: p.column,
+            line: q.line,
+            column: q.column,
         };
     }
-    Place { at, line, column }
+    Seen {
+        token,
+        at,
+        line,
+        column,
+    }
 }
 
 // A reader at the start of a source.
@@ -70,50 +71,38 @@ pub fn new<'a>(src: &'a [u8]) -> Reader<'a>
 
 // The token that the reader stands before.
 pub fn token<'a>(r: Reader<'a>) -> Positioned
-    ensures { λ t. ⌜ t ≡ tokenOf (r .entry) ⌝ }
+    ensures { λ t. ⌜ t ≡ seenBy (r .entry) .token ⌝ }
 {
-    positioned_from(r.src, r.at, r.line, r.column)
+    let s = view(r.src, r.at, r.line, r.column);
+    s.token
 }
 
 // The reader past that token; at a bad token and at the end its place stays.
 pub fn advanced<'a>(r: Reader<'a>) -> Reader<'a>
     ensures { λ q. ⌜ q ≡ movedOn (r .entry) ⌝ }
 {
-    let p = place_after(r.src, r.at, r.line, r.column);
+    let s = view(r.src, r.at, r.line, r.column);
     Reader {
         src: r.src,
-        at: p.at,
-        line: p.line,
-        column: p.column,
+        at: s.at,
+        line: s.line,
+        column: s.column,
     }
 }
 
-// The token at a place, and the reader's place past it.
-pub struct Seen {
-    pub token: Positioned,
-    pub at: usize,
-    pub line: usize,
-    pub column: usize,
-}
-
-// What a reader at a place gives. Its parameters are plain: whoever calls it needs no walk by hand.
-pub fn view(src: &[u8], at: usize, line: usize, column: usize) -> Seen
-    ensures { λ s. ⌜ s ≡ seenFrom (now (src .entry)) at line column ⌝ }
+// The token that the reader stands before; the reader is then past it, and at a bad token and at the end where it was.
+pub fn next<'s, 'a>(r: &'s mut Reader<'a>) -> Positioned
+    ensures { λ t. ⌜ (t ≡ seenBy (now (r .entry)) .token) × (now (r .exit) ≡ movedOn (now (r .entry))) ⌝ }
 {
-    let r = Reader {
-        src,
-        at,
-        line,
-        column,
-    };
-    let t = token(r);
-    let q = advanced(r);
-    Seen {
-        token: t,
-        at: q.at,
-        line: q.line,
-        column: q.column,
-    }
+    let src = r.src;
+    let at = r.at;
+    let line = r.line;
+    let column = r.column;
+    let s = view(src, at, line, column);
+    r.at = s.at;
+    r.line = s.line;
+    r.column = s.column;
+    s.token
 }
 
 // The n-th token of a source, counted from 0, with its own line and column; a bad token and the end repeat.
@@ -134,19 +123,4 @@ pub fn nth_token(src: &[u8], n: usize) -> Positioned
     let s = view(src, at, line, column);
     let t = s.token;
     t
-}
-
-// The token that the reader stands before; the reader is then past it, and at a bad token and at the end where it was.
-pub fn next<'s, 'a>(r: &'s mut Reader<'a>) -> Positioned
-    ensures { λ t. ⌜ (t ≡ tokenOf (now (r .entry))) × (now (r .exit) ≡ movedOn (now (r .entry))) ⌝ }
-{
-    let src = r.src;
-    let at = r.at;
-    let line = r.line;
-    let column = r.column;
-    let p = place_after(src, at, line, column);
-    r.at = p.at;
-    r.line = p.line;
-    r.column = p.column;
-    positioned_from(src, at, line, column)
 }

@@ -1,17 +1,24 @@
--- The reader goes onward at each token that is neither bad nor the end, and stays at a bad token and at the end.
+-- The reader goes onward at each token that is neither bad nor the end, and stays at a bad token and at the end; and what `view` makes there of
+-- what the lexer and the counting gave it, whatever line and column are kept.
 -- Assumes nothing.
-use mathlib.Core.Path.{_≡_, ap, _∙_}
+use mathlib.Core.Path.{_≡_, sym, ap, _∙_}
 use mathlib.Core.Bool.{Bool, cond}
 use mathlib.Core.List.{List}
-use Prim.Native.Nat.{ℕ, _+_, _≤_, _<_}
+use Prim.Native.Nat.{ℕ, _+_, _^_, _≤_, _<_}
 use native.Mathlib.Numerals.{add-one}
 use native.Mathlib.Omega.{arith}
 use lib.ListN.{length}
 use borrow.Author.Tests.{lt-ltb, le-ltb}
+use Rattle.lex.specs.declared.Token.{Token}
 use Rattle.lexemes.specs.Classes.{BAD}
 use Rattle.lex.specs.Tokens.{tokenAt}
 use Rattle.lex.proofs.Progress.{token-moves}
-use Rattle.viewer.specs.Viewed.{placePast, placeAfter, placeOfNth, nthToken}
+use Rattle.positions.specs.declared.Position.{Position}
+use Rattle.positions.specs.Positions.{positionFrom}
+use Rattle.positions.proofs.Laws.{position-twice, position-same}
+use Rattle.viewer.specs.declared.Positioned.{Positioned}
+use Rattle.viewer.specs.declared.Seen.{Seen}
+use Rattle.viewer.specs.Viewed.{placePast, placeAfter, placeOfNth, nthToken, seenFrom}
 
 pub place-stays : (s : List ℕ) (at : ℕ) → BAD ≤ tokenAt s at .class → placeAfter s at ≡ at
 unfolding placeAfter placePast
@@ -34,3 +41,59 @@ onward s n h = omega (arith, token-moves s (placeOfNth s n) h, next-place s n, p
 pub repeats : (s : List ℕ) (n : ℕ) → BAD ≤ nthToken s n .class → nthToken s (n + 1) ≡ nthToken s n
 unfolding nthToken
 repeats s n h = ap (tokenAt s) (next-place s n ∙ place-stays s (placeOfNth s n) h)
+
+-- ---- what `view` makes of the token t and the position p of its start
+
+module _ (s : List ℕ) (at line column : ℕ) (t : Token) (p : Position) (is : t ≡ tokenAt s at) where
+  abbrev said : Position
+  said = record { line = line; column = column }
+
+  abbrev first : Positioned
+  first = record { token = t; line = p .line; column = p .column }
+
+  module _ (starts : p ≡ positionFrom said s at (t .start)) where
+    starts-at : p ≡ positionFrom said s at (tokenAt s at .start)
+    starts-at = starts ∙ ap (λ (u : Token). positionFrom said s at (u .start)) is
+
+    class-is : t .class ≡ tokenAt s at .class
+    class-is = ap (λ (u : Token). u .class) is
+
+    -- the token has bytes: q is the position of its end, counted on from its start
+    pub seen-past : (q : Position) → t .class < BAD → q ≡ positionFrom p s (t .start) (t .end)
+        → _≡_ {A = Seen} (record { token = first; at = t .end; line = q .line; column = q .column }) (seenFrom s at line column)
+    unfolding seenFrom
+    seen-past q some goes =
+        let u = tokenAt s at in
+        let more : u .class < BAD = omega (arith, class-is) in
+        let moves = token-moves s at more in
+        let past = sym (place-past s at more) in
+        let ends = ap (λ (w : Token). w .end) is ∙ past in
+        let there =
+          goes
+          ∙ (λ i. positionFrom (starts-at i) s (is i .start) (is i .end))
+          ∙ position-twice s at (u .start) (u .end) (moves .after) (omega (arith, moves .some)) said
+          ∙ ap (positionFrom said s at) past
+        in
+        λ i.
+        record {
+          token = record { token = is i; line = starts-at i .line; column = starts-at i .column };
+          at = ends i;
+          line = there i .line;
+          column = there i .column;
+        }
+
+    -- a bad token, or the end
+    pub seen-stays : BAD ≤ t .class → line < 2 ^ 64 → column < 2 ^ 64
+        → _≡_ {A = Seen} (record { token = first; at = at; line = line; column = column }) (seenFrom s at line column)
+    unfolding seenFrom
+    seen-stays none fits-line fits-column =
+        let more : BAD ≤ tokenAt s at .class = omega (arith, class-is) in
+        let stays = sym (place-stays s at more) in
+        let there = sym (position-same s at said fits-line fits-column) ∙ ap (positionFrom said s at) stays in
+        λ i.
+        record {
+          token = record { token = is i; line = starts-at i .line; column = starts-at i .column };
+          at = stays i;
+          line = there i .line;
+          column = there i .column;
+        }

@@ -33,7 +33,8 @@ quickOf e = cond (ltb (e .number) 6) (e .number * 4294967296 + e .place % 429496
 abbrev pub cellsOf : Expected → List ℕ → List ℕ
 cellsOf e cells = cond (eqb (e .number) 0) (take (e .rows * ROW) cells) []
 
--- reading the source s into a table of n numbers gives the expected reply, line and column too (W-201), and these cells and then zeros; the quick check agrees with it
+-- reading the source s into a table of n numbers gives the expected reply, with line and column (W-201), and these cells and then zeros;
+-- the quick check agrees with it
 pub record Agrees (s : List ℕ) (n : ℕ) (e : Expected) (cells : List ℕ) : Type 0 where
   pub answer : readReply s n ≡ replyOf e
   pub table : readTable s n ≡ padded cells n

@@ -42,6 +42,15 @@ pub repeats : (s : List ℕ) (n : ℕ) → BAD ≤ nthToken s n .class → nthTo
 unfolding nthToken
 repeats s n h = ap (tokenAt s) (next-place s n ∙ place-stays s (placeOfNth s n) h)
 
+-- what is seen at a place, whatever line and column it is said to have: at a token that is neither bad nor the end the place grows
+pub seen-moves : (s : List ℕ) (at line column : ℕ) (v : Seen) → v ≡ seenFrom s at line column → v .token .token .class < BAD
+    → (at < v .at) × (v .at ≤ length s)
+unfolding seenFrom
+seen-moves s at line column v is h =
+    let some : tokenAt s at .class < BAD = omega (arith, ap (λ (w : Seen). w .token .token .class) is) in
+    let next = ap (λ (w : Seen). w .at) is ∙ place-past s at some in
+    omega (arith, next, token-moves s at some)
+
 -- ---- what `view` makes of the token t and the position p of its start
 
 module _ (s : List ℕ) (at line column : ℕ) (t : Token) (p : Position) (is : t ≡ tokenAt s at) where

@@ -101,31 +101,32 @@ module _ (s : List ℕ) (at : ℕ) (some : tokenAt s at .class < BAD) where
 
   -- ---- an editor that goes on at the token's end, with the token's line and its column plus its length
 
+  past-along : (p : Position) → let first = positionFrom p s at (t .start) in
+      positionFrom p s at (placeAfter s at) ≡ record { line = first .line % 2 ^ 64; column = (first .column + (t .end - t .start)) % 2 ^ 64 }
+  past-along p =
+      let moves = token-moves s at some in
+      ap (positionFrom p s at) (place-past s at some)
+      ∙ sym (position-twice s at (t .start) (t .end) (moves .after) (omega (arith, moves .some)) p)
+      ∙ token-along (positionFrom p s at (t .start))
+
   line-wrapped : (p : Position) → positionFrom p s at (t .start) .line % 2 ^ 64 ≡ positionFrom p s at (t .start) .line
   unfolding positionFrom
   line-wrapped p = mod-mod _ (2 ^ 64)
 
   -- it goes on as the reader does, whatever line and column were said
-  pub seen-along : (line column : ℕ)
-      → (seenFrom s at line column .at ≡ t .end)
-      × (seenFrom s at line column .line ≡ seenFrom s at line column .token .line)
-      × (seenFrom s at line column .column ≡ (seenFrom s at line column .token .column + (t .end - t .start)) % 2 ^ 64)
+  pub seen-along : (line column : ℕ) → let v = seenFrom s at line column in
+      (v .at ≡ t .end) × (v .line ≡ v .token .line) × (v .column ≡ (v .token .column + (t .end - t .start)) % 2 ^ 64)
   unfolding seenFrom
   seen-along line column =
-      let said : Position = record { line = line; column = column } in
-      let moves = token-moves s at some in
-      let first = positionFrom said s at (t .start) in
-      let past : positionFrom said s at (placeAfter s at) ≡ record { line = first .line % 2 ^ 64; column = (first .column + (t .end - t .start)) % 2 ^ 64 } =
-        ap (positionFrom said s at) (place-past s at some)
-        ∙ sym (position-twice s at (t .start) (t .end) (moves .after) (omega (arith, moves .some)) said)
-        ∙ token-along first
-      in
-      (place-past s at some, ap (λ (p : Position). p .line) past ∙ line-wrapped said, ap (λ (p : Position). p .column) past)
+      let past = past-along (record { line = line; column = column }) in (
+        place-past s at some,
+        ap (λ (p : Position). p .line) past ∙ line-wrapped (record { line = line; column = column }),
+        ap (λ (p : Position). p .column) past,
+      )
 
   -- from a place within the source with its own line and column, it comes to the token's end with that place's own
-  pub own-along : length s < 2 ^ 63 → at ≤ length s
-      → (seenFrom s at (lineAt s at) (columnAt s at) .token .line ≡ lineAt s (t .end))
-      × (seenFrom s at (lineAt s at) (columnAt s at) .token .column + (t .end - t .start) ≡ columnAt s (t .end))
+  pub own-along : length s < 2 ^ 63 → at ≤ length s → let v = seenFrom s at (lineAt s at) (columnAt s at) in
+      (v .token .line ≡ lineAt s (t .end)) × (v .token .column + (t .end - t .start) ≡ columnAt s (t .end))
   unfolding seenAt positioned
   own-along short inside =
       let own = seen-own s short at inside in (

@@ -67,26 +67,28 @@ module _ (s : List ℕ) (at line column : ℕ) (t : Token) (p : Position) (is : 
     class-is : t .class ≡ tokenAt s at .class
     class-is = ap (λ (u : Token). u .class) is
 
-    -- the token has bytes: q is the position of its end, counted on from its start
+    -- the position of the token's end, counted on from its start's, is that counted on from `at`
+    ends-at : (q : Position) → tokenAt s at .class < BAD → q ≡ positionFrom p s (t .start) (t .end) → q ≡ positionFrom said s at (placeAfter s at)
+    ends-at q more goes =
+        let u = tokenAt s at in
+        let moves = token-moves s at more in
+        goes
+        ∙ (λ i. positionFrom (starts-at i) s (is i .start) (is i .end))
+        ∙ position-twice s at (u .start) (u .end) (moves .after) (omega (arith, moves .some)) said
+        ∙ ap (positionFrom said s at) (sym (place-past s at more))
+
+    -- the token has bytes, and q is the position of its end
     pub seen-past : (q : Position) → t .class < BAD → q ≡ positionFrom p s (t .start) (t .end)
         → _≡_ {A = Seen} (record { token = first; at = t .end; line = q .line; column = q .column }) (seenFrom s at line column)
     unfolding seenFrom
     seen-past q some goes =
-        let u = tokenAt s at in
-        let more : u .class < BAD = omega (arith, class-is) in
-        let moves = token-moves s at more in
-        let past = sym (place-past s at more) in
-        let ends = ap (λ (w : Token). w .end) is ∙ past in
-        let there =
-          goes
-          ∙ (λ i. positionFrom (starts-at i) s (is i .start) (is i .end))
-          ∙ position-twice s at (u .start) (u .end) (moves .after) (omega (arith, moves .some)) said
-          ∙ ap (positionFrom said s at) past
-        in
+        let more : tokenAt s at .class < BAD = omega (arith, class-is) in
+        let end-is = ap (λ (u : Token). u .end) is ∙ sym (place-past s at more) in
+        let there = ends-at q more goes in
         λ i.
         record {
           token = record { token = is i; line = starts-at i .line; column = starts-at i .column };
-          at = ends i;
+          at = end-is i;
           line = there i .line;
           column = there i .column;
         }

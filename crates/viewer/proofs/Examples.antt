@@ -32,7 +32,7 @@ lines = (refl, refl, refl)
 
 -- a column is a byte: a tab is one, a character of two bytes is two
 pub columns : (viewed "\t\tx" (0 ∷ 1 ∷ []) ≡ at class.NAME 2 3 1 3 ∷ at class.END 3 3 1 4 ∷ [])
-    × (viewed "//\u{c3}\u{a9} \n \u{c3}" (0 ∷ []) ≡ at class.BAD 7 7 2 2 ∷ [])
+    × (viewed "//Ã© \n Ã" (0 ∷ []) ≡ at class.BAD 7 7 2 2 ∷ [])
 unfolding signs reserved run all same placeAmong isGap inComment gap isHex wordClass wordToken signClass signToken tokenFrom tokenAfterGap tokenAt placePast placeAfter placeOfNth nthToken lineFeeds columnPast lineAt columnAt positioned
 columns = (refl, refl)
 

@@ -42,6 +42,15 @@ pub repeats : (s : List ℕ) (n : ℕ) → BAD ≤ nthToken s n .class → nthTo
 unfolding nthToken
 repeats s n h = ap (tokenAt s) (next-place s n ∙ place-stays s (placeOfNth s n) h)
 
+-- what is seen at a place, whatever line and column it is said to have: at a token that is neither bad nor the end the place grows
+pub seen-moves : (s : List ℕ) (at line column : ℕ) (v : Seen) → v ≡ seenFrom s at line column → v .token .token .class < BAD
+    → (at < v .at) × (v .at ≤ length s)
+unfolding seenFrom
+seen-moves s at line column v is h =
+    let some : tokenAt s at .class < BAD = omega (arith, ap (λ (w : Seen). w .token .token .class) is) in
+    let next = ap (λ (w : Seen). w .at) is ∙ place-past s at some in
+    omega (arith, next, token-moves s at some)
+
 -- ---- what `view` makes of the token t and the position p of its start
 
 module _ (s : List ℕ) (at line column : ℕ) (t : Token) (p : Position) (is : t ≡ tokenAt s at) where
@@ -58,26 +67,28 @@ module _ (s : List ℕ) (at line column : ℕ) (t : Token) (p : Position) (is : 
     class-is : t .class ≡ tokenAt s at .class
     class-is = ap (λ (u : Token). u .class) is
 
-    -- the token has bytes: q is the position of its end, counted on from its start
+    -- the position of the token's end, counted on from its start's, is that counted on from `at`
+    ends-at : (q : Position) → tokenAt s at .class < BAD → q ≡ positionFrom p s (t .start) (t .end) → q ≡ positionFrom said s at (placeAfter s at)
+    ends-at q more goes =
+        let u = tokenAt s at in
+        let moves = token-moves s at more in
+        goes
+        ∙ (λ i. positionFrom (starts-at i) s (is i .start) (is i .end))
+        ∙ position-twice s at (u .start) (u .end) (moves .after) (omega (arith, moves .some)) said
+        ∙ ap (positionFrom said s at) (sym (place-past s at more))
+
+    -- the token has bytes, and q is the position of its end
     pub seen-past : (q : Position) → t .class < BAD → q ≡ positionFrom p s (t .start) (t .end)
         → _≡_ {A = Seen} (record { token = first; at = t .end; line = q .line; column = q .column }) (seenFrom s at line column)
     unfolding seenFrom
     seen-past q some goes =
-        let u = tokenAt s at in
-        let more : u .class < BAD = omega (arith, class-is) in
-        let moves = token-moves s at more in
-        let past = sym (place-past s at more) in
-        let ends = ap (λ (w : Token). w .end) is ∙ past in
-        let there =
-          goes
-          ∙ (λ i. positionFrom (starts-at i) s (is i .start) (is i .end))
-          ∙ position-twice s at (u .start) (u .end) (moves .after) (omega (arith, moves .some)) said
-          ∙ ap (positionFrom said s at) past
-        in
+        let more : tokenAt s at .class < BAD = omega (arith, class-is) in
+        let end-is = ap (λ (u : Token). u .end) is ∙ sym (place-past s at more) in
+        let there = ends-at q more goes in
         λ i.
         record {
           token = record { token = is i; line = starts-at i .line; column = starts-at i .column };
-          at = ends i;
+          at = end-is i;
           line = there i .line;
           column = there i .column;
         }

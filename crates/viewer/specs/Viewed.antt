@@ -45,7 +45,7 @@ seenAt s at =
     let next = placeAfter s at in
     record { token = positioned s (tokenAt s at); at = next; line = lineAt s next; column = columnAt s next }
 
--- the same from a place `at` that is said to have some line and column: both numbers are counted on from these
+-- the same from a place `at` that is said to have some line and column: these are counted on from, whatever they are, and wrap at 2^64
 unfoldable pub seenFrom : List ℕ → ℕ → ℕ → ℕ → Seen
 seenFrom s at line column =
     let t = tokenAt s at in

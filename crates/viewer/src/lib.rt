@@ -1,7 +1,7 @@
 // The viewer's token reader (document 01, The shape of some places): a struct that keeps the lent source, a place in it and that place's line
 // and column (W-201), and thin functions over it. The work is done by `view`, on a slice and numbers: it reads only from the kept place on.
 ghost use mathlib.Core.Path.{_≡_};
-ghost use Rattle.viewer.specs.Viewed.{seenFrom, nthToken, positioned, started, seenBy, movedOn};
+ghost use Rattle.viewer.specs.Viewed.{seenFrom, nthToken, positioned, seenBy, movedOn};
 use lex::Token;
 use lexemes::classes::BAD;
 use positions::Position;

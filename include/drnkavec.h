@@ -1,6 +1,7 @@
 /* Drnkavec: a proved reader of UEFI VFR set-up text.
  *
- * Numbers, codes and limits are those of document 01, "VFR sources to rows and resolved text".
+ * Refusal numbers, rows, codes and limits are those of document 01, "VFR sources to rows and resolved text"; lines,
+ * columns and the 0 in all that is lent past a result are those of document 02, the change requests (W-201).
  * The library is target/staticlib/libface.a, which `rt staticlib face` writes; it is for Linux on x86-64.
  *
  * Every function takes every input. It reads the source without changing it, writes nowhere but to the
@@ -31,6 +32,8 @@ enum {
 };
 
 /* ---- Refusal numbers, in the order of checking ---- */
+
+/* Each has the line and column of its place, but for 1, 6 and 13, whose place is always 0. */
 
 enum {
     VFR_ACCEPTED = 0,
@@ -124,35 +127,96 @@ enum {
     VFR_DEFAULT_WRITTEN = 256    /* of a checkbox or numeric that writes `default` */
 };
 
-/* ---- Answers: the numbers of a lent answer, written as far as it has room ---- */
+/* ---- Answers ---- */
 
+/* One layout for every call. Every number lent is written: a short answer gets the first of these, and what a longer
+ * one has past them is 0. */
 enum {
-    VFR_ANSWER_NUMBER = 0,  /* VFR_ACCEPTED or a refusal number */
-    VFR_ANSWER_PLACE = 1,   /* byte in the source, from 0 */
-    VFR_ANSWER_ROWS = 2,    /* row count, or the need at 6 and 13; 0 on other refusals */
-    VFR_ANSWER_FREE = 3,    /* how many of 1 to 65,535 no question bears; 0 on a refusal */
-    VFR_ANSWER_BYTES = 4,   /* bytes of the resolved text; resolving alone; 0 on a refusal */
-    VFR_READ_ANSWER = 4,    /* numbers of a reading's answer */
-    VFR_RESOLVE_ANSWER = 5  /* numbers of a resolving's answer */
+    VFR_ANSWER_NUMBER = 0,   /* VFR_ACCEPTED or a refusal number */
+    VFR_ANSWER_PLACE = 1,    /* of a refusal: byte in the source, from 0; 0 if the source is accepted */
+    VFR_ANSWER_ROWS = 2,     /* row count, or the need at 6 and 13; 0 on other refusals */
+    VFR_ANSWER_FREE = 3,     /* how many of 1 to 65,535 no question bears; 0 on a refusal */
+    VFR_ANSWER_LINE = 4,     /* of the place, from 1: one more than the LF bytes before it */
+    VFR_ANSWER_COLUMN = 5,   /* of the place, from 1: one more than the bytes since the last LF or the start. Line and
+                                column are 0 if the source is accepted, and at 1, 6 and 13 */
+    VFR_ANSWER_WRITTEN = 6,  /* bytes of the resolved text; 0 from reading and on a refusal */
+    VFR_ANSWER = 7           /* numbers of an answer */
+};
+
+/* ---- Tokens ---- */
+
+/* The numbers that vfr_token gives. Every number lent is written, as in an answer. */
+enum {
+    VFR_SEEN_CLASS = 0,   /* see below */
+    VFR_SEEN_START = 1,   /* byte in the source, from 0 */
+    VFR_SEEN_END = 2,     /* one past its last byte; a bad token and the end have none, so that it is the start */
+    VFR_SEEN_LINE = 3,    /* of the start */
+    VFR_SEEN_COLUMN = 4,  /* of the start */
+    VFR_SEEN_NEXT = 5,    /* the place at which to go on: the token's end; of a bad token and the end, `at` as it was */
+    VFR_SEEN_LAST = 6,    /* 1 if there is no further token (this is a bad one or the end), else 0 */
+    VFR_SEEN = 7          /* numbers of a token */
+};
+
+/* Classes. The 22 signs have the numbers 0 to 21 in document 01's order,
+ *     { } ( ) , ; = | & == != < <= > >= << >> + - * / %
+ * and the 50 reserved words 22 to 71 in the order of their bytes:
+ *     AND DEFAULT FALSE INTERACTIVE NOT ONE ONES OR READ_ONLY RESET_REQUIRED STRING_TOKEN TRUE UNDEFINED ZERO
+ *     checkbox default disableif endcheckbox endform endformset endif endnumeric endoneof endrule flags form formid
+ *     formset goto grayoutif guid help label maximum minimum name numeric oneof option prompt questionid questionref
+ *     rule ruleref step subtitle suppressif text title value */
+enum {
+    VFR_TOKEN_SIGN = 0,       /* the first sign */
+    VFR_TOKEN_RESERVED = 22,  /* the first reserved word */
+    VFR_TOKEN_NAME = 72,      /* a word that is not reserved */
+    VFR_TOKEN_HEX = 73,       /* a number with 0x */
+    VFR_TOKEN_DECIMAL = 74,   /* a number without */
+    VFR_TOKEN_BAD = 75,       /* what is no token: refusal 2 */
+    VFR_TOKEN_END = 76        /* the end of the source */
 };
 
 /* ---- Functions ---- */
 
-/* Stages 1 to 5 alone: the refusal number times 2^32 plus the place, or 0. */
+/* Stages 1 to 5 alone: the refusal number times 2^32 plus the place, or 0. No line and column. */
 uint64_t vfr_quick_check(const uint8_t *src, size_t src_len);
 
-/* Reads a source into a table of table_len numbers, so table_len / VFR_COLUMNS rows. If it is accepted, the rows
- * stand at the start of the table and the rest is 0; on a refusal all of the table is 0. A source never has more
- * rows than bytes, so src_len * VFR_COLUMNS numbers are always enough. */
+/* Reads a source into a table of table_len numbers, so table_len / VFR_COLUMNS rows. Afterwards
+ * - the table holds the rows at its start and 0 past them if the source is accepted; on a refusal all of it is 0;
+ * - the answer holds the numbers above, of which VFR_ANSWER_WRITTEN is 0, and 0 past them.
+ * A source never has more rows than bytes, so src_len * VFR_COLUMNS numbers are always enough. */
 void vfr_read(const uint8_t *src, size_t src_len, uint64_t *table, size_t table_len, uint64_t *answer,
               size_t answer_len);
 
-/* ---- Resolving ---- */
-
-/* Reads as vfr_read does, and writes the resolved text to the output; past the text the output is 0.
- * On a refusal all of the table and of the output is 0. */
+/* Reads as vfr_read does, and writes the resolved text. Afterwards
+ * - the table holds what vfr_read leaves there; if the output is too short (13), all of it is 0;
+ * - the output holds the text at its start and 0 past it if the source is accepted; on a refusal all of it is 0;
+ * - the answer holds the numbers above, and 0 past them. */
 void vfr_resolve(const uint8_t *src, size_t src_len, uint64_t *table, size_t table_len, uint8_t *out,
                  size_t out_len, uint64_t *answer, size_t answer_len);
+
+/* The token that stands first from the place `at` on, after blanks and comments, where `at` has that line and column.
+ * Afterwards the token holds the numbers above, and 0 past them. Line and column are counted on from those given over
+ * the bytes between `at` and the token's start, and wrap at 2^64; they are the token's own if those given are the
+ * place's own. A place past the length counts as the length: the token is then the end, with line and column as given.
+ *
+ * A token holds no LF. So an editor walks a whole source, in time that grows as its length does, by
+ *
+ *     uint64_t token[VFR_SEEN];
+ *     size_t at = 0, line = 1, column = 1;
+ *
+ *     for (;;) {
+ *         vfr_token(src, src_len, at, line, column, token, VFR_SEEN);
+ *         ...
+ *         if (token[VFR_SEEN_LAST] == 1) {
+ *             break;
+ *         }
+ *         at = token[VFR_SEEN_NEXT];
+ *         line = token[VFR_SEEN_LINE];
+ *         column = token[VFR_SEEN_COLUMN] + (token[VFR_SEEN_END] - token[VFR_SEEN_START]);
+ *     }
+ *
+ * At a bad token and at the end place, line and column stay as they are: each further call gives the same. */
+void vfr_token(const uint8_t *src, size_t src_len, size_t at, size_t line, size_t column, uint64_t *token,
+               size_t token_len);
 
 #ifdef __cplusplus
 }

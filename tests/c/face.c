@@ -27,8 +27,12 @@ static void check(const char *what, bool good)
 
 /* ---- What is lent: each buffer holds something before a call, and has a guard past its end ---- */
 
+#define MOST_ANSWER (VFR_ANSWER + 2)
+#define MOST_TOKEN (VFR_SEEN + 2)
+
 static uint64_t table[NUMBERS + 1];
-static uint64_t answer[VFR_RESOLVE_ANSWER + 1];
+static uint64_t answer[MOST_ANSWER + 1];
+static uint64_t token[MOST_TOKEN + 1];
 static uint8_t out[VFR_MAX_TEXT + 2];
 
 static void fill(uint64_t *numbers, size_t count)
@@ -61,7 +65,8 @@ static bool all_bytes(const uint8_t *bytes, size_t from, size_t to, uint8_t valu
 static void fill_all(void)
 {
     fill(table, NUMBERS + 1);
-    fill(answer, VFR_RESOLVE_ANSWER + 1);
+    fill(answer, MOST_ANSWER + 1);
+    fill(token, MOST_TOKEN + 1);
     memset(out, OLD_BYTE, sizeof out);
 }
 
@@ -69,7 +74,10 @@ static void fill_all(void)
 
 #define GUID "guid={0x1,0x2,0x3,{0x4,0x5,0x6,0x7,0x8,0x9,0xA,0xB}}"
 #define STRINGS "prompt=STRING_TOKEN(5),help=STRING_TOKEN(6)"
-#define FRAME_START "formset " GUID ",title=STRING_TOKEN(2),help=STRING_TOKEN(3),form formid=1,title=STRING_TOKEN(4);"
+#define FRAME_START                                                             \
+    "formset " GUID ",\r\n"                                                     \
+    "\ttitle=STRING_TOKEN(2),help=STRING_TOKEN(3), // \xc3\xa9 \r\n\n"          \
+    " form formid=1,title=STRING_TOKEN(4);\n\r\t"
 #define FRAME_END "endform;endformset;"
 #define FRAME_ROWS 2
 
@@ -86,17 +94,47 @@ static const char EXAMPLE[] =
 #define EXAMPLE_ROWS 15
 #define EXAMPLE_FREE 65533
 
-/* A source that is put together from parts, and the place at which it is to be refused. */
+/* A place with its line and column; NOWHERE is what an answer without a place has. */
+struct spot {
+    uint64_t place, line, column;
+};
+
+static const struct spot START = {0, 1, 1};
+static const struct spot NOWHERE = {0, 0, 0};
+
+/* The place after one byte more. */
+static struct spot after(struct spot spot, char byte)
+{
+    spot.place++;
+    spot.column++;
+    if (byte == '\n') {
+        spot.line++;
+        spot.column = 1;
+    }
+    return spot;
+}
+
+static struct spot spot_of(const char *bytes, size_t place)
+{
+    struct spot spot = START;
+
+    for (size_t i = 0; i < place; i++) {
+        spot = after(spot, bytes[i]);
+    }
+    return spot;
+}
+
+/* A source that is put together from parts, and where it is to be refused. */
 static char source[VFR_MAX_SOURCE + 2];
 static size_t length;
-static size_t fault;
+static struct spot fault;
 
 /* Adds a part; `^` in it stands before the place of the fault. */
 static void add(const char *part)
 {
     for (; *part != '\0'; part++) {
         if (*part == '^') {
-            fault = length;
+            fault = spot_of(source, length);
         } else if (length < sizeof source) {
             source[length++] = *part;
         }
@@ -116,7 +154,7 @@ static void make(const char *part, ...)
     va_list parts;
 
     length = 0;
-    fault = 0;
+    fault = NOWHERE;
     add(FRAME_START);
     va_start(parts, part);
     for (; part != NULL; part = va_arg(parts, const char *)) {
@@ -166,7 +204,7 @@ static void make_blanks(size_t bytes)
     make(NULL);
     memset(source + length, ' ', bytes - length);
     length = bytes;
-    fault = 0;
+    fault = NOWHERE;
 }
 
 /* So many labels, of which some have a digit more. */
@@ -184,13 +222,13 @@ static void make_labels(size_t count, size_t longer)
 static void read_source(const char *bytes, size_t count, size_t table_len)
 {
     fill_all();
-    vfr_read((const uint8_t *)bytes, count, table, table_len, answer, VFR_READ_ANSWER);
+    vfr_read((const uint8_t *)bytes, count, table, table_len, answer, VFR_ANSWER);
 }
 
 static void resolve_source(const char *bytes, size_t count, size_t table_len, size_t out_len)
 {
     fill_all();
-    vfr_resolve((const uint8_t *)bytes, count, table, table_len, out, out_len, answer, VFR_RESOLVE_ANSWER);
+    vfr_resolve((const uint8_t *)bytes, count, table, table_len, out, out_len, answer, VFR_ANSWER);
 }
 
 static uint64_t quick(const char *bytes, size_t count)
@@ -198,22 +236,34 @@ static uint64_t quick(const char *bytes, size_t count)
     return vfr_quick_check((const uint8_t *)bytes, count);
 }
 
-static bool answered(uint64_t number, uint64_t place, uint64_t rows, uint64_t left)
+/* The whole answer of a call that was lent one of VFR_ANSWER numbers, and nothing past it. */
+static bool answered(uint64_t number, struct spot spot, uint64_t rows, uint64_t left, uint64_t written)
 {
-    return answer[VFR_ANSWER_NUMBER] == number && answer[VFR_ANSWER_PLACE] == place &&
-           answer[VFR_ANSWER_ROWS] == rows && answer[VFR_ANSWER_FREE] == left;
+    return answer[VFR_ANSWER_NUMBER] == number && answer[VFR_ANSWER_PLACE] == spot.place &&
+           answer[VFR_ANSWER_ROWS] == rows && answer[VFR_ANSWER_FREE] == left &&
+           answer[VFR_ANSWER_LINE] == spot.line && answer[VFR_ANSWER_COLUMN] == spot.column &&
+           answer[VFR_ANSWER_WRITTEN] == written && all(answer, VFR_ANSWER, MOST_ANSWER + 1, OLD);
 }
 
-/* The answer of reading, and nothing past it. */
-static bool has_read(uint64_t number, uint64_t place, uint64_t rows, uint64_t left)
+/* Of an accepted source, of one that is refused somewhere, and of buffers that are too short. */
+static bool has_read(uint64_t rows, uint64_t left)
 {
-    return answered(number, place, rows, left) && all(answer, VFR_READ_ANSWER, VFR_RESOLVE_ANSWER + 1, OLD);
+    return answered(VFR_ACCEPTED, NOWHERE, rows, left, 0);
 }
 
-static bool has_resolved(uint64_t number, uint64_t place, uint64_t rows, uint64_t left, uint64_t bytes)
+static bool has_resolved(uint64_t rows, uint64_t left, uint64_t written)
 {
-    return answered(number, place, rows, left) && answer[VFR_ANSWER_BYTES] == bytes &&
-           answer[VFR_RESOLVE_ANSWER] == OLD;
+    return answered(VFR_ACCEPTED, NOWHERE, rows, left, written);
+}
+
+static bool has_refused(uint64_t number, struct spot spot)
+{
+    return answered(number, spot, 0, 0, 0);
+}
+
+static bool is_short(uint64_t number, uint64_t need)
+{
+    return answered(number, NOWHERE, need, 0, 0);
 }
 
 /* Zeros in all of a lent table, and what was there past it; the same of an output. */
@@ -263,7 +313,7 @@ static void check_example(void)
 
     read_source(EXAMPLE, count, NUMBERS);
     check("the worked example is accepted with 15 rows and 65,533 numbers free",
-          has_read(VFR_ACCEPTED, 0, EXAMPLE_ROWS, EXAMPLE_FREE));
+          has_read(EXAMPLE_ROWS, EXAMPLE_FREE));
     check("its form set", row_is(0, formset));
     check("its form", row_is(1, form));
     check("its checkbox, which gets number 2", row_is(2, checkbox));
@@ -289,11 +339,11 @@ static void check_columns(void)
                                            [VFR_COL_NAME] = place_of(source, "N,") + 1,
                                            [VFR_COL_PLACE] = place_of(source, "numeric")};
 
-    check("every column of a numeric", has_read(VFR_ACCEPTED, 0, 3, 65534) && row_is(2, numeric));
+    check("every column of a numeric", has_read(3, 65534) && row_is(2, numeric));
     read_source(source, length, 3 * VFR_COLUMNS);
-    check("three rows are three times the header's row width", has_read(VFR_ACCEPTED, 0, 3, 65534));
+    check("three rows are three times the header's row width", has_read(3, 65534));
     read_source(source, length, 3 * VFR_COLUMNS - 1);
-    check("and a number fewer is refusal 6", has_read(VFR_TABLE_SHORT, 0, 3, 0));
+    check("and a number fewer is refusal 6", is_short(VFR_TABLE_SHORT, 3));
 }
 
 /* Each statement, operator and atom once, and the codes of their rows. */
@@ -328,7 +378,7 @@ static void check_codes(void)
             good = false;
         }
     }
-    check("the code of every statement, operator and atom", good && has_read(VFR_ACCEPTED, 0, rows, 65531));
+    check("the code of every statement, operator and atom", good && has_read(rows, 65531));
 }
 
 static void check_flags(void)
@@ -347,13 +397,13 @@ static void check_flags(void)
 
 static void check_refusal(const char *what, uint64_t number)
 {
-    const uint64_t early = number < VFR_TABLE_SHORT ? number << 32 | fault : 0;
+    const uint64_t early = number < VFR_TABLE_SHORT ? number << 32 | fault.place : 0;
     bool good = quick(source, length) == early;
 
     read_source(source, length, NUMBERS);
-    good = good && has_read(number, fault, 0, 0) && cleared_table(NUMBERS);
+    good = good && has_refused(number, fault) && cleared_table(NUMBERS);
     resolve_source(source, length, NUMBERS, VFR_MAX_TEXT);
-    good = good && has_resolved(number, fault, 0, 0, 0) && cleared_table(NUMBERS) && cleared_out(VFR_MAX_TEXT);
+    good = good && has_refused(number, fault) && cleared_table(NUMBERS) && cleared_out(VFR_MAX_TEXT);
     check(what, good);
 }
 
@@ -362,7 +412,7 @@ static void check_accepted(const char *what, uint64_t rows)
     bool good = quick(source, length) == 0;
 
     read_source(source, length, NUMBERS);
-    check(what, good && has_read(VFR_ACCEPTED, 0, rows, 65535));
+    check(what, good && has_read(rows, 65535));
 }
 
 static void check_refusals(void)
@@ -436,20 +486,20 @@ static void check_short_tables(void)
     const size_t exact = EXAMPLE_ROWS * VFR_COLUMNS;
 
     read_source(EXAMPLE, count, exact);
-    check("a table of just 15 rows is enough", has_read(VFR_ACCEPTED, 0, EXAMPLE_ROWS, EXAMPLE_FREE));
+    check("a table of just 15 rows is enough", has_read(EXAMPLE_ROWS, EXAMPLE_FREE));
     read_source(EXAMPLE, count, exact - 1);
-    check("one number fewer is refusal 6 with the need", has_read(VFR_TABLE_SHORT, 0, EXAMPLE_ROWS, 0));
+    check("one number fewer is refusal 6 with the need", is_short(VFR_TABLE_SHORT, EXAMPLE_ROWS));
     check("and the table is all zeros", cleared_table(exact - 1));
     resolve_source(EXAMPLE, count, exact - 1, VFR_MAX_TEXT);
     check("so it is for resolving, with zeros in the output too",
-          has_resolved(VFR_TABLE_SHORT, 0, EXAMPLE_ROWS, 0, 0) && cleared_table(exact - 1) &&
+          is_short(VFR_TABLE_SHORT, EXAMPLE_ROWS) && cleared_table(exact - 1) &&
               cleared_out(VFR_MAX_TEXT));
     read_source(EXAMPLE, count, 0);
-    check("an empty table is refusal 6 with the need", has_read(VFR_TABLE_SHORT, 0, EXAMPLE_ROWS, 0));
+    check("an empty table is refusal 6 with the need", is_short(VFR_TABLE_SHORT, EXAMPLE_ROWS));
     check("and is not touched", cleared_table(0));
     read_source(EXAMPLE, count, count * VFR_COLUMNS);
     check("a row for each byte of the source is always enough",
-          has_read(VFR_ACCEPTED, 0, EXAMPLE_ROWS, EXAMPLE_FREE));
+          has_read(EXAMPLE_ROWS, EXAMPLE_FREE));
 }
 
 /* A length of 0 may come with a null pointer, in every argument of every call. */
@@ -460,23 +510,24 @@ static void check_null(void)
 
     check("quick check: no source", vfr_quick_check(NULL, 0) == empty);
     read_source(NULL, 0, NUMBERS);
-    check("reading: no source is refusal 3 at 0", has_read(VFR_NOT_GRAMMAR, 0, 0, 0) && cleared_table(NUMBERS));
+    check("reading: no source is refusal 3 at 0, line 1, column 1",
+          has_refused(VFR_NOT_GRAMMAR, START) && cleared_table(NUMBERS));
     resolve_source(NULL, 0, NUMBERS, VFR_MAX_TEXT);
-    check("resolving: no source is refusal 3 at 0",
-          has_resolved(VFR_NOT_GRAMMAR, 0, 0, 0, 0) && cleared_table(NUMBERS) && cleared_out(VFR_MAX_TEXT));
+    check("resolving: no source is refusal 3 at 0, line 1, column 1",
+          has_refused(VFR_NOT_GRAMMAR, START) && cleared_table(NUMBERS) && cleared_out(VFR_MAX_TEXT));
     fill_all();
-    vfr_read((const uint8_t *)EXAMPLE, count, NULL, 0, answer, VFR_READ_ANSWER);
-    check("reading: no table is refusal 6 with the need", has_read(VFR_TABLE_SHORT, 0, EXAMPLE_ROWS, 0));
+    vfr_read((const uint8_t *)EXAMPLE, count, NULL, 0, answer, VFR_ANSWER);
+    check("reading: no table is refusal 6 with the need", is_short(VFR_TABLE_SHORT, EXAMPLE_ROWS));
     fill_all();
-    vfr_resolve((const uint8_t *)EXAMPLE, count, NULL, 0, out, VFR_MAX_TEXT, answer, VFR_RESOLVE_ANSWER);
+    vfr_resolve((const uint8_t *)EXAMPLE, count, NULL, 0, out, VFR_MAX_TEXT, answer, VFR_ANSWER);
     check("resolving: no table is refusal 6 with the need",
-          has_resolved(VFR_TABLE_SHORT, 0, EXAMPLE_ROWS, 0, 0) && cleared_out(VFR_MAX_TEXT));
+          is_short(VFR_TABLE_SHORT, EXAMPLE_ROWS) && cleared_out(VFR_MAX_TEXT));
     resolve_source(EXAMPLE, count, NUMBERS, VFR_MAX_TEXT);
-    const uint64_t need = answer[VFR_ANSWER_BYTES];
+    const uint64_t need = answer[VFR_ANSWER_WRITTEN];
     fill_all();
-    vfr_resolve((const uint8_t *)EXAMPLE, count, table, NUMBERS, NULL, 0, answer, VFR_RESOLVE_ANSWER);
+    vfr_resolve((const uint8_t *)EXAMPLE, count, table, NUMBERS, NULL, 0, answer, VFR_ANSWER);
     check("resolving: no output is refusal 13 with the need",
-          has_resolved(VFR_OUTPUT_SHORT, 0, need, 0, 0) && cleared_table(NUMBERS));
+          is_short(VFR_OUTPUT_SHORT, need) && cleared_table(NUMBERS));
     fill_all();
     vfr_read((const uint8_t *)EXAMPLE, count, table, NUMBERS, NULL, 0);
     check("reading: no answer, and the rows all the same", cell(0, VFR_COL_CODE) == VFR_FORMSET);
@@ -488,40 +539,81 @@ static void check_null(void)
     check("nothing at all is lent, and the calls return", true);
 }
 
-static void check_source_untouched(void)
+/* An answer of any length: the first numbers of the whole one, 0 past its layout, and nothing past what is lent. */
+static bool answer_of_length(const uint64_t whole[VFR_ANSWER], size_t room)
 {
-    char copy[sizeof EXAMPLE];
+    const size_t told = room < VFR_ANSWER ? room : VFR_ANSWER;
 
-    memcpy(copy, EXAMPLE, sizeof copy);
-    read_source(copy, sizeof copy - 1, NUMBERS);
-    resolve_source(copy, sizeof copy - 1, NUMBERS, VFR_MAX_TEXT);
-    quick(copy, sizeof copy - 1);
-    check("the source is untouched", memcmp(copy, EXAMPLE, sizeof copy) == 0);
+    return memcmp(answer, whole, told * sizeof *whole) == 0 && all(answer, told, room, 0) &&
+           all(answer, room, MOST_ANSWER + 1, OLD);
 }
 
-/* Of an answer only what has room is written. */
-static void check_short_answers(void)
+/* Reading and resolving with answers of all lengths; `written` is what only resolving tells. */
+static void check_answer_lengths(const char *what, const char *bytes, size_t count, size_t table_len, size_t out_len)
 {
-    const size_t count = sizeof EXAMPLE - 1;
-    uint64_t whole[VFR_RESOLVE_ANSWER];
+    uint64_t read[VFR_ANSWER], resolved[VFR_ANSWER];
     bool good = true;
 
-    resolve_source(EXAMPLE, count, NUMBERS, VFR_MAX_TEXT);
-    memcpy(whole, answer, sizeof whole);
-    check("an answer with room for all is all written", whole[VFR_RESOLVE_ANSWER - 1] != OLD);
-    for (size_t room = 0; room <= VFR_RESOLVE_ANSWER; room++) {
-        const size_t read_room = room < VFR_READ_ANSWER ? room : VFR_READ_ANSWER;
-
+    read_source(bytes, count, table_len);
+    memcpy(read, answer, sizeof read);
+    resolve_source(bytes, count, table_len, out_len);
+    memcpy(resolved, answer, sizeof resolved);
+    for (size_t room = 0; room <= MOST_ANSWER; room++) {
         fill_all();
-        vfr_read((const uint8_t *)EXAMPLE, count, table, NUMBERS, answer, room);
-        good = good && memcmp(answer, whole, read_room * sizeof *whole) == 0 &&
-               all(answer, read_room, VFR_RESOLVE_ANSWER + 1, OLD);
+        vfr_read((const uint8_t *)bytes, count, table, table_len, answer, room);
+        good = good && answer_of_length(read, room);
         fill_all();
-        vfr_resolve((const uint8_t *)EXAMPLE, count, table, NUMBERS, out, VFR_MAX_TEXT, answer, room);
-        good = good && memcmp(answer, whole, room * sizeof *whole) == 0 &&
-               all(answer, room, VFR_RESOLVE_ANSWER + 1, OLD);
+        vfr_resolve((const uint8_t *)bytes, count, table, table_len, out, out_len, answer, room);
+        good = good && answer_of_length(resolved, room);
     }
-    check("of an answer only what has room is written", good);
+    check(what, good);
+}
+
+static void check_answers(void)
+{
+    const size_t count = sizeof EXAMPLE - 1;
+
+    check_answer_lengths("answers of 0 to 9 numbers: accepted", EXAMPLE, count, NUMBERS, VFR_MAX_TEXT);
+    check_answer_lengths("answers of 0 to 9 numbers: refused on a later line", EXAMPLE, 153, NUMBERS, VFR_MAX_TEXT);
+    check_answer_lengths("answers of 0 to 9 numbers: too few rows", EXAMPLE, count, VFR_COLUMNS, VFR_MAX_TEXT);
+    check_answer_lengths("answers of 0 to 9 numbers: too short an output", EXAMPLE, count, NUMBERS, 100);
+}
+
+/* ---- Lines and columns: document 02, W-201, with the numbers written out ---- */
+
+static void check_spot(const char *what, const char *bytes, size_t count, uint64_t number, struct spot spot)
+{
+    bool good;
+
+    read_source(bytes, count, NUMBERS);
+    good = has_refused(number, spot) && cleared_table(NUMBERS);
+    resolve_source(bytes, count, NUMBERS, VFR_MAX_TEXT);
+    good = good && has_refused(number, spot) && cleared_table(NUMBERS) && cleared_out(VFR_MAX_TEXT);
+    check(what, good && quick(bytes, count) == (number << 32 | spot.place));
+}
+
+#define CHECK_SPOT(what, bytes, number, ...) \
+    check_spot(what, bytes, sizeof bytes - 1, number, (struct spot){__VA_ARGS__})
+
+static void check_lines(void)
+{
+    static char feeds[VFR_MAX_SOURCE + 1];
+
+    CHECK_SPOT("the empty source: line 1, column 1", "", VFR_NOT_GRAMMAR, 0, 1, 1);
+    CHECK_SPOT("a bad token at 0: line 1, column 1", "@", VFR_BAD_TOKEN, 0, 1, 1);
+    CHECK_SPOT("the end of the source has a line and column", "formset", VFR_NOT_GRAMMAR, 7, 1, 8);
+    CHECK_SPOT("after a last LF it is on a new line", "formset\n", VFR_NOT_GRAMMAR, 8, 2, 1);
+    CHECK_SPOT("after a last comment it is on the comment's line", "formset\n//ab", VFR_NOT_GRAMMAR, 12, 2, 5);
+    CHECK_SPOT("CR LF is one line, a lone CR none, a tab one byte", "\r\nformset\r\r\n\t@", VFR_BAD_TOKEN, 13, 3, 2);
+    CHECK_SPOT("a column counts bytes", "//\xc3\xa9 \n \xc3", VFR_BAD_TOKEN, 7, 2, 2);
+    CHECK_SPOT("LF in blanks and after comments count alike", "//a\n \n\n//\n\n  endif", VFR_NOT_GRAMMAR, 13, 6, 3);
+    memset(feeds, '\n', sizeof feeds);
+    check_spot("65,536 LF bytes are 65,537 lines", feeds, VFR_MAX_SOURCE, VFR_NOT_GRAMMAR,
+               (struct spot){65536, 65537, 1});
+    check_spot("a source that is too long has no line and column", feeds, VFR_MAX_SOURCE + 1, VFR_TOO_LONG, NOWHERE);
+    check("the quick check has neither", quick("\n@", 2) == UINT64_C(8589934593));
+    check_spot("a cut source of several lines: the line and column of its end", EXAMPLE, 153, VFR_NOT_GRAMMAR,
+               (struct spot){153, 3, 9});
 }
 
 /* ---- Resolving ---- */
@@ -544,17 +636,17 @@ static void check_resolve(void)
     const size_t count = sizeof EXAMPLE - 1;
 
     resolve_source(EXAMPLE, count, NUMBERS, VFR_MAX_TEXT);
-    check("the worked example resolves", has_resolved(VFR_ACCEPTED, 0, EXAMPLE_ROWS, EXAMPLE_FREE, need));
+    check("the worked example resolves", has_resolved(EXAMPLE_ROWS, EXAMPLE_FREE, need));
     check("to the worked output, with 0 past it",
           memcmp(out, RESOLVED, need) == 0 && all_bytes(out, need, VFR_MAX_TEXT, 0) && out[VFR_MAX_TEXT] == OLD_BYTE);
     check("with the rows of reading in the table", cell(EXAMPLE_ROWS - 1, VFR_COL_CODE) == VFR_NUMERIC &&
                                                        all(table, EXAMPLE_ROWS * VFR_COLUMNS, NUMBERS, 0));
     resolve_source(EXAMPLE, count, NUMBERS, need);
     check("an output of just its bytes is enough",
-          has_resolved(VFR_ACCEPTED, 0, EXAMPLE_ROWS, EXAMPLE_FREE, need) && out[need] == OLD_BYTE);
+          has_resolved(EXAMPLE_ROWS, EXAMPLE_FREE, need) && out[need] == OLD_BYTE);
     resolve_source(EXAMPLE, count, NUMBERS, need - 1);
     check("one byte short is refusal 13 with the need",
-          has_resolved(VFR_OUTPUT_SHORT, 0, need, 0, 0) && cleared_table(NUMBERS) && cleared_out(need - 1));
+          is_short(VFR_OUTPUT_SHORT, need) && cleared_table(NUMBERS) && cleared_out(need - 1));
 }
 
 /* The longest text there may be, and one byte more, for which no output is enough. */
@@ -563,7 +655,7 @@ static void check_longest_text(void)
     make(NULL);
     resolve_source(source, length, NUMBERS, VFR_MAX_TEXT);
 
-    const size_t bytes = VFR_MAX_TEXT - answer[VFR_ANSWER_BYTES];
+    const size_t bytes = VFR_MAX_TEXT - answer[VFR_ANSWER_WRITTEN];
     const size_t label = strlen("label 0 ;\n");
     const size_t labels = bytes / label;
     const size_t longer = bytes % label;
@@ -571,12 +663,201 @@ static void check_longest_text(void)
     make_labels(labels, longer);
     resolve_source(source, length, NUMBERS, VFR_MAX_TEXT);
     check("a text of 65,536 bytes is given",
-          has_resolved(VFR_ACCEPTED, 0, FRAME_ROWS + labels, 65535, VFR_MAX_TEXT) && out[VFR_MAX_TEXT - 1] == '\n');
+          has_resolved(FRAME_ROWS + labels, 65535, VFR_MAX_TEXT) && out[VFR_MAX_TEXT - 1] == '\n');
     make_labels(labels, longer + 1);
     resolve_source(source, length, NUMBERS, VFR_MAX_TEXT + 1);
     check("one byte more is refusal 13, although the output lent has room for it",
-          has_resolved(VFR_OUTPUT_SHORT, 0, VFR_MAX_TEXT + 1, 0, 0) && cleared_table(NUMBERS) &&
+          is_short(VFR_OUTPUT_SHORT, VFR_MAX_TEXT + 1) && cleared_table(NUMBERS) &&
               cleared_out(VFR_MAX_TEXT + 1));
+}
+
+/* ---- Tokens ---- */
+
+static void token_from(const char *bytes, size_t count, size_t at, size_t line, size_t column)
+{
+    fill_all();
+    vfr_token((const uint8_t *)bytes, count, at, line, column, token, VFR_SEEN);
+}
+
+/* The whole token of a call that was lent one of VFR_SEEN numbers, and nothing past it. */
+static bool has_seen(uint64_t class, struct spot start, uint64_t end, uint64_t next, uint64_t last)
+{
+    return token[VFR_SEEN_CLASS] == class && token[VFR_SEEN_START] == start.place && token[VFR_SEEN_END] == end &&
+           token[VFR_SEEN_LINE] == start.line && token[VFR_SEEN_COLUMN] == start.column &&
+           token[VFR_SEEN_NEXT] == next && token[VFR_SEEN_LAST] == last && all(token, VFR_SEEN, MOST_TOKEN + 1, OLD);
+}
+
+/* A token that is wanted: class, start with line and column, end. */
+struct wanted {
+    uint64_t class;
+    struct spot start;
+    uint64_t end;
+};
+
+/* Walks a source by the rule of the header; answers how many tokens it has, the bad one or the end too. What is wanted
+ * of them, if anything, and whether all agreed, stand in the last two arguments. */
+static size_t walk_wanted(const char *bytes, size_t count, const struct wanted *wanted, bool *good)
+{
+    size_t at = 0, line = 1, column = 1;
+
+    for (size_t i = 0;; i++) {
+        token_from(bytes, count, at, line, column);
+
+        const bool is_last = token[VFR_SEEN_CLASS] >= VFR_TOKEN_BAD;
+        const uint64_t next = is_last ? at : token[VFR_SEEN_END];
+
+        if (wanted != NULL) {
+            *good = *good && has_seen(wanted[i].class, wanted[i].start, wanted[i].end, next, is_last);
+        } else {
+            *good = *good && has_seen(token[VFR_SEEN_CLASS], spot_of(bytes, token[VFR_SEEN_START]), token[VFR_SEEN_END],
+                                      next, is_last);
+        }
+        if (token[VFR_SEEN_LAST] != 0 || !*good) {
+            return i + 1;
+        }
+        at = token[VFR_SEEN_NEXT];
+        line = token[VFR_SEEN_LINE];
+        column = token[VFR_SEEN_COLUMN] + (token[VFR_SEEN_END] - token[VFR_SEEN_START]);
+    }
+}
+
+static size_t walk_source(const char *bytes, size_t count)
+{
+    bool good = true;
+    size_t tokens = walk_wanted(bytes, count, NULL, &good);
+
+    return good ? tokens : 0;
+}
+
+#define LINES "Fan\r\n\t// \xc3\xa9 x\r\n\n  form=0x1F,// y\n\r12>=\t>>;\r\n"
+
+static void check_walk(void)
+{
+    static const struct wanted six_lines[] = {
+        {VFR_TOKEN_NAME, {0, 1, 1}, 3},
+        {47, {18, 4, 3}, 22},
+        {6, {22, 4, 7}, 23},
+        {VFR_TOKEN_HEX, {23, 4, 8}, 27},
+        {4, {27, 4, 12}, 28},
+        {VFR_TOKEN_DECIMAL, {34, 5, 2}, 36},
+        {14, {36, 5, 4}, 38},
+        {16, {39, 5, 7}, 41},
+        {5, {41, 5, 9}, 42},
+        {VFR_TOKEN_END, {44, 6, 1}, 44},
+    };
+    static const struct wanted to_a_bad_one[] = {
+        {VFR_TOKEN_NAME, {0, 1, 1}, 1},
+        {VFR_TOKEN_BAD, {3, 2, 2}, 3},
+    };
+    bool good = true;
+    bool ends_badly = true;
+
+    check("a walk over a source of six lines, numbers written out",
+          walk_wanted(LINES, sizeof LINES - 1, six_lines, &good) == 10 && good);
+    check("a walk that ends at a bad token", walk_wanted("a\n @", 4, to_a_bad_one, &ends_badly) == 2 && ends_badly);
+    check("every token of the worked example has its own line and column",
+          walk_source(EXAMPLE, sizeof EXAMPLE - 1) == 135);
+    make("label 1;\n// \xff\n\n\tlabel 2;", NULL);
+    check("and every token of a source with CR LF and bytes over 127", walk_source(source, length) == 66);
+}
+
+/* The numbers of the classes: signs in document 01's order, reserved words in the order of their bytes. */
+static void check_classes(void)
+{
+    static const char *const words[] = {
+        "{", "}", "(", ")", ",", ";", "=", "|", "&", "==", "!=", "<", "<=", ">", ">=", "<<", ">>", "+", "-", "*", "/",
+        "%", "AND", "DEFAULT", "FALSE", "INTERACTIVE", "NOT", "ONE", "ONES", "OR", "READ_ONLY", "RESET_REQUIRED",
+        "STRING_TOKEN", "TRUE", "UNDEFINED", "ZERO", "checkbox", "default", "disableif", "endcheckbox", "endform",
+        "endformset", "endif", "endnumeric", "endoneof", "endrule", "flags", "form", "formid", "formset", "goto",
+        "grayoutif", "guid", "help", "label", "maximum", "minimum", "name", "numeric", "oneof", "option", "prompt",
+        "questionid", "questionref", "rule", "ruleref", "step", "subtitle", "suppressif", "text", "title", "value",
+        "other", "0x0", "0",
+    };
+    const size_t count = sizeof words / sizeof *words;
+    bool good = count == VFR_TOKEN_BAD;
+
+    for (size_t i = 0; i < count; i++) {
+        const size_t bytes = strlen(words[i]);
+
+        token_from(words[i], bytes, 0, 1, 1);
+        good = good && has_seen(i, START, bytes, bytes, 0);
+    }
+    check("the class of every sign and reserved word, of a name and of both sorts of numbers", good);
+    check("the first sign and the first reserved word", strcmp(words[VFR_TOKEN_SIGN], "{") == 0 &&
+                                                            strcmp(words[VFR_TOKEN_RESERVED], "AND") == 0);
+}
+
+/* At a bad token and at the end place, line and column stay, and the answer repeats. */
+static void check_last(void)
+{
+    bool good = true;
+
+    for (int i = 0; i < 3; i++) {
+        token_from("a\n @", 4, 1, 1, 2);
+        good = good && has_seen(VFR_TOKEN_BAD, (struct spot){3, 2, 2}, 3, 1, 1);
+        token_from("a\n //b", 6, 1, 1, 2);
+        good = good && has_seen(VFR_TOKEN_END, (struct spot){6, 2, 5}, 6, 1, 1);
+    }
+    check("a bad token and the end repeat, with the place that was given", good);
+    token_from("a\n b", 4, 4, 2, 3);
+    check("at the length the token is the end", has_seen(VFR_TOKEN_END, (struct spot){4, 2, 3}, 4, 4, 1));
+    token_from("a\n b", 4, 5, 7, 9);
+    check("past the length too, with line and column as given",
+          has_seen(VFR_TOKEN_END, (struct spot){4, 7, 9}, 4, 5, 1));
+    token_from("a\n b", 4, SIZE_MAX, 7, 9);
+    check("at the largest place too", has_seen(VFR_TOKEN_END, (struct spot){4, 7, 9}, 4, SIZE_MAX, 1));
+    token_from("formset", 7, 4, 1, 5);
+    check("a place inside a word is the start of another", has_seen(VFR_TOKEN_NAME, (struct spot){4, 1, 5}, 7, 7, 0));
+}
+
+static void check_wrapping(void)
+{
+    token_from("  a", 3, 0, 7, 100);
+    check("columns count on from the one given", has_seen(VFR_TOKEN_NAME, (struct spot){2, 7, 102}, 3, 3, 0));
+    token_from("   a", 4, 0, SIZE_MAX, SIZE_MAX);
+    check("columns wrap at 2^64", has_seen(VFR_TOKEN_NAME, (struct spot){3, UINT64_MAX, 2}, 4, 4, 0));
+    token_from("\n\r\n  a", 6, 0, SIZE_MAX, SIZE_MAX);
+    check("lines wrap at 2^64", has_seen(VFR_TOKEN_NAME, (struct spot){5, 1, 3}, 6, 6, 0));
+    token_from("\n@", 2, 0, 0, 0);
+    check("a line and column of 0 are taken too", has_seen(VFR_TOKEN_BAD, (struct spot){1, 1, 1}, 1, 0, 1));
+}
+
+/* Tokens of any length: the first numbers of the whole one, 0 past its layout, and nothing past what is lent. */
+static void check_token_lengths(void)
+{
+    uint64_t whole[VFR_SEEN];
+    bool good = true;
+
+    token_from("a\n  @", 5, 1, 3, 4);
+    memcpy(whole, token, sizeof whole);
+    for (size_t room = 0; room <= MOST_TOKEN; room++) {
+        const size_t told = room < VFR_SEEN ? room : VFR_SEEN;
+
+        fill_all();
+        vfr_token((const uint8_t *)"a\n  @", 5, 1, 3, 4, token, room);
+        good = good && memcmp(token, whole, told * sizeof *whole) == 0 && all(token, told, room, 0) &&
+               all(token, room, MOST_TOKEN + 1, OLD);
+    }
+    check("tokens of 0 to 9 numbers", good);
+    token_from(NULL, 0, 0, 1, 1);
+    check("no source: the end at 0, line 1, column 1", has_seen(VFR_TOKEN_END, START, 0, 0, 1));
+    token_from(NULL, 0, 9, 3, 4);
+    check("no source, and a place past it", has_seen(VFR_TOKEN_END, (struct spot){0, 3, 4}, 0, 9, 1));
+    vfr_token((const uint8_t *)"a", 1, 0, 1, 1, NULL, 0);
+    vfr_token(NULL, 0, 0, 1, 1, NULL, 0);
+    check("no token is lent, and the call returns", true);
+}
+
+static void check_source_untouched(void)
+{
+    char copy[sizeof EXAMPLE];
+
+    memcpy(copy, EXAMPLE, sizeof copy);
+    read_source(copy, sizeof copy - 1, NUMBERS);
+    resolve_source(copy, sizeof copy - 1, NUMBERS, VFR_MAX_TEXT);
+    quick(copy, sizeof copy - 1);
+    walk_source(copy, sizeof copy - 1);
+    check("the source is untouched", memcmp(copy, EXAMPLE, sizeof copy) == 0);
 }
 
 int main(void)
@@ -589,10 +870,16 @@ int main(void)
     check_limits();
     check_short_tables();
     check_null();
-    check_source_untouched();
-    check_short_answers();
+    check_answers();
+    check_lines();
+    check_walk();
+    check_classes();
+    check_last();
+    check_wrapping();
+    check_token_lengths();
     check_resolve();
     check_longest_text();
+    check_source_untouched();
     printf("%d checks passed, %d failed\n", passed, failed);
     return failed != 0;
 }

@@ -5,7 +5,7 @@
 mod inputs;
 
 use inputs::{EXAMPLE, KINDS};
-use reference::ROW;
+use reference::{Position, Walk, ROW};
 use std::hint::black_box;
 use std::thread;
 use std::time::{Duration, Instant};
@@ -13,6 +13,9 @@ use std::time::{Duration, Instant};
 const SAMPLES: usize = 31;
 const SAMPLE: Duration = Duration::from_micros(300);
 const KB: usize = 1024;
+
+/// The sizes over which growth is told.
+const SIZES: [usize; 3] = [4 * KB, 16 * KB, 64 * KB];
 
 /// Medians in nanoseconds of one call of each.
 fn medians<const N: usize>(mut calls: [&mut dyn FnMut(); N]) -> [f64; N] {
@@ -118,7 +121,6 @@ fn table() {
 }
 
 fn growth() {
-    const SIZES: [usize; 3] = [4 * KB, 16 * KB, 64 * KB];
     println!("\nGrowth: the library's nanoseconds a byte at 4, 16 and 64 KB, and the last over the first.\n");
     println!("{:38} | {:31} | {:31}", "", "read", "quick check");
     for kind in &KINDS {
@@ -153,7 +155,7 @@ fn resolving() {
 fn resolve_line(name: &str, source: &[u8]) {
     let rows = need(source);
     let (mut table, mut out) = (vec![0; ROW * rows], vec![0; reference::LONGEST]);
-    let answer = library::resolve(source, &mut table, &mut out).0.number;
+    let answer = library::resolve(source, &mut table, &mut out).number;
     assert_eq!(answer, reference::resolve(source, rows, out.len()).map_or_else(|refusal| refusal.number, |_| 0));
     let times =
         medians([&mut || _ = black_box(library::resolve(black_box(source), &mut table, &mut out)), &mut || {
@@ -162,8 +164,62 @@ fn resolve_line(name: &str, source: &[u8]) {
     println!("{name:38} {:6} {answer:6} | {}", source.len(), pair(times, source.len()));
 }
 
+/// How many tokens a walk met, and the sum of their lines and columns.
+#[derive(PartialEq, Debug)]
+struct Walked {
+    tokens: u64,
+    sum: u64,
+}
+
+/// A call for each token, by the rule that the header gives a caller.
+fn library_walk(source: &[u8]) -> Walked {
+    library::walk(source).fold(Walked { tokens: 0, sum: 0 }, |walked, token| Walked {
+        tokens: walked.tokens + 1,
+        sum: walked.sum + token.line + token.column,
+    })
+}
+
+fn reference_walk(source: &[u8]) -> Walked {
+    let mut walk = Walk::new(source);
+    let mut walked = Walked { tokens: 0, sum: 0 };
+    loop {
+        let placed = walk.next_token();
+        let Position { line, column } = placed.position;
+        walked = Walked { tokens: walked.tokens + 1, sum: walked.sum + line + column };
+        if placed.token.kind.is_last() {
+            return walked;
+        }
+    }
+}
+
+/// The tokens of a source, each with its line and column. Both walks have to meet the same.
+fn walking() {
+    println!("\nWalking over all tokens, a call for each: nanoseconds a byte at 4, 16 and 64 KB, and the last over the first.\n");
+    println!("{:38} {:>6} | {:31} | {:31} | {:>6}", "", "tokens", "library", "reference", "ratio");
+    for kind in &KINDS {
+        let by_size = SIZES.map(|size| {
+            let source = (kind.build)(size);
+            let source = source.as_bytes();
+            let walked = library_walk(source);
+            assert_eq!(walked, reference_walk(source));
+            let times = medians([&mut || _ = black_box(library_walk(black_box(source))), &mut || {
+                _ = black_box(reference_walk(black_box(source)))
+            }]);
+            (walked.tokens, times.map(|time| time / source.len() as f64))
+        });
+        print!("{:38} {:6}", kind.name, by_size[2].0);
+        for which in 0..2 {
+            let [small, middle, large] = by_size.map(|(_, times)| times[which]);
+            print!(" | {small:7.2} {middle:7.2} {large:7.2} {:7.2}", large / small);
+        }
+        let [library, reference] = by_size[2].1;
+        println!(" | {:6.2}", library / reference);
+    }
+}
+
 fn main() {
     table();
     growth();
     resolving();
+    walking();
 }

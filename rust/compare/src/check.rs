@@ -2,8 +2,9 @@
 //! answered, or how they differ.
 
 use crate::tally::Met;
-use library::Answer;
-use reference::{Reading, Refusal, ROW};
+use library::{Answer, ANSWER, TOKEN};
+use reference::{Placed, Position, Reading, Refusal, Walk, ROW};
+use std::fmt::Debug;
 use std::hint::black_box;
 
 /// What buffers hold before a call.
@@ -12,16 +13,27 @@ const OLD: u64 = 0x5ea1_5ea1_5ea1_5ea1;
 /// Numbers past a buffer's end, which have to stay.
 const GUARD: usize = 4;
 
+/// The most numbers that are lent for an answer or a token: some past the layout.
+pub const MOST_NUMBERS: usize = ANSWER + 3;
+
+/// What was met, and the line that both gave it (0 from the quick check, which gives none).
+pub struct Answered {
+    pub met: Met,
+    pub line: u64,
+}
+
 /// What reading has to answer, and the whole table after it.
 fn expected(reading: Result<&Reading, &Refusal>, table_len: usize) -> (Answer, Vec<u64>) {
     let mut table = vec![0; table_len];
+    let none = Answer { number: 0, place: 0, rows: 0, free: 0, line: 0, column: 0, written: 0 };
     match reading {
         Ok(Reading { rows, free }) => {
             table[..ROW * rows.len()].copy_from_slice(rows.as_flattened());
-            (Answer { number: 0, place: 0, rows: rows.len() as u64, free: *free }, table)
+            (Answer { rows: rows.len() as u64, free: *free, ..none }, table)
         }
-        Err(Refusal { number, place, need }) => {
-            (Answer { number: *number, place: *place as u64, rows: *need as u64, free: 0 }, table)
+        Err(Refusal { number, place, position: Position { line, column }, need }) => {
+            let (number, place, rows) = (*number, *place as u64, *need as u64);
+            (Answer { number, place, rows, line: *line, column: *column, ..none }, table)
         }
     }
 }
@@ -36,8 +48,16 @@ fn table_difference(given: &[u64], wanted: &[u64]) -> Option<String> {
     Some(format!("row {} column {}: library {}, reference {}", at / ROW, at % ROW, table[at], wanted[at]))
 }
 
-fn answer_difference<T: PartialEq + std::fmt::Debug>(given: T, wanted: T) -> Option<String> {
-    (given != wanted).then(|| format!("library {given:?}, reference {wanted:?}"))
+/// How a lent answer or token, with the guard past its end, differs from its layout and the zeros past that; `told` is
+/// what the layout holds.
+fn numbers_difference<T: Debug>(given: &[u64], layout: &[u64], told: T) -> Option<String> {
+    let (numbers, guard) = given.split_at(given.len() - GUARD);
+    if guard != [OLD; GUARD] {
+        return Some("the library writes past the numbers lent".to_string());
+    }
+    let wanted = |at: usize| layout.get(at).copied().unwrap_or(0);
+    let at = (0..numbers.len()).find(|&at| numbers[at] != wanted(at))?;
+    Some(format!("number {at} of {}: library {numbers:?}, reference {told:?}", numbers.len()))
 }
 
 fn source_difference(lent: &[u8], source: &[u8]) -> Option<String> {
@@ -56,55 +76,96 @@ fn text_difference(given: &[u8], text: &[u8]) -> Option<String> {
 }
 
 /// What was met, if nothing differs.
-fn agreed(met: Met, difference: Option<String>) -> Result<Met, String> {
+fn agreed<T>(met: T, difference: Option<String>) -> Result<T, String> {
     difference.map_or(Ok(met), Err)
 }
 
-/// Reading, with a table of this length.
-pub fn reading(source: &[u8], table_len: usize) -> Result<Met, String> {
+/// Reading, with a table and an answer of these lengths.
+pub fn reading(source: &[u8], table_len: usize, answer_len: usize) -> Result<Answered, String> {
     let reading = reference::read(source, table_len / ROW);
-    let (answer, table) = expected(reading.as_ref(), table_len);
+    let (wanted, table) = expected(reading.as_ref(), table_len);
     let lent = source.to_vec();
     let mut buffer = vec![OLD; table_len + GUARD];
-    let given = library::read(black_box(&lent), &mut buffer[..table_len]);
-    let difference = answer_difference(given, answer)
+    let mut answer = vec![OLD; answer_len + GUARD];
+    library::read_into(black_box(&lent), &mut buffer[..table_len], &mut answer[..answer_len]);
+    let difference = numbers_difference(&answer, &wanted.numbers(), wanted)
         .or_else(|| table_difference(&buffer, &table))
         .or_else(|| source_difference(&lent, source));
-    agreed(Met::of(reading.as_ref()), difference)
+    agreed(Answered { met: Met::of(reading.as_ref()), line: wanted.line }, difference)
 }
 
 /// The quick check.
-pub fn quick(source: &[u8]) -> Result<Met, String> {
+pub fn quick(source: &[u8]) -> Result<Answered, String> {
     let (given, wanted) = (library::quick_check(source), reference::quick_check(source));
     let difference = (given != wanted).then(|| format!("quick check: library {given:#x}, reference {wanted:#x}"));
-    agreed(Met::of_number(wanted >> 32), difference)
+    agreed(Answered { met: Met::of_number(wanted >> 32), line: 0 }, difference)
 }
 
-/// Resolving, with a table and an output of these lengths.
-pub fn resolving(source: &[u8], table_len: usize, out_len: usize) -> Result<Met, String> {
+/// Resolving, with a table, an output and an answer of these lengths.
+pub fn resolving(source: &[u8], table_len: usize, out_len: usize, answer_len: usize) -> Result<Answered, String> {
     let resolved = reference::resolve(source, table_len / ROW, out_len);
     let met = Met::of(resolved.as_ref());
-    let (answer, table) = expected(resolved.as_ref().map(|(reading, _)| reading), table_len);
+    let (wanted, table) = expected(resolved.as_ref().map(|(reading, _)| reading), table_len);
     let text = resolved.map_or_else(|_| String::new(), |(_, text)| text);
+    let wanted = Answer { written: text.len() as u64, ..wanted };
     let lent = source.to_vec();
     let mut buffer = vec![OLD; table_len + GUARD];
     let mut out = vec![OLD as u8; out_len + GUARD];
-    let given = library::resolve(black_box(&lent), &mut buffer[..table_len], &mut out[..out_len]);
-    let difference = answer_difference(given, (answer, text.len() as u64))
+    let mut answer = vec![OLD; answer_len + GUARD];
+    library::resolve_into(black_box(&lent), &mut buffer[..table_len], &mut out[..out_len], &mut answer[..answer_len]);
+    let difference = numbers_difference(&answer, &wanted.numbers(), wanted)
         .or_else(|| table_difference(&buffer, &table))
         .or_else(|| text_difference(&out, text.as_bytes()))
         .or_else(|| source_difference(&lent, source));
-    agreed(met, difference)
+    agreed(Answered { met, line: wanted.line }, difference)
 }
 
-/// Reading with an answer of any length: the numbers that fit are written, and no other. What was met stands in the
-/// library's own whole answer, so the reference has no part in it.
-pub fn short_answer(source: &[u8], table_len: usize, answer_len: usize) -> Result<(), String> {
-    let mut table = vec![OLD; table_len];
-    let whole = library::read(source, &mut table);
-    let whole = [whole.number, whole.place, whole.rows, whole.free];
-    let mut part = [OLD; 8];
-    library::read_into(source, &mut table, &mut part[..answer_len]);
-    let good = (0..8).all(|at| part[at] == if at < answer_len.min(4) { whole[at] } else { OLD });
-    good.then_some(()).ok_or_else(|| format!("answer of length {answer_len}: {part:x?} where {whole:x?} was due"))
+/// The numbers of a token that was looked for from a place on.
+fn told(at: usize, Placed { token, position }: Placed) -> library::Token {
+    let is_last = token.kind.is_last();
+    library::Token {
+        class: token.kind.class(),
+        start: token.start as u64,
+        end: token.end as u64,
+        line: position.line,
+        column: position.column,
+        next: if is_last { at } else { token.end } as u64,
+        last: is_last.into(),
+    }
+}
+
+/// All tokens from the start on, by the rule that the header gives a caller; what was met are their classes.
+pub fn walk(source: &[u8]) -> Result<Vec<u64>, String> {
+    let mut given = library::walk(source);
+    let mut walk = Walk::new(source);
+    let mut classes = Vec::new();
+    let mut at = 0;
+    loop {
+        let wanted = told(at, walk.next_token());
+        let given = given.next();
+        if given != Some(wanted) {
+            return Err(format!("token {}: library {given:?}, reference {wanted:?}", classes.len()));
+        }
+        classes.push(wanted.class);
+        at = wanted.next as usize;
+        if wanted.last == 1 {
+            return Ok(classes);
+        }
+    }
+}
+
+/// The token from a place on that has this line and column, lent so many numbers; then once more with a whole layout, at
+/// which a caller would go on.
+pub fn token(source: &[u8], at: usize, position: Position, token_len: usize) -> Result<(), String> {
+    let wanted = told(at, Walk::at(source, at, position).next_token());
+    let lent = source.to_vec();
+    let (line, column) = (position.line as usize, position.column as usize);
+    let mut numbers = vec![OLD; token_len + GUARD];
+    library::token_into(black_box(&lent), at, line, column, &mut numbers[..token_len]);
+    let mut whole = [OLD; TOKEN + GUARD];
+    library::token_into(black_box(&lent), at, line, column, &mut whole[..TOKEN]);
+    let difference = numbers_difference(&numbers, &wanted.numbers(), wanted)
+        .or_else(|| numbers_difference(&whole, &wanted.numbers(), wanted))
+        .or_else(|| source_difference(&lent, source));
+    agreed((), difference)
 }

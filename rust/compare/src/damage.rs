@@ -1,6 +1,6 @@
 //! Texts of the grammar that are damaged, cut or mere soup.
 
-use crate::grammar::{render, text, tokens, NAMES};
+use crate::grammar::{many_tokens, render, render_lines, text, tokens, NAMES};
 use crate::random::Random;
 
 pub const SIGNS: [&str; 22] = [
@@ -28,6 +28,36 @@ fn lexeme(random: &mut Random) -> String {
         18 if random.once_in(3) => random.pick(&BAD).to_string(),
         _ => random.below(70_000).to_string(),
     }
+}
+
+/// Statements with a fault, from stage 2 to stage 12, whatever stands before them.
+const FAULTY: [&str; 10] = [
+    "label 0X1 ;",
+    "label ;",
+    "suppressif NOT NOT NOT NOT NOT NOT NOT NOT NOT NOT NOT NOT NOT NOT NOT NOT NOT NOT NOT NOT NOT NOT NOT NOT NOT NOT NOT \
+     NOT NOT NOT NOT NOT NOT 1 ; endif ;",
+    "label 65536 ;",
+    "endform ; form formid = 64999 , title = STRING_TOKEN ( 1 ) ; endform ; form formid = 64999 , title = STRING_TOKEN ( 2 ) ;",
+    "goto 1 , questionid = 64998 , prompt = STRING_TOKEN ( 1 ) , help = STRING_TOKEN ( 2 ) ; \
+     goto 1 , questionid = 64998 , prompt = STRING_TOKEN ( 1 ) , help = STRING_TOKEN ( 2 ) ;",
+    "rule late_name , 1 endrule ; rule late_name , 1 endrule ;",
+    "rule late_name , ruleref ( lost_name ) endrule ;",
+    "numeric prompt = STRING_TOKEN ( 1 ) , help = STRING_TOKEN ( 2 ) , minimum = 5 , maximum = 4 , endnumeric ;",
+    "oneof prompt = STRING_TOKEN ( 1 ) , help = STRING_TOKEN ( 2 ) , option text = STRING_TOKEN ( 3 ) , value = 7 , flags = 0 ; \
+     option text = STRING_TOKEN ( 3 ) , value = 0x7 , flags = 0 ; endoneof ;",
+];
+
+/// A text of many lines with a fault in the last of them.
+pub fn faulty_late(random: &mut Random) -> Vec<u8> {
+    const END: usize = 4;
+    let mut tokens = many_tokens(random);
+    let at = tokens.len() - END;
+    tokens.splice(at..at, random.pick(&FAULTY).split(' ').map(str::to_string));
+    if random.once_in(3) {
+        let at = tokens.len() - 1 - random.below(3 * END);
+        tokens[at] = lexeme(random);
+    }
+    render_lines(&tokens, random)
 }
 
 pub fn damaged_tokens(random: &mut Random) -> Vec<u8> {

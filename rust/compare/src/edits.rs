@@ -1,4 +1,4 @@
-//! Every small edit of one source that has every form of the grammar.
+//! Every small edit of one source that has every form of the grammar. A line ends after each `;`.
 
 use crate::damage::{RESERVED, SIGNS};
 
@@ -29,13 +29,24 @@ endform ; endformset ;";
 
 const OTHERS: [&str; 12] = ["A", "Q", "X", "0", "1", "2", "9", "0x9", "65536", "18446744073709551616", "0x", "@"];
 
-const BYTES: &[u8] = b" \n/!=<>|(){},;0x9aA_\x00\x0c\xff";
+const BYTES: &[u8] = b" \t\r\n/!=<>|(){},;0x9aA_\x00\x0c\xff";
+
+/// Tokens with blanks between: LF after a `;`, CR LF after a closing brace, and a space elsewhere.
+fn lines(tokens: &[&str]) -> String {
+    let end = |token: &str| match token {
+        ";" => "\n",
+        "}" => "\r\n",
+        _ => " ",
+    };
+    tokens.iter().flat_map(|token| [*token, end(token)]).collect()
+}
 
 /// Hands on the source with each token replaced, preceded by another, left out or the last; then the same for bytes.
 pub fn every_edit(mut visit: impl FnMut(&[u8])) {
     let tokens: Vec<&str> = WHOLE.split(' ').collect();
+    let whole = lines(&tokens);
     let mut hand =
-        |start: &[&str], middle: &[&str], end: &[&str]| visit([start, middle, end].concat().join(" ").as_bytes());
+        |start: &[&str], middle: &[&str], end: &[&str]| visit(lines(&[start, middle, end].concat()).as_bytes());
     hand(&tokens, &[], &[]);
     for at in 0..tokens.len() {
         let (before, after) = tokens.split_at(at);
@@ -46,8 +57,8 @@ pub fn every_edit(mut visit: impl FnMut(&[u8])) {
             hand(before, &[lexeme], after);
         }
     }
-    for at in 0..WHOLE.len() {
-        let (before, after) = WHOLE.as_bytes().split_at(at);
+    for at in 0..whole.len() {
+        let (before, after) = whole.as_bytes().split_at(at);
         visit(&[before, &after[1..]].concat());
         for byte in BYTES {
             visit(&[before, &[*byte], &after[1..]].concat());

@@ -37,6 +37,12 @@ pub fn text(random: &mut Random) -> Vec<u8> {
     render(&tokens, random)
 }
 
+/// The tokens of a long one, without a fault.
+pub fn many_tokens(random: &mut Random) -> Vec<String> {
+    let items = random.between(40, 200);
+    Writer::new(random, Vec::new()).source(items)
+}
+
 /// The tokens of one.
 pub fn tokens(random: &mut Random) -> Vec<String> {
     let faults = match random.below(10) {
@@ -570,14 +576,16 @@ fn in_word(byte: u8) -> bool {
     byte.is_ascii_alphanumeric() || byte == b'_'
 }
 
-/// The tokens' bytes with blanks and comments between: none that is not needed, a space, or any.
+/// The tokens' bytes with blanks and comments between: none that is not needed, a space, any, or lines.
 pub fn render(tokens: &[impl AsRef<str>], random: &mut Random) -> Vec<u8> {
-    let style = random.below(4);
+    let style = random.below(6);
+    if style >= 4 {
+        return render_lines(tokens, random);
+    }
     let mut bytes = Vec::new();
     for token in tokens {
         let token = token.as_ref().as_bytes();
-        let meet =
-            bytes.last().is_some_and(|&last| in_word(last)) && token.first().is_some_and(|&first| in_word(first));
+        let meet = would_meet(&bytes, token);
         match style {
             0 | 1 if meet => bytes.push(b' '),
             2 => bytes.push(b' '),
@@ -592,6 +600,11 @@ pub fn render(tokens: &[impl AsRef<str>], random: &mut Random) -> Vec<u8> {
     bytes
 }
 
+/// Whether a token would run on from the bytes before it.
+fn would_meet(bytes: &[u8], token: &[u8]) -> bool {
+    bytes.last().is_some_and(|&last| in_word(last)) && token.first().is_some_and(|&first| in_word(first))
+}
+
 fn gap(bytes: &mut Vec<u8>, needed: bool, random: &mut Random) {
     if needed {
         bytes.push(b" \t\r\n"[random.below(4)]);
@@ -600,11 +613,59 @@ fn gap(bytes: &mut Vec<u8>, needed: bool, random: &mut Random) {
         bytes.push(b" \t\r\n"[random.below(4)]);
     }
     if random.once_in(30) {
-        bytes.extend(b"//");
-        for _ in 0..random.below(12) {
-            let byte = random.number() as u8;
-            bytes.push(if byte == b'\n' { b'/' } else { byte });
-        }
+        comment(bytes, random);
         bytes.push(b'\n');
+    }
+}
+
+/// A comment of any bytes but LF, bytes over 127 and CR among them; an LF is to follow.
+fn comment(bytes: &mut Vec<u8>, random: &mut Random) {
+    bytes.extend(b"//");
+    if random.once_in(4) {
+        bytes.extend(random.pick(&[" caf\u{e9}", "\u{2192}\t", " a\rb", "// \u{1f525}"]).bytes());
+    }
+    for _ in 0..random.below(12) {
+        let byte = random.number() as u8;
+        bytes.push(if byte == b'\n' { b'/' } else { byte });
+    }
+}
+
+/// The tokens in lines: a statement or a part of one on each, indented, with comments and empty lines between. Lines end
+/// in LF, in CR LF, or in either; the last may have no end.
+pub fn render_lines(tokens: &[impl AsRef<str>], random: &mut Random) -> Vec<u8> {
+    let ends: &[&str] = [&["\n"][..], &["\r\n"], &["\n", "\r\n", "\r", "\n\n", "\r\r\n"]][random.below(3)];
+    let mut bytes = Vec::new();
+    for token in tokens {
+        let token = token.as_ref().as_bytes();
+        let breaks = bytes.ends_with(b";") || bytes.ends_with(b",") && random.once_in(5);
+        if breaks {
+            line_break(&mut bytes, ends, random);
+        } else if would_meet(&bytes, token) || random.once_in(3) {
+            bytes.push(b" \t"[random.below(2)]);
+        }
+        bytes.extend(token);
+    }
+    match random.below(4) {
+        0 => {}
+        1 => comment(&mut bytes, random),
+        _ => line_break(&mut bytes, ends, random),
+    }
+    bytes
+}
+
+/// The end of a line, comments and empty lines, and the blanks before the next token.
+fn line_break(bytes: &mut Vec<u8>, ends: &[&str], random: &mut Random) {
+    loop {
+        if random.once_in(4) {
+            comment(bytes, random);
+            bytes.push(b'\n');
+        } else {
+            bytes.extend(random.pick(ends).bytes());
+        }
+        let indent = random.below(4);
+        bytes.extend(std::iter::repeat_n(b" \t"[random.below(2)], indent));
+        if !random.once_in(5) {
+            return;
+        }
     }
 }

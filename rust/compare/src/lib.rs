@@ -1,5 +1,5 @@
-//! What the programs of this crate share: the checks of the library against the reference, the sources for them, and the
-//! tally of the answers met.
+//! What the programs of this crate share: the checks of the library against the reference, the sources for them, the
+//! tally of the answers met, and the count of checks of given cases.
 
 #![forbid(unsafe_code)]
 
@@ -9,6 +9,7 @@ pub mod edits;
 mod grammar;
 pub mod json;
 mod limits;
+pub mod outcomes;
 pub mod random;
 pub mod sources;
 pub mod tally;

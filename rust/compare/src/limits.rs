@@ -49,7 +49,7 @@ fn framed(items: &str) -> Vec<u8> {
 fn padded(random: &mut Random) -> Vec<u8> {
     let text = text(random);
     let length = random.between(65_534, 65_538).saturating_sub(text.len()).max(3);
-    let blanks = vec![b' '; length];
+    let blanks = random.pick(&[" ", "\n", "\r\n", "\t", "\r", " \n"]).bytes().cycle().take(length).collect();
     let comment = [b"//", vec![b'/'; length - 3].as_slice(), b"\n"].concat();
     let padding = if random.once_in(2) { blanks } else { comment };
     if random.once_in(2) {

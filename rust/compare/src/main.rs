@@ -1,15 +1,17 @@
 //! `compare SECONDS [SEED]`: the library against the reference on every edit of one source, which takes
-//! about ten seconds, then on random sources for so long. It prints how often each call gave each answer; a run of at
-//! least a minute fails where an answer that a call can give was never met, a shorter one only says so.
+//! about ten seconds, then on random sources for so long. It prints how often each call gave each answer, and how many
+//! tokens were compared; a run of at least a minute fails where an answer that a call can give, or a token, was never met,
+//! a shorter one only says so.
 
 #![forbid(unsafe_code)]
 
-use compare::check;
+use compare::check::{self, Answered, MOST_NUMBERS};
 use compare::edits::every_edit;
 use compare::random::Random;
 use compare::sources;
-use compare::tally::{Call, Met, Tally};
-use reference::{ROW, TEXT_REFUSAL};
+use compare::tally::{Call, Tally};
+use library::ANSWER;
+use reference::{Position, ROW, TEXT_REFUSAL};
 use std::env;
 use std::process::ExitCode;
 use std::time::{Duration, Instant, SystemTime, UNIX_EPOCH};
@@ -43,34 +45,74 @@ fn table_lengths(source: &[u8], random: &mut Random) -> Vec<usize> {
     vec![enough, short]
 }
 
-/// What is compared on one source.
+/// What is compared on one source, with the lengths of what is lent: of tables, outputs, answers and tokens.
 #[derive(Clone, Copy, Debug)]
 enum Check {
     Quick,
-    Table(usize),
-    Answer(usize, usize),
-    Resolve(usize, usize),
+    Read { table: usize, answer: usize },
+    Resolve { table: usize, out: usize, answer: usize },
+    Walk,
+    Token { at: usize, position: Position, token: usize },
 }
 
-/// What a check met, if it tells of one call's answer; or how the two differ.
-fn outcome(source: &[u8], check: Check) -> Result<Option<(Call, Met)>, String> {
+/// What a check met.
+enum Outcome {
+    Answer(Call, Answered),
+    Tokens(Vec<u64>),
+    Nothing,
+}
+
+/// What a check met, or how the two differ.
+fn outcome(source: &[u8], check: Check) -> Result<Outcome, String> {
+    let of = |call| move |answered| Outcome::Answer(call, answered);
     match check {
-        Check::Quick => check::quick(source).map(|met| Some((Call::Quick, met))),
-        Check::Table(length) => check::reading(source, length).map(|met| Some((Call::Reading, met))),
-        Check::Answer(table, answer) => check::short_answer(source, table, answer).map(|()| None),
-        Check::Resolve(table, out) => check::resolving(source, table, out).map(|met| Some((Call::Resolving, met))),
+        Check::Quick => check::quick(source).map(of(Call::Quick)),
+        Check::Read { table, answer } => check::reading(source, table, answer).map(of(Call::Reading)),
+        Check::Resolve { table, out, answer } => check::resolving(source, table, out, answer).map(of(Call::Resolving)),
+        Check::Walk => check::walk(source).map(Outcome::Tokens),
+        Check::Token { at, position, token } => check::token(source, at, position, token).map(|()| Outcome::Nothing),
     }
 }
 
+/// All calls, with answers that have room for all; and now and then with answers and tokens of any length.
 fn checks(source: &[u8], random: &mut Random) -> Vec<Check> {
     let lengths = table_lengths(source, random);
-    let mut checks = vec![Check::Quick];
-    if random.once_in(8) {
-        checks.push(Check::Answer(lengths[0], random.below(8)));
+    let mut checks = vec![Check::Quick, Check::Walk];
+    for &table in &lengths {
+        let out = output_length(source, random);
+        checks.push(Check::Read { table, answer: random.between(ANSWER, MOST_NUMBERS) });
+        checks.push(Check::Resolve { table, out, answer: random.between(ANSWER, MOST_NUMBERS) });
     }
-    checks.extend(lengths.iter().map(|&length| Check::Resolve(length, output_length(source, random))));
-    checks.extend(lengths.into_iter().map(Check::Table));
+    if random.once_in(8) {
+        let (table, out) = (lengths[random.below(lengths.len())], output_length(source, random));
+        checks.push(Check::Read { table, answer: random.between(0, MOST_NUMBERS) });
+        checks.push(Check::Resolve { table, out, answer: random.between(0, MOST_NUMBERS) });
+    }
+    if random.once_in(4) {
+        checks.push(token_check(source, random));
+    }
     checks
+}
+
+/// The token from any place on, the length and past it too, with any line and column.
+fn token_check(source: &[u8], random: &mut Random) -> Check {
+    let at = match random.below(8) {
+        0 => source.len(),
+        1 => source.len().saturating_add(random.between(1, 100)),
+        2 => usize::MAX - random.below(100),
+        _ => random.below(source.len() + 1),
+    };
+    let position = Position { line: any_count(random), column: any_count(random) };
+    Check::Token { at, position, token: random.between(0, MOST_NUMBERS) }
+}
+
+/// A line or column: small, near 2^64 - 1, or any.
+fn any_count(random: &mut Random) -> u64 {
+    match random.below(4) {
+        0 => random.number(),
+        1 => u64::MAX - random.below(300) as u64,
+        _ => random.below(300) as u64,
+    }
 }
 
 /// The length of an output: none, a byte short, exact, more than enough, or any.
@@ -159,8 +201,9 @@ impl Run {
         for check in checks(source, random) {
             self.checks += 1;
             match outcome(source, check) {
-                Ok(Some((call, met))) => self.tally.note(call, met),
-                Ok(None) => {}
+                Ok(Outcome::Answer(call, answered)) => self.note(call, answered),
+                Ok(Outcome::Tokens(classes)) => self.tally.note_tokens(&classes),
+                Ok(Outcome::Nothing) => {}
                 Err(_) => {
                     report(seed, source, check);
                     return false;
@@ -168,6 +211,13 @@ impl Run {
             }
         }
         true
+    }
+
+    fn note(&mut self, call: Call, answered: Answered) {
+        self.tally.note(call, answered.met);
+        if call == Call::Reading && answered.line > 1 {
+            self.tally.note(Call::ReadingLater, answered.met);
+        }
     }
 
     /// Every edit of one source.
@@ -199,7 +249,7 @@ impl Run {
         let missing = self.tally.missing();
         let is_whole = seconds >= WHOLE_RUN;
         let weight = if is_whole { "NEVER MET" } else { "not met (a run of a minute or more would fail)" };
-        missing.iter().for_each(|(call, met)| println!("{weight}: {call}, {met}"));
+        missing.iter().for_each(|what| println!("{weight}: {what}"));
         missing.is_empty() || !is_whole
     }
 }

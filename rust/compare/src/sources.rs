@@ -1,6 +1,6 @@
 //! Random sources of all sorts.
 
-use crate::damage::{byte_soup, cut, damaged_bytes, damaged_tokens, token_soup};
+use crate::damage::{byte_soup, cut, damaged_bytes, damaged_tokens, faulty_late, token_soup};
 use crate::grammar::text;
 use crate::limits::at_a_limit;
 use crate::random::Random;
@@ -8,7 +8,8 @@ use crate::random::Random;
 /// A source of any sort.
 pub fn source(random: &mut Random) -> Vec<u8> {
     match random.below(100) {
-        0..=44 => text(random),
+        0..=42 => text(random),
+        43..=44 => faulty_late(random),
         45..=69 => damaged_tokens(random),
         70..=84 => damaged_bytes(random),
         85..=89 => cut(random),

@@ -1,23 +1,28 @@
-//! Which answers were met, call by call, and which should have been.
+//! Which answers were met, call by call, and which tokens; and which should have been.
 
-use reference::{Refusal, LONGEST, QUICK_REFUSALS, READ_REFUSALS, TEXT_REFUSAL};
+use reference::{Kind, Refusal, LONGEST, PLACELESS_REFUSALS, QUICK_REFUSALS, READ_REFUSALS, TEXT_REFUSAL};
 use std::collections::BTreeMap;
 use std::fmt;
 
-/// The calls that are compared.
+/// The calls that are compared and have answers. Reading is counted once more where its refusal has a line past the first.
 #[derive(Clone, Copy, PartialEq, Eq, PartialOrd, Ord, Debug)]
 pub enum Call {
     Reading,
+    ReadingLater,
     Quick,
     Resolving,
 }
 
-const CALLS: [Call; 3] = [Call::Reading, Call::Quick, Call::Resolving];
+const CALLS: [Call; 4] = [Call::Reading, Call::ReadingLater, Call::Quick, Call::Resolving];
+
+/// How many classes of tokens there are.
+const CLASSES: usize = Kind::End as usize + 1;
 
 impl fmt::Display for Call {
     fn fmt(&self, f: &mut fmt::Formatter) -> fmt::Result {
         f.pad(match self {
             Call::Reading => "reading",
+            Call::ReadingLater => "past line 1",
             Call::Quick => "quick check",
             Call::Resolving => "resolving",
         })
@@ -28,8 +33,13 @@ impl Call {
     /// The answers that a call can give.
     fn answers(self) -> Vec<Met> {
         let refusals = if self == Call::Quick { QUICK_REFUSALS } else { READ_REFUSALS };
-        let mut answers = vec![Met::Accepted];
-        answers.extend(refusals.iter().copied().map(Met::Refused));
+        let mut answers: Vec<Met> = refusals.iter().copied().map(Met::Refused).collect();
+        match self {
+            Call::ReadingLater => {
+                answers.retain(|met| !PLACELESS_REFUSALS.iter().any(|&number| *met == Met::Refused(number)))
+            }
+            _ => answers.insert(0, Met::Accepted),
+        }
         if self == Call::Resolving {
             answers.extend([Met::OutputShort, Met::TextLong]);
         }
@@ -80,10 +90,11 @@ impl fmt::Display for Met {
     }
 }
 
-/// How often each call gave each answer.
+/// How often each call gave each answer, and how often each class of tokens was met.
 #[derive(Default)]
 pub struct Tally {
     counts: BTreeMap<(Met, Call), u64>,
+    classes: BTreeMap<u64, u64>,
 }
 
 impl Tally {
@@ -91,18 +102,24 @@ impl Tally {
         *self.counts.entry((met, call)).or_default() += 1;
     }
 
+    pub fn note_tokens(&mut self, classes: &[u64]) {
+        classes.iter().for_each(|&class| *self.classes.entry(class).or_default() += 1);
+    }
+
     fn count(&self, call: Call, met: Met) -> u64 {
         self.counts.get(&(met, call)).copied().unwrap_or(0)
     }
 
-    /// The answers that a call can give and never gave.
-    pub fn missing(&self) -> Vec<(Call, Met)> {
+    /// The answers that a call can give and never gave, and the classes of tokens that were never met.
+    pub fn missing(&self) -> Vec<String> {
         let all = CALLS.into_iter().flat_map(|call| call.answers().into_iter().map(move |met| (call, met)));
-        all.filter(|&(call, met)| self.count(call, met) == 0).collect()
+        let answers = all.filter(|&(call, met)| self.count(call, met) == 0).map(|(call, met)| format!("{call}, {met}"));
+        let classes = (0..CLASSES as u64).filter(|class| !self.classes.contains_key(class));
+        answers.chain(classes.map(|class| format!("tokens of class {class}"))).collect()
     }
 }
 
-/// A line for each answer, a column for each call; `-` where the call cannot give it.
+/// A line for each answer, a column for each call; `-` where the call cannot give it. Then a line for the tokens.
 impl fmt::Display for Tally {
     fn fmt(&self, f: &mut fmt::Formatter) -> fmt::Result {
         write!(f, "{:32}", "")?;
@@ -117,6 +134,7 @@ impl fmt::Display for Tally {
                 }
             }
         }
-        Ok(())
+        let tokens: u64 = self.classes.values().sum();
+        write!(f, "\n  {tokens} tokens of {} classes, of {CLASSES} that there are", self.classes.len())
     }
 }

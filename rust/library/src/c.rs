@@ -14,6 +14,15 @@ extern "C" {
         answer: *mut u64,
         answer_len: usize,
     );
+    fn vfr_token(
+        src: *const u8,
+        src_len: usize,
+        at: usize,
+        line: usize,
+        column: usize,
+        token: *mut u64,
+        token_len: usize,
+    );
 }
 
 /// Stages 1 to 5: the refusal's number times 2^32 plus its place, or 0.
@@ -22,7 +31,7 @@ pub fn quick_check(source: &[u8]) -> u64 {
     unsafe { vfr_quick_check(source.as_ptr(), source.len()) }
 }
 
-/// Reads a source into a table; the answer's numbers are written as far as there is room.
+/// Reads a source into a table; every number of the answer is written, 0 past the layout.
 pub fn read_into(source: &[u8], table: &mut [u64], answer: &mut [u64]) {
     // Each pointer and length are those of one slice, and the borrows keep the slices apart.
     unsafe {
@@ -30,7 +39,7 @@ pub fn read_into(source: &[u8], table: &mut [u64], answer: &mut [u64]) {
     }
 }
 
-/// Reads a source into a table and writes its resolved text; the answer's numbers are written as far as there is room.
+/// Reads a source into a table and writes its resolved text; every number of the answer is written, 0 past the layout.
 pub fn resolve_into(source: &[u8], table: &mut [u64], out: &mut [u8], answer: &mut [u64]) {
     // As above.
     unsafe {
@@ -45,4 +54,11 @@ pub fn resolve_into(source: &[u8], table: &mut [u64], out: &mut [u8], answer: &m
             answer.len(),
         )
     }
+}
+
+/// The token that stands first from a place on, which has this line and column; every number lent is written, 0 past the
+/// layout.
+pub fn token_into(source: &[u8], at: usize, line: usize, column: usize, token: &mut [u64]) {
+    // As above; the place may be any number.
+    unsafe { vfr_token(source.as_ptr(), source.len(), at, line, column, token.as_mut_ptr(), token.len()) }
 }

@@ -1,6 +1,6 @@
 //! Cases: sources with the rows lent for them.
 
-use reference::{Reading, Refusal};
+use reference::{Position, Reading, Refusal};
 use std::path::Path;
 use std::{fs, io};
 
@@ -20,16 +20,24 @@ pub struct Told {
     pub place: usize,
     pub rows: usize,
     pub free: u64,
+    pub position: Position,
     pub cells: Vec<u64>,
 }
 
 impl Case {
     pub fn told(&self) -> Told {
         match reference::read(&self.source, self.rows) {
-            Ok(Reading { rows, free }) => {
-                Told { number: 0, place: 0, rows: rows.len(), free, cells: rows.into_iter().flatten().collect() }
+            Ok(Reading { rows, free }) => Told {
+                number: 0,
+                place: 0,
+                rows: rows.len(),
+                free,
+                position: Position::NONE,
+                cells: rows.into_flattened(),
+            },
+            Err(Refusal { number, place, position, need }) => {
+                Told { number, place, rows: need, free: 0, position, cells: Vec::new() }
             }
-            Err(Refusal { number, place, need }) => Told { number, place, rows: need, free: 0, cells: Vec::new() },
         }
     }
 

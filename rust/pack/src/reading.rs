@@ -1,9 +1,9 @@
 //! The packed cases of reading: a sequence of groups. All numbers have their high byte first.
 //!
 //! - group: number of cases (4 bytes), length of the name (4 bytes), the name, the cases
-//! - case: a head of 11 numbers of 4 bytes, the stored source, the packed cells
-//! - head: case number, numbers lent, refusal number, place, row count, free count, length of the source, start of its
-//!   longest run of one byte, length of that run, the byte, length of the packed cells
+//! - case: a head of 13 numbers of 4 bytes, the stored source, the packed cells
+//! - head: case number, numbers lent, refusal number, place, row count, free count, line, column, length of the source,
+//!   start of its longest run of one byte, length of that run, the byte, length of the packed cells
 //! - source: without its longest run; runs below 64 bytes are not taken out (start, length and byte are 0)
 //! - cells: each number of the expected rows: how many bytes it has (0 to 8), then these bytes. The rest is 0.
 
@@ -86,7 +86,10 @@ fn put_case(bytes: &mut Vec<u8>, case: &Case) {
     for number in [case.number as usize, case.rows * ROW, told.number as usize, told.place, told.rows] {
         put(bytes, number);
     }
-    for number in [told.free as usize, source.len(), run.start, run.length, run.byte.into(), cells.len()] {
+    for number in [told.free, told.position.line, told.position.column] {
+        put(bytes, number as usize);
+    }
+    for number in [source.len(), run.start, run.length, run.byte.into(), cells.len()] {
         put(bytes, number);
     }
     bytes.extend(&source[..run.start]);

@@ -1,25 +1,25 @@
 //! Document 01, section "Tokens".
 
-/// What a token is to the grammar.
+/// What a token is to the grammar. The order is that of the classes' numbers.
 #[derive(Clone, Copy, PartialEq, Eq, Debug)]
 #[rustfmt::skip]
 pub enum Kind {
-    // Signs.
+    // Signs, in document 01's order.
     OpenBrace, CloseBrace, OpenParen, CloseParen, Comma, Semicolon, Equals, Bar, Ampersand,
     Equal, NotEqual, Less, LessEqual, Greater, GreaterEqual, ShiftLeft, ShiftRight,
     Plus, Minus, Star, Slash, Percent,
-    // Reserved words.
-    And, Checkbox, Default, DefaultFlag, Disableif, Endcheckbox, Endform, Endformset, Endif,
-    Endnumeric, Endoneof, Endrule, False, Flags, Form, Formid, Formset, Goto, Grayoutif, Guid,
-    Help, Interactive, Label, Maximum, Minimum, Name, Not, Numeric, One, Oneof, Ones, Option, Or,
-    Prompt, Questionid, Questionref, ReadOnly, ResetRequired, Rule, Ruleref, Step, StringToken,
-    Subtitle, Suppressif, Text, Title, True, Undefined, Value, Zero,
+    // Reserved words, in byte order.
+    And, DefaultFlag, False, Interactive, Not, One, Ones, Or, ReadOnly, ResetRequired, StringToken, True,
+    Undefined, Zero, Checkbox, Default, Disableif, Endcheckbox, Endform, Endformset, Endif, Endnumeric,
+    Endoneof, Endrule, Flags, Form, Formid, Formset, Goto, Grayoutif, Guid, Help, Label, Maximum,
+    Minimum, Name, Numeric, Oneof, Option, Prompt, Questionid, Questionref, Rule, Ruleref, Step,
+    Subtitle, Suppressif, Text, Title, Value,
     // Other words, numbers, and what is no token.
     Word, Hex, Decimal, Bad, End,
 }
 
 /// A token and its bytes' range; a bad token and the end have an empty one.
-#[derive(Clone, Copy, Debug)]
+#[derive(Clone, Copy, PartialEq, Eq, Debug)]
 pub struct Token {
     pub kind: Kind,
     pub start: usize,
@@ -34,7 +34,12 @@ pub struct Lexer<'a> {
 
 impl<'a> Lexer<'a> {
     pub fn new(source: &'a [u8]) -> Self {
-        Lexer { source, place: 0 }
+        Self::at(source, 0)
+    }
+
+    /// From a place within the source.
+    pub fn at(source: &'a [u8], place: usize) -> Self {
+        Lexer { source, place }
     }
 
     pub fn next_token(&mut self) -> Token {

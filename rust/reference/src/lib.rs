@@ -1,16 +1,21 @@
 //! A plain reader, resolver and quick check for VFR sources, written from document 01 ("VFR sources to rows and
-//! resolved text", with the readings of docs/DECISIONS.md) and not from the library. The library is compared with it.
+//! resolved text", with the readings of docs/DECISIONS.md) and document 02's W-201, and not from the library. The library
+//! is compared with it.
 
 #![forbid(unsafe_code)]
 
 mod lexer;
 mod parser;
+mod position;
 mod record;
 mod row;
 mod text;
+mod walk;
 
 pub use lexer::{Kind, Lexer, Token};
+pub use position::Position;
 pub use row::{column, Row, ROW};
+pub use walk::{Placed, Walk};
 
 /// Document 01's longest source and longest resolved text.
 pub const LONGEST: usize = 65_536;
@@ -24,21 +29,34 @@ pub const READ_REFUSALS: &[u64] = &[1, 2, 3, 4, 5, 6, 7, 8, 9, 10, 11, 12];
 /// The refusal that resolving gives besides those of reading.
 pub const TEXT_REFUSAL: u64 = 13;
 
-/// A refusal's number and place, and the need that 6 (rows) and 13 (bytes) tell.
+/// The refusals whose place is always 0, so that they have no line and column.
+pub const PLACELESS_REFUSALS: &[u64] = &[1, 6, 13];
+
+/// A refusal's number and place, the place's line and column, and the need that 6 (rows) and 13 (bytes) tell.
 #[derive(Clone, Copy, PartialEq, Eq, Debug)]
 pub struct Refusal {
     pub number: u64,
     pub place: usize,
+    pub position: Position,
     pub need: usize,
 }
 
 impl Refusal {
+    /// Line and column are given by `located`.
     fn new(number: u64, place: usize) -> Self {
-        Refusal { number, place, need: 0 }
+        Refusal { number, place, position: Position::NONE, need: 0 }
     }
 
     fn short(number: u64, need: usize) -> Self {
-        Refusal { number, place: 0, need }
+        Refusal { number, place: 0, position: Position::NONE, need }
+    }
+
+    /// With the line and column of its place, if it has one in the source.
+    fn located(self, source: &[u8]) -> Self {
+        if PLACELESS_REFUSALS.contains(&self.number) {
+            return self;
+        }
+        Refusal { position: Position::of(source, self.place), ..self }
     }
 }
 
@@ -61,15 +79,9 @@ fn check_length(source: &[u8]) -> Result<(), Refusal> {
     Ok(())
 }
 
-/// Stages 1 to 5.
-pub fn check(source: &[u8]) -> Result<(), Refusal> {
-    check_length(source)?;
-    parser::parse(source, &mut Unheard)
-}
-
-/// Stages 1 to 5 as one number: the refusal's number times 2^32 plus its place, or 0.
+/// Stages 1 to 5 as one number: the refusal's number times 2^32 plus its place, or 0. Line and column have no part in it.
 pub fn quick_check(source: &[u8]) -> u64 {
-    match check(source) {
+    match check_length(source).and_then(|()| parser::parse(source, &mut Unheard)) {
         Ok(()) => 0,
         Err(refusal) => refusal.number << 32 | refusal.place as u64,
     }
@@ -77,6 +89,11 @@ pub fn quick_check(source: &[u8]) -> u64 {
 
 /// Reads a source, with this many rows lent.
 pub fn read(source: &[u8], rows_lent: usize) -> Result<Reading, Refusal> {
+    read_in_order(source, rows_lent).map_err(|refusal| refusal.located(source))
+}
+
+/// Stages 1 to 12, without line and column of a refusal.
+fn read_in_order(source: &[u8], rows_lent: usize) -> Result<Reading, Refusal> {
     check_length(source)?;
     let mut record = record::Record::new();
     parser::parse(source, &mut record)?;

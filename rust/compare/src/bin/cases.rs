@@ -5,6 +5,8 @@
 
 use compare::check;
 use compare::json::{base64, Json};
+use compare::outcomes::{differ, Outcomes};
+use library::ANSWER;
 use reference::{Reading, Refusal, LONGEST, ROW};
 use std::path::Path;
 use std::process::ExitCode;
@@ -13,24 +15,6 @@ use std::{env, fs};
 /// The lent rows and bytes of the program `resolve`.
 const PROGRAM_ROWS: usize = 512;
 const PROGRAM_BYTES: usize = LONGEST;
-
-#[derive(Default)]
-struct Tally {
-    passed: usize,
-    failed: usize,
-}
-
-impl Tally {
-    fn note(&mut self, what: &str, fault: Option<String>) {
-        match fault {
-            None => self.passed += 1,
-            Some(fault) => {
-                self.failed += 1;
-                println!("{what}: {fault}");
-            }
-        }
-    }
-}
 
 /// What the program `resolve` prints.
 fn printed(source: &[u8]) -> String {
@@ -46,23 +30,19 @@ fn text_case(source: &[u8], expected: &[u8]) -> Option<String> {
         .then(|| format!("printed {given:?}\nexpected {:?}", String::from_utf8_lossy(expected)))
 }
 
-fn text_cases(folder: &Path, tally: &mut Tally) -> std::io::Result<()> {
+fn text_cases(folder: &Path, outcomes: &mut Outcomes) -> std::io::Result<()> {
     let mut paths: Vec<_> = fs::read_dir(folder)?.filter_map(|entry| Some(entry.ok()?.path())).collect();
     paths.sort();
     for path in paths.iter().filter(|path| path.extension().is_some_and(|end| end == "vfr")) {
         let source = fs::read(path)?;
         let expected = fs::read(path.with_extension("expected"))?;
         let name = path.display().to_string();
-        tally.note(&name, text_case(&source, &expected));
-        tally.note(&name, check::reading(&source, ROW * PROGRAM_ROWS).err());
-        tally.note(&name, check::resolving(&source, ROW * PROGRAM_ROWS, PROGRAM_BYTES).err());
-        tally.note(&name, check::quick(&source).err());
+        outcomes.note(&name, text_case(&source, &expected));
+        outcomes.note(&name, check::reading(&source, ROW * PROGRAM_ROWS, ANSWER).err());
+        outcomes.note(&name, check::resolving(&source, ROW * PROGRAM_ROWS, PROGRAM_BYTES, ANSWER).err());
+        outcomes.note(&name, check::quick(&source).err());
     }
     Ok(())
-}
-
-fn differ<T: PartialEq + std::fmt::Debug>(what: &str, given: T, expected: T) -> Option<String> {
-    (given != expected).then(|| format!("{what} {given:?}, expected {expected:?}"))
 }
 
 /// Number, place, row count, free count and table of a reading.
@@ -71,7 +51,7 @@ type Told = (u64, u64, u64, u64, Vec<Vec<u64>>);
 fn told(reading: &Result<Reading, Refusal>) -> Told {
     match reading {
         Ok(Reading { rows, free }) => (0, 0, rows.len() as u64, *free, rows.iter().map(|row| row.to_vec()).collect()),
-        Err(Refusal { number, place, need }) => (*number, *place as u64, *need as u64, 0, Vec::new()),
+        Err(Refusal { number, place, need, .. }) => (*number, *place as u64, *need as u64, 0, Vec::new()),
     }
 }
 
@@ -91,7 +71,7 @@ fn resolve_case(source: &[u8], rows: usize, bytes: usize, case: &Json) -> Option
     differ("resolve", numbers, expected).or_else(|| differ("text", text.as_str(), case.field("text").text()))
 }
 
-fn row_cases(folder: &Path, tally: &mut Tally) -> std::io::Result<()> {
+fn row_cases(folder: &Path, outcomes: &mut Outcomes) -> std::io::Result<()> {
     for line in fs::read_to_string(folder.join("rows.jsonl"))?.lines() {
         let case = Json::parse(line).expect("a JSON object on each line");
         let name = format!("rows.jsonl {}", case.field("id").number());
@@ -99,12 +79,12 @@ fn row_cases(folder: &Path, tally: &mut Tally) -> std::io::Result<()> {
         let rows = case.field("table_rows").number() as usize;
         let bytes = case.field("out_len").number() as usize;
         let reading = reference::read(&source, rows);
-        tally.note(&name, differ("read", told(&reading), told_in(case.field("read"))));
-        tally.note(&name, differ("quick check", reference::quick_check(&source), case.field("quick").number()));
-        tally.note(&name, resolve_case(&source, rows, bytes, case.field("resolve")));
-        tally.note(&name, check::reading(&source, ROW * rows).err());
-        tally.note(&name, check::resolving(&source, ROW * rows, bytes).err());
-        tally.note(&name, check::quick(&source).err());
+        outcomes.note(&name, differ("read", told(&reading), told_in(case.field("read"))));
+        outcomes.note(&name, differ("quick check", reference::quick_check(&source), case.field("quick").number()));
+        outcomes.note(&name, resolve_case(&source, rows, bytes, case.field("resolve")));
+        outcomes.note(&name, check::reading(&source, ROW * rows, ANSWER).err());
+        outcomes.note(&name, check::resolving(&source, ROW * rows, bytes, ANSWER).err());
+        outcomes.note(&name, check::quick(&source).err());
     }
     Ok(())
 }
@@ -114,16 +94,11 @@ fn main() -> ExitCode {
         eprintln!("cases FOLDER");
         return ExitCode::from(2);
     };
-    let mut tally = Tally::default();
+    let mut outcomes = Outcomes::default();
     let folder = Path::new(&folder);
-    if let Err(fault) = text_cases(folder, &mut tally).and_then(|()| row_cases(folder, &mut tally)) {
+    if let Err(fault) = text_cases(folder, &mut outcomes).and_then(|()| row_cases(folder, &mut outcomes)) {
         eprintln!("{}: {fault}", folder.display());
         return ExitCode::from(2);
     }
-    println!("cases: {} checks passed, {} failed", tally.passed, tally.failed);
-    if tally.failed == 0 {
-        ExitCode::SUCCESS
-    } else {
-        ExitCode::FAILURE
-    }
+    outcomes.exit("cases")
 }

@@ -21,7 +21,7 @@ pub enum Answer {
 }
 
 // The same without line and column.
-pub enum Outcome {
+enum Outcome {
     Accepted(usize, u64),
     Refused(u64, usize),
     Short(usize),

@@ -1,15 +1,28 @@
--- The numbers of an answer in lent memory.
+-- The numbers of an answer and of a token in lent memory (document 02, W-201).
 -- Assumes nothing.
 use Prim.Native.Nat.{ℕ}
-use mathlib.Core.List.{List}
-use lib.ListN.{set}
-use Rattle.answers.specs.Answer.{Answer}
-use Rattle.answers.specs.Resolution.{Resolution}
+use mathlib.Core.Bool.{cond}
+use mathlib.Core.List.{List, [], _∷_, _++_}
+use lib.Dec.{ltb}
+use lib.ListN.{take, replicate}
+use Rattle.lexemes.specs.Classes.{BAD}
+use Rattle.replies.specs.Replies.{Reply}
+use Rattle.viewer.specs.declared.Seen.{Seen}
 
--- number, place, row count and free count in the first four places, as far as there is room
-abbrev pub answerIn : List ℕ → Answer → List ℕ
-answerIn l a = set (set (set (set l 0 (a .number)) 1 (a .place)) 2 (a .rows)) 3 (a .free)
+-- in memory of n numbers: these as far as there is room, and 0 past them
+unfoldable pub inLent : ℕ → List ℕ → List ℕ
+inLent n l = take n (l ++ replicate n 0)
 
--- and the byte count in the fifth
-abbrev pub resolutionIn : List ℕ → Resolution → List ℕ
-resolutionIn l a = set (set (set (set (set l 0 (a .number)) 1 (a .place)) 2 (a .rows)) 3 (a .free)) 4 (a .bytes)
+-- number, place, row count, free count, line, column, and the bytes written besides rows
+abbrev pub replyNumbers : Reply → List ℕ
+replyNumbers r = r .number ∷ r .place ∷ r .rows ∷ r .free ∷ r .line ∷ r .column ∷ r .written ∷ []
+
+-- 1 where no further token comes: at a bad token and at the end
+abbrev pub isLast : ℕ → ℕ
+isLast class = cond (ltb class BAD) 0 1
+
+-- class, start, end, line and column of a token, the place at which to go on, and whether it is the last
+abbrev pub tokenNumbers : Seen → List ℕ
+tokenNumbers v =
+    let t = v .token .token in
+    t .class ∷ t .start ∷ t .end ∷ v .token .line ∷ v .token .column ∷ v .at ∷ isLast (t .class) ∷ []

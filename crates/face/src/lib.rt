@@ -1,42 +1,49 @@
-// The interface for C: the quick check, reading and resolving, on slices and numbers. A slice passes as a pointer and a
-// length.
+// The interface for C: the quick check, reading, resolving and the token reader, on slices and numbers. A slice passes as a
+// pointer and a length. Every number of a lent answer or token is written.
+use lexemes::classes::BAD;
 use read::Answer;
 use text::TOO_FEW_ROWS;
 use text::TOO_LONG;
 ghost use mathlib.Core.Path.{_≡_};
-ghost use lib.ListN.{length, set};
-ghost use Rattle.answers.specs.WholeAnswer.{quickCheck, readAnswer, readTable};
+ghost use lib.ListN.{length, getD};
+ghost use Rattle.answers.specs.WholeAnswer.{quickCheck, readTable};
+ghost use Rattle.answers.specs.Resolution.{resolvedTable, resolvedOutput};
+ghost use Rattle.replies.specs.Replies.{readReply, resolveReply};
 ghost use Rattle.read.specs.Answers.{told};
-ghost use Rattle.answers.specs.Resolution.{resolution, resolvedTable, resolvedOutput};
 ghost use Rattle.text.specs.Answers as text;
-ghost use Rattle.face.specs.Numbers.{answerIn, resolutionIn};
+ghost use Rattle.viewer.specs.Viewed.{seenFrom};
+ghost use Rattle.face.specs.Numbers.{inLent, isLast, replyNumbers, tokenNumbers};
 
-// The number at an index, where there is one.
-fn put(out: &mut [u64], at: usize, value: u64)
-    ensures { λ _. ⌜ now (out .exit) ≡ set (now (out .entry)) at value ⌝ }
+// The number at an index, and 0 past the end.
+fn number_at(numbers: &[u64], k: usize) -> u64
+    ensures { λ r. ⌜ r ≡ getD (now (numbers .entry)) k 0 ⌝ }
 {
-    if at < out.len() {
-        out[at] = value;
+    if k < numbers.len() {
+        return numbers[k];
+    }
+    0
+}
+
+// The numbers as far as there is room, and 0 past them.
+fn put_numbers(out: &mut [u64], numbers: &[u64])
+    ensures { λ _. ⌜ now (out .exit) ≡ inLent (length (now (out .entry))) (now (numbers .entry)) ⌝ }
+{
+    for k in 0..out.len() {
+        out[k] = number_at(numbers, k);
     }
 }
 
-fn put_four(out: &mut [u64], number: u64, place: u64, rows: u64, free: u64)
-    ensures { λ _. ⌜ now (out .exit) ≡ set (set (set (set (now (out .entry)) 0 number) 1 place) 2 rows) 3 free ⌝ }
-{
-    put(out, 0, number);
-    put(out, 1, place);
-    put(out, 2, rows);
-    put(out, 3, free);
-}
-
-// The four numbers of an answer: refusal number or 0, place, row count, free count.
+// The numbers of reading's answer.
 fn put_answer(out: &mut [u64], answer: Answer)
-    ensures { λ _. ⌜ now (out .exit) ≡ answerIn (now (out .entry)) (told answer) ⌝ }
+    ensures { λ _. ⌜ now (out .exit) ≡ inLent (length (now (out .entry))) (replyNumbers (told answer)) ⌝ }
 {
     match answer {
-        Answer::Accepted(rows, free) => put_four(out, 0, 0, rows as u64, free),
-        Answer::Refused(number, place) => put_four(out, number, place as u64, 0, 0),
-        Answer::Short(need) => put_four(out, TOO_FEW_ROWS, 0, need as u64, 0),
+        Answer::Accepted(rows, free) => put_numbers(out, &[0, 0, rows as u64, free, 0, 0, 0]),
+        Answer::Refused(number, place, line, column) => put_numbers(
+            out,
+            &[number, place as u64, 0, 0, line as u64, column as u64, 0],
+        ),
+        Answer::Short(need) => put_numbers(out, &[TOO_FEW_ROWS, 0, need as u64, 0, 0, 0, 0]),
     }
 }
 
@@ -48,48 +55,71 @@ pub extern "C" fn vfr_quick_check(src: &[u8]) -> u64
     read::quick_check(src)
 }
 
-// Reads a source into a table; the answer's numbers are written as far as there is room.
+// Reads a source into a table.
 #[no_mangle]
 pub extern "C" fn vfr_read(src: &[u8], table: &mut [u64], answer: &mut [u64])
     ensures { λ _. ⌜ now (table .exit) ≡ readTable (now (src .entry)) (length (now (table .entry))) ⌝ }
-    ensures { λ _. ⌜ now (answer .exit) ≡ answerIn (now (answer .entry)) (readAnswer (now (src .entry)) (length (now (table .entry)))) ⌝ }
+    ensures { λ _. ⌜ now (answer .exit) ≡ inLent (length (now (answer .entry))) (replyNumbers (readReply (now (src .entry)) (length (now (table .entry))))) ⌝ }
 {
     let a = read::read(src, table);
     put_answer(answer, a);
 }
 
-// The five numbers of a resolving answer: those of reading, and the byte count.
+// The numbers of resolving's answer.
 fn put_resolution(out: &mut [u64], answer: text::Answer)
-    ensures { λ _. ⌜ now (out .exit) ≡ resolutionIn (now (out .entry)) (text.told answer) ⌝ }
+    ensures { λ _. ⌜ now (out .exit) ≡ inLent (length (now (out .entry))) (replyNumbers (text.told answer)) ⌝ }
 {
     match answer {
         text::Answer::Resolved(rows, free, bytes) => {
-            put_four(out, 0, 0, rows as u64, free);
-            put(out, 4, bytes as u64);
+            put_numbers(out, &[0, 0, rows as u64, free, 0, 0, bytes as u64])
         }
-        text::Answer::Refused(number, place) => {
-            put_four(out, number, place as u64, 0, 0);
-            put(out, 4, 0);
-        }
-        text::Answer::Short(need) => {
-            put_four(out, TOO_FEW_ROWS, 0, need as u64, 0);
-            put(out, 4, 0);
-        }
-        text::Answer::Long(need) => {
-            put_four(out, TOO_LONG, 0, need as u64, 0);
-            put(out, 4, 0);
-        }
+        text::Answer::Refused(number, place, line, column) => put_numbers(
+            out,
+            &[number, place as u64, 0, 0, line as u64, column as u64, 0],
+        ),
+        text::Answer::Short(need) => put_numbers(out, &[TOO_FEW_ROWS, 0, need as u64, 0, 0, 0, 0]),
+        text::Answer::Long(need) => put_numbers(out, &[TOO_LONG, 0, need as u64, 0, 0, 0, 0]),
     }
 }
 
-// Reads a source into a table and prints its resolved text into an output; the answer's numbers are written as far as
-// there is room.
+// Reads a source into a table and prints its resolved text into an output.
 #[no_mangle]
 pub extern "C" fn vfr_resolve(src: &[u8], table: &mut [u64], out: &mut [u8], answer: &mut [u64])
     ensures { λ _. ⌜ now (table .exit) ≡ resolvedTable (now (src .entry)) (length (now (table .entry))) (length (now (out .entry))) ⌝ }
     ensures { λ _. ⌜ now (out .exit) ≡ resolvedOutput (now (src .entry)) (length (now (table .entry))) (length (now (out .entry))) ⌝ }
-    ensures { λ _. ⌜ now (answer .exit) ≡ resolutionIn (now (answer .entry)) (resolution (now (src .entry)) (length (now (table .entry))) (length (now (out .entry)))) ⌝ }
+    ensures { λ _. ⌜ now (answer .exit) ≡ inLent (length (now (answer .entry))) (replyNumbers (resolveReply (now (src .entry)) (length (now (table .entry))) (length (now (out .entry))))) ⌝ }
 {
     let a = text::resolve(src, table, out);
     put_resolution(answer, a);
+}
+
+// 1 where no further token comes: at a bad token and at the end.
+fn is_last(class: u8) -> u64
+    ensures { λ r. ⌜ r ≡ isLast class ⌝ }
+{
+    if class < BAD {
+        return 0;
+    }
+    1
+}
+
+// The token that stands first from the place `at` on, where `at` has that line and column, and the place at which to go on.
+#[no_mangle]
+pub extern "C" fn vfr_token(src: &[u8], at: usize, line: usize, column: usize, token: &mut [u64])
+    ensures { λ _. ⌜ now (token .exit) ≡ inLent (length (now (token .entry))) (tokenNumbers (seenFrom (now (src .entry)) at line column)) ⌝ }
+{
+    let seen = viewer::view(src, at, line, column);
+    let t = seen.token.token;
+    put_numbers(
+        token,
+        &[
+            t.class as u64,
+            t.start as u64,
+            t.end as u64,
+            seen.token.line as u64,
+            seen.token.column as u64,
+            seen.at as u64,
+            is_last(t.class),
+        ],
+    );
 }

@@ -1,5 +1,5 @@
 // The sources of the specimens: a form set with one form, and in it so many parentheses round a number, conditions each
-// within the one before, rules, or blanks.
+// within the one before, rules, or blanks. Each condition and each rule has one LF within it; nothing else has any.
 use trials::put::put;
 ghost use Prim.Native.Nat.{_≤_};
 ghost use lib.ListN.{length};
@@ -27,7 +27,7 @@ pub const FORM_START: u64 = 104;
 
 pub const START: u64 = 140;
 
-// The bytes of `rule A,`, of `suppressif 1;` and of a rule.
+// The bytes of `rule A,`, of a condition and of a rule.
 pub const RULE_OPENING: u64 = 7;
 
 pub const CONDITION: u64 = 13;
@@ -40,6 +40,14 @@ pub const PARENTHESIS_33: u64 = START + RULE_OPENING + 32;
 pub const CONDITION_17: u64 = START + 16 * CONDITION;
 
 pub const RULE_256: u64 = START + 255 * RULE;
+
+// The columns of these (W-201): the parenthesis is on the first line; a condition follows the `1;` of the one before, and
+// a rule the `endrule;` of the one before.
+pub const COLUMN_33: u64 = PARENTHESIS_33 + 1;
+
+pub const COLUMN_17: u64 = 3;
+
+pub const COLUMN_256: u64 = 9;
 
 // Writes a text so many times.
 fn put_times(src: &mut [u8], at: usize, text: &[u8], times: usize) -> usize {
@@ -76,7 +84,7 @@ fn digit(n: usize) -> u8 {
 }
 
 fn put_rule(k: usize, src: &mut [u8], at: usize) -> usize {
-    let mut text = *b"rule A000,1 endrule;";
+    let mut text = *b"rule A000,1\nendrule;";
     text[6] = digit(k / 100);
     text[7] = digit(k / 10);
     text[8] = digit(k);
@@ -95,7 +103,7 @@ fn put_rules(count: usize, src: &mut [u8], at: usize) -> usize {
 fn put_body(kind: u64, size: usize, src: &mut [u8], at: usize) -> usize {
     match kind {
         PARENTHESES => put_parentheses(size, src, at),
-        CONDITIONS => put_nested(src, at, size, b"suppressif 1;", b"", b"endif;"),
+        CONDITIONS => put_nested(src, at, size, b"suppressif\n1;", b"", b"endif;"),
         RULES => put_rules(size, src, at),
         _ => put_times(src, at, b" ", size),
     }

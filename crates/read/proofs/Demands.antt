@@ -1,5 +1,5 @@
 -- Demands 1 and 3 of the functions `read` and `quick_check`: what their contracts say of every source and every table lent, in document 01's terms,
--- which are those of `answers`' `specs/Demand3`.
+-- which are those of `answers`' `specs/Demand3`; and document 02's request W-201 of `read`.
 -- Assumes nothing.
 use Prim.Native.Nat.{ℕ, _+_, _-_, _*_, _/_, _^_, _≤_, _<_}
 use mathlib.Core.Path.{_≡_, sym, ap, _∙_}
@@ -16,11 +16,14 @@ use Rattle.rows.specs.Rows.{rowsFrom, laid}
 use Rattle.ll1.specs.Trees.{Trees}
 use Rattle.answers.specs.Stages.{ownNumbers, finished}
 use Rattle.answers.specs.Answer as answers
-use Rattle.answers.specs.Answer.{LONGEST, accepts, refuses, drafts}
+use Rattle.answers.specs.Answer.{LONGEST, refuses, drafts}
 use Rattle.answers.specs.WholeAnswer.{quickCheck, readAnswer, readTable}
 use Rattle.answers.specs.Demand3.{Sound, Refuses, questionNumbers, GetsSmallest}
 use Rattle.answers.proofs.Answers.{passes-grammatical}
 use Rattle.answers.proofs.Demand3 as Demand3
+use Rattle.replies.specs.Replies.{Reply, positionOf, accepting, readReplied, readReply}
+use Rattle.replies.specs.Lines.{GivesLine}
+use Rattle.replies.proofs.Laws.{gives-line, read-replied-only}
 use Rattle.read.specs.declared.Answer.{Answer}
 use Rattle.read.specs.Answers.{told}
 use Rattle.read.proofs.read.Kinds as kinds
@@ -30,7 +33,7 @@ use Rattle.read.proofs.quick_check.Reads as quick-promise
 
 -- what a call of `read` does: the source s is read into a table of n numbers; r is the answer, and t′ the table afterwards
 pub record Reading (s : List ℕ) (n : ℕ) (r : Answer) (t′ : List ℕ) : Type 0 where
-  pub answer : told r ≡ readAnswer s n
+  pub answer : told r ≡ readReply s n
   pub table : t′ ≡ readTable s n
 
 -- every call does so: what the contract of `read` promises a caller who lends a and finds e lent back
@@ -51,8 +54,17 @@ module _ {s : List ℕ} {n : ℕ} {r : Answer} {t′ : List ℕ} (v : Reading s 
   refused-zeros h = v .table ∙ rw (ne-eqb (readAnswer s n .number) 0 (λ e. h (number ∙ e)))
 
   -- a refusal is given with an answer exactly when a line of document 01's table says so
-  pub refused-exactly : (a : answers.Answer) → Refuses s n a ↔ ((told r ≡ a) × (a .number ≢ 0))
-  refused-exactly a = rw (v .answer) (Demand3.refuses-exactly s n a)
+  pub refused-exactly : (a : answers.Answer) → Refuses s n a ↔ ((told r ≡ readReplied s a) × (a .number ≢ 0))
+  refused-exactly a =
+      let e = Demand3.refuses-exactly s n a in (
+        (λ h. (v .answer ∙ ap (readReplied s) (e .0 h .0), e .0 h .1)),
+        (λ h. e .1 (read-replied-only s (sym (v .answer) ∙ h .0), h .1)),
+      )
+
+  -- ---- W-201: line and column beside the place
+
+  pub gives-both : GivesLine s (told r)
+  gives-both = let a = readAnswer s n in rw (v .answer) (gives-line s (a .number) (a .place) (a .rows) (a .free) 0)
 
   -- ---- demand 3
 
@@ -71,8 +83,9 @@ module _ {s : List ℕ} {n : ℕ} {r : Answer} {t′ : List ℕ} (v : Reading s 
 
     module _ (tree : Trees) (sound : Sound s tree) where
       -- the row count and the free count
-      pub counts-exactly : told r ≡ accepts (length (drafts s tree)) (freeCount (numbered (ownNumbers (drafts s tree))))
-      counts-exactly = v .answer ∙ Demand3.counts-exactly s n accepted′ tree (sound .derives)
+      pub counts-exactly : told r ≡ accepting (length (drafts s tree)) (freeCount (numbered (ownNumbers (drafts s tree)))) 0
+      unfolding positionOf
+      counts-exactly = v .answer ∙ ap (readReplied s) (Demand3.counts-exactly s n accepted′ tree (sound .derives))
 
       -- "Exactly the derivation's rows then stand in the table", and zeros past them
       pub rows-exactly : t′ ≡ laid (finished s (drafts s tree)) n
@@ -93,7 +106,7 @@ module _ {s : List ℕ} {n : ℕ} {r : Answer} {t′ : List ℕ} (v : Reading s 
     -- whatever table is lent, an accepted source has such a derivation, and its rows stand in the table
     pub accepted-rows :
         (tree : Trees) × Sound s tree
-        × (told r ≡ accepts (length (drafts s tree)) (freeCount (numbered (ownNumbers (drafts s tree)))))
+        × (told r ≡ accepting (length (drafts s tree)) (freeCount (numbered (ownNumbers (drafts s tree)))) 0)
         × (t′ ≡ laid (finished s (drafts s tree)) n)
     accepted-rows = let f = accepted-with-room .0 accepted in (f .0, f .1, counts-exactly (f .0) (f .1), rows-exactly (f .0) (f .1))
 

@@ -3,4 +3,5 @@ pub mod FaultLaws
 pub mod AcceptLaws
 pub mod FinishLaws
 pub mod ReadLaws
+pub mod AnswerLaws
 pub mod Demands

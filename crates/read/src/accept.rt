@@ -1,5 +1,5 @@
-// From draft rows to the answer: stages 7 to 12 and, where none refuses, the finished rows.
-use crate::Answer;
+// From draft rows to the outcome: stages 7 to 12 and, where none refuses, the finished rows.
+use crate::Outcome;
 use crate::faults::first_fault;
 use finish::settle;
 use finish::strip;
@@ -13,7 +13,7 @@ ghost use Rattle.answers.specs.Drafts.{draftsFrom};
 ghost use Rattle.answers.specs.Stages.{ownNumbers, finished};
 ghost use Rattle.answers.specs.Answer.{accepts, answerOf};
 ghost use Rattle.names.specs.Names.{Indexes};
-ghost use Rattle.read.specs.Answers.{told};
+ghost use Rattle.read.specs.Answers.{found};
 ghost use Rattle.read.specs.Drafted.{Drafted, Ready, tableAfter};
 
 // An index on the stack: the heads of the buckets, and room for few names, or for as many as a source can declare.
@@ -30,36 +30,36 @@ fn accept(
     count: usize,
     index: &[u64],
     used: &mut [u64; 1024],
-) -> Answer
+) -> Outcome
     requires { ⌜ Ready (now src) (now index) (now used) (now table) count ⌝ }
-    ensures { λ r. ⌜ told r ≡ accepts count (freeCount (numbered (ownNumbers (draftsFrom (now (table .entry)) 0 count)))) ⌝ }
+    ensures { λ r. ⌜ found r ≡ accepts count (freeCount (numbered (ownNumbers (draftsFrom (now (table .entry)) 0 count)))) ⌝ }
     ensures { λ _. ⌜ now (table .exit) ≡ laid (finished (now (src .entry)) (draftsFrom (now (table .entry)) 0 count)) (length (now (table .entry))) ⌝ }
 {
     settle(src, table, count, index, used);
     strip(table, count);
     rows::clear_past(table, count);
-    Answer::Accepted(count, numbers::LIMIT - 1 - numbers::used_count(used))
+    Outcome::Accepted(count, numbers::LIMIT - 1 - numbers::used_count(used))
 }
 
 // Stages 7 to 12 and the finished rows, by an index of the declared names.
-fn finish_with(src: &[u8], table: &mut [u64], count: usize, index: &[u64]) -> Answer
+fn finish_with(src: &[u8], table: &mut [u64], count: usize, index: &[u64]) -> Outcome
     requires { ⌜ Drafted (now table) count × Indexes (now src) (draftsFrom (now table) 0 count) (now index) ⌝ }
-    ensures { λ r. ⌜ told r ≡ answerOf (now (src .entry)) (draftsFrom (now (table .entry)) 0 count) (length (now (table .entry)) / ROW) ⌝ }
+    ensures { λ r. ⌜ found r ≡ answerOf (now (src .entry)) (draftsFrom (now (table .entry)) 0 count) (length (now (table .entry)) / ROW) ⌝ }
     ensures { λ _. ⌜ now (table .exit) ≡ tableAfter (now (src .entry)) (draftsFrom (now (table .entry)) 0 count) (length (now (table .entry))) ⌝ }
 {
     let mut used = numbers::empty();
     let fault = first_fault(src, table, count, index, &mut used);
     if fault.number != 0 {
         rows::clear(table, 0);
-        return Answer::Refused(fault.number, fault.place);
+        return Outcome::Refused(fault.number, fault.place);
     }
     accept(src, table, count, index, &mut used)
 }
 
 // With room for as many names as a source can declare.
-fn finish_large(src: &[u8], table: &mut [u64], count: usize) -> Answer
+fn finish_large(src: &[u8], table: &mut [u64], count: usize) -> Outcome
     requires { ⌜ Drafted (now table) count ⌝ }
-    ensures { λ r. ⌜ told r ≡ answerOf (now (src .entry)) (draftsFrom (now (table .entry)) 0 count) (length (now (table .entry)) / ROW) ⌝ }
+    ensures { λ r. ⌜ found r ≡ answerOf (now (src .entry)) (draftsFrom (now (table .entry)) 0 count) (length (now (table .entry)) / ROW) ⌝ }
     ensures { λ _. ⌜ now (table .exit) ≡ tableAfter (now (src .entry)) (draftsFrom (now (table .entry)) 0 count) (length (now (table .entry))) ⌝ }
 {
     let mut index = [0u64; LARGE];
@@ -68,9 +68,9 @@ fn finish_large(src: &[u8], table: &mut [u64], count: usize) -> Answer
 }
 
 // Stages 7 to 12 and the finished rows.
-pub fn finish(src: &[u8], table: &mut [u64], count: usize) -> Answer
+pub fn finish(src: &[u8], table: &mut [u64], count: usize) -> Outcome
     requires { ⌜ Drafted (now table) count ⌝ }
-    ensures { λ r. ⌜ told r ≡ answerOf (now (src .entry)) (draftsFrom (now (table .entry)) 0 count) (length (now (table .entry)) / ROW) ⌝ }
+    ensures { λ r. ⌜ found r ≡ answerOf (now (src .entry)) (draftsFrom (now (table .entry)) 0 count) (length (now (table .entry)) / ROW) ⌝ }
     ensures { λ _. ⌜ now (table .exit) ≡ tableAfter (now (src .entry)) (draftsFrom (now (table .entry)) 0 count) (length (now (table .entry))) ⌝ }
 {
     let mut index = [0u64; SMALL];

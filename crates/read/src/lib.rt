@@ -1,19 +1,27 @@
-// Reading a source into a lent table, and the quick check (document 01, Refusal numbers).
+// Reading a source into a lent table, and the quick check (document 01, Refusal numbers; document 02, W-201).
 mod accept;
 mod checks;
 mod faults;
+mod whole;
 
-use crate::accept::finish;
 use crate::checks::survey;
-use rows::whole_rows;
+use crate::whole::read_rows;
 ghost use mathlib.Core.Path.{_≡_};
 ghost use lib.ListN.{length};
-ghost use Rattle.answers.specs.WholeAnswer.{readAnswer, readTable, quickCheck};
-ghost use Rattle.read.specs.Answers.{told};
+ghost use Rattle.answers.specs.WholeAnswer.{readTable, quickCheck};
+ghost use Rattle.replies.specs.Replies.{readReplied, readReply};
+ghost use Rattle.read.specs.Answers.{found, told};
 
-// What reading answers: rows and free numbers; a refusal's number and place; or, where fewer whole rows are lent than
-// the source needs, the need (No. 6).
+// What reading answers: rows and free numbers; a refusal's number and place, and that place's line and column; or, where
+// fewer whole rows are lent than the source needs, the need (No. 6).
 pub enum Answer {
+    Accepted(usize, u64),
+    Refused(u64, usize, usize, usize),
+    Short(usize),
+}
+
+// The same without line and column.
+enum Outcome {
     Accepted(usize, u64),
     Refused(u64, usize),
     Short(usize),
@@ -44,19 +52,25 @@ pub fn quick_check(src: &[u8]) -> u64
     s.number % PLACES * PLACES + s.place as u64 % PLACES
 }
 
+// The answer of an outcome: line and column are counted where it has a place.
+fn answered(src: &[u8], outcome: Outcome) -> Answer
+    ensures { λ r. ⌜ told r ≡ readReplied (now (src .entry)) (found outcome) ⌝ }
+{
+    match outcome {
+        Outcome::Accepted(rows, free) => Answer::Accepted(rows, free),
+        Outcome::Refused(number, place) => {
+            let p = replies::position_of(src, number, place);
+            Answer::Refused(number, place, p.line, p.column)
+        }
+        Outcome::Short(need) => Answer::Short(need),
+    }
+}
+
 // Reads a source into a table.
 pub fn read(src: &[u8], table: &mut [u64]) -> Answer
-    ensures { λ r. ⌜ told r ≡ readAnswer (now (src .entry)) (length (now (table .entry))) ⌝ }
+    ensures { λ r. ⌜ told r ≡ readReply (now (src .entry)) (length (now (table .entry))) ⌝ }
     ensures { λ _. ⌜ now (table .exit) ≡ readTable (now (src .entry)) (length (now (table .entry))) ⌝ }
 {
-    let s = survey(src, table);
-    let count = s.rows;
-    if s.number != 0 {
-        return Answer::Refused(s.number, s.place);
-    }
-    if whole_rows(table) < count {
-        rows::clear(table, 0);
-        return Answer::Short(count);
-    }
-    finish(src, table, count)
+    let outcome = read_rows(src, table);
+    answered(src, outcome)
 }

@@ -10,10 +10,11 @@
 //            4 to 7    how many numbers are lent
 //            8 to 11   the number that is expected: 0 if the source is accepted, and else the refusal's
 //            12 to 15  the place, 16 to 19 the row count, and 20 to 23 the free count that are expected
-//            24 to 27  the length of the source
-//            28 to 31  where a run of one byte starts in it, 32 to 35 how long it is, and 36 to 39 the byte
-//            40 to 43  the length of the packed cells
-//            44 on     the source without the run, and then the packed cells of the expected rows: for each cell one
+//            24 to 27  the line, and 28 to 31 the column that are expected (W-201)
+//            32 to 35  the length of the source
+//            36 to 39  where a run of one byte starts in it, 40 to 43 how long it is, and 44 to 47 the byte
+//            48 to 51  the length of the packed cells
+//            52 on     the source without the run, and then the packed cells of the expected rows: for each cell one
 //                      byte that says how many bytes its number has, 0 to 8, and then these bytes, the high one first
 mod packed;
 

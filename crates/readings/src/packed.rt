@@ -42,11 +42,15 @@ fn read_expected() -> Expected {
     let place = read_number();
     let rows = read_number();
     let free = read_number();
+    let line = read_number();
+    let column = read_number();
     Expected {
         number,
         place,
         rows,
         free,
+        line,
+        column,
     }
 }
 

@@ -36,7 +36,7 @@ fn main() {
     let answer = text::resolve(&input[..n], &mut table, &mut out);
     match answer {
         Answer::Resolved(_, _, bytes) => print_text(&out, bytes),
-        Answer::Refused(number, place) => print_refusal(number, place),
+        Answer::Refused(number, place, _, _) => print_refusal(number, place),
         Answer::Short(_) => print_refusal(TOO_FEW_ROWS, 0),
         Answer::Long(_) => print_refusal(TOO_LONG, 0),
     }

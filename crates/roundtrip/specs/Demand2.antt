@@ -3,17 +3,11 @@
 use Prim.Native.Nat.{ℕ, _-_, _*_}
 use mathlib.Core.Path.{_≡_}
 use mathlib.Core.List.{List, map}
-use lib.ListN.{length, drop, replicate}
-use Rattle.numbers.specs.Numbers.{numbered, freeCount}
+use lib.ListN.{drop, replicate}
 use Rattle.rows.specs.Columns.{ROW}
 use Rattle.rows.specs.Cells.{withoutPlaces}
 use Rattle.rows.specs.Rows.{rowsFrom}
-use Rattle.ll1.specs.Trees.{Trees}
-use Rattle.answers.specs.Stages.{ownNumbers, finished}
-use Rattle.answers.specs.Answer.{drafts}
 use Rattle.answers.specs.WholeAnswer.{readAnswer, rowsOf}
-use Rattle.answers.specs.Text.{resolvedText}
-use Rattle.answers.specs.Resolution.{Resolution}
 
 -- rows "but the two columns of places"
 abbrev pub besidesPlaces : List (List ℕ) → List (List ℕ)
@@ -33,14 +27,3 @@ pub record SameTables (n rows : ℕ) (t t′ : List ℕ) : Type 0 where
   pub same-rows : besidesPlaces (rowsFrom t 0 rows) ≡ besidesPlaces (rowsFrom t′ 0 rows)
   pub zeros : drop (rows * ROW) t ≡ replicate (n - rows * ROW) 0
   pub zeros′ : drop (rows * ROW) t′ ≡ replicate (n - rows * ROW) 0
-
--- the answer to a source that resolves, by its derivation
-abbrev pub resolvedCounts : List ℕ → Trees → Resolution
-resolvedCounts s tree =
-    record {
-      number = 0;
-      place = 0;
-      rows = length (drafts s tree);
-      free = freeCount (numbered (ownNumbers (drafts s tree)));
-      bytes = length (resolvedText tree (finished s (drafts s tree)));
-    }

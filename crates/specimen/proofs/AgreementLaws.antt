@@ -6,16 +6,16 @@ use mathlib.Core.Bool.{Bool, true, false, cond}
 use mathlib.Core.List.{List}
 use native.Mathlib.Omega.{arith}
 use lib.ListN.{length}
-use Rattle.answers.specs.Answer.{Answer}
-use Rattle.answers.specs.WholeAnswer.{readAnswer, readTable, quickCheck}
+use Rattle.answers.specs.WholeAnswer.{readTable, quickCheck}
+use Rattle.replies.specs.Replies.{Reply, readReply}
 use Rattle.trials.specs.Differences.{padded}
 use Rattle.specimen.specs.declared.Expected.{Expected}
-use Rattle.specimen.specs.Agreement.{answerOf, quickOf, Agrees}
+use Rattle.specimen.specs.Agreement.{replyOf, quickOf, Agrees}
 
--- the source s is read into a table of m numbers: a is the answer, `came` its values, and t the table afterwards
-module _ {s t cells : List ℕ} {a : Answer} {came e : Expected} {m : ℕ} where
+-- the source s is read into a table of m numbers: a is the reply, `came` its values, and t the table afterwards
+module _ {s t cells : List ℕ} {a : Reply} {came e : Expected} {m : ℕ} where
   pub agreement :
-      (n : ℕ) → m ≡ n → length t ≡ n → a ≡ readAnswer s m → t ≡ readTable s m → answerOf came ≡ a → answerOf came ≡ answerOf e
+      (n : ℕ) → m ≡ n → length t ≡ n → a ≡ readReply s m → t ≡ readTable s m → replyOf came ≡ a → replyOf came ≡ replyOf e
       → t ≡ padded cells (length t) → quickCheck s ≡ quickOf e → Agrees s n e cells
   agreement n lent kept answer table values same laid quick =
       record {

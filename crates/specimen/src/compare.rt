@@ -17,13 +17,14 @@ ghost use lib.ListN.{length};
 ghost use Rattle.read.specs.Answers.{told};
 ghost use Rattle.answers.specs.WholeAnswer.{quickCheck};
 ghost use Rattle.trials.specs.Differences.{padded};
-ghost use Rattle.specimen.specs.Agreement.{answerOf, quickOf, cellsOf, Agrees};
+ghost use Rattle.specimen.specs.Agreement.{replyOf, quickOf, cellsOf, Agrees};
 
 // What the quick check counts places below.
 const PLACES: u64 = 4294967296;
 
+// The values of an answer.
 fn values(answer: Answer) -> Expected
-    ensures { λ r. ⌜ answerOf r ≡ told answer ⌝ }
+    ensures { λ r. ⌜ replyOf r ≡ told answer ⌝ }
 {
     match answer {
         Answer::Accepted(rows, free) => Expected {
@@ -31,18 +32,24 @@ fn values(answer: Answer) -> Expected
             place: 0,
             rows: rows as u64,
             free,
+            line: 0,
+            column: 0,
         },
-        Answer::Refused(number, place) => Expected {
+        Answer::Refused(number, place, line, column) => Expected {
             number,
             place: place as u64,
             rows: 0,
             free: 0,
+            line: line as u64,
+            column: column as u64,
         },
         Answer::Short(need) => Expected {
             number: SHORT,
             place: 0,
             rows: need as u64,
             free: 0,
+            line: 0,
+            column: 0,
         },
     }
 }
@@ -103,16 +110,18 @@ fn is_same(s: Specimen, what: &[u8], came: u64, expected: u64) -> bool
     false
 }
 
-// Whether the four values are the expected ones.
+// Whether the six values are the expected ones.
 fn is_answer(s: Specimen, came: Expected) -> bool
-    ensures { λ r. ⌜ (r ≡ true → answerOf came ≡ answerOf (s .expected)) ⌝ }
+    ensures { λ r. ⌜ (r ≡ true → replyOf came ≡ replyOf (s .expected)) ⌝ }
 {
     let expected = s.expected;
     let number = is_same(s, b"number", came.number, expected.number);
     let place = is_same(s, b"place", came.place, expected.place);
     let rows = is_same(s, b"row count", came.rows, expected.rows);
     let free = is_same(s, b"free count", came.free, expected.free);
-    number & place & rows & free
+    let line = is_same(s, b"line", came.line, expected.line);
+    let column = is_same(s, b"column", came.column, expected.column);
+    number & place & rows & free & line & column
 }
 
 // Which number of the table differs.

@@ -8,12 +8,14 @@ use rows::columns::ROW;
 pub use tables::Ran;
 pub use tables::run;
 
-// The number, place, row count and free count that are expected.
+// The number, place, row count and free count that are expected, and the line and column beside the place (W-201).
 pub struct Expected {
     pub number: u64,
     pub place: u64,
     pub rows: u64,
     pub free: u64,
+    pub line: u64,
+    pub column: u64,
 }
 
 // Its number among others, how many numbers are lent, and what is expected.

@@ -28,7 +28,7 @@ fn told_need(src: &[u8]) -> usize {
     match answer {
         Answer::Short(need) => need,
         Answer::Accepted(_, _) => 0,
-        Answer::Refused(_, _) => 0,
+        Answer::Refused(_, _, _, _) => 0,
     }
 }
 
@@ -66,6 +66,8 @@ fn run_short(s: Specimen, need: usize, src: &[u8], cells: &[u64]) -> Tally
         place: 0,
         rows: need as u64,
         free: 0,
+        line: 0,
+        column: 0,
     };
     run_with(s, need * ROW - 1, expected, src, cells)
 }

@@ -3,6 +3,7 @@
 use Prim.Native.Nat.{ℕ, _+_, _*_, _^_, _≤_, _<_}
 use native.Mathlib.Omega.{arith}
 use mathlib.Core.Path.{_≡_, sym, ap, _∙_}
+use mathlib.Core.Logic.{_≢_}
 use mathlib.Core.List.{List, [], _∷_, _++_}
 use lib.ListN.{length, getD}
 use Rattle.lexemes.proofs.Lists.{either-less}
@@ -18,7 +19,7 @@ use Rattle.grammar.specs.Derivation.{Derives}
 use Rattle.grammar.specs.Source.{sourceTokens, numberAt}
 use Rattle.answers.specs.Rows.{Draft, draftsOf}
 use Rattle.answers.specs.Stages.{finished}
-use Rattle.answers.specs.Answer.{Answer, refuses, accepts, drafts}
+use Rattle.answers.specs.Answer.{Answer, accepts, drafts}
 use Rattle.answers.specs.WholeAnswer.{readAnswer, readTable}
 use Rattle.answers.specs.Text.{opening, wordsOf, textOf, rowFirstAt, resolvedText}
 use Rattle.answers.specs.Resolution.{textOfSource}
@@ -123,8 +124,8 @@ some-row : (s : List ℕ) {tree : Trees} → Fits rules (nonterminal 0 ∷ []) t
 unfolding drafts
 some-row s (fits-node e r₁ fits-nil) = omega arith
 
-pub refused-some : (s : List ℕ) (n k p : ℕ) → refuses k p ≡ readAnswer s n → k ≡ 0 → ⊥
-refused-some s n k p e z =
-    let found = accepts-passing s n .0 (ap (λ (a : Answer). a .number) (sym e) ∙ z) in
-    let none : 0 ≡ length (drafts s (found .0)) = ap (λ (a : Answer). a .rows) (e ∙ accepted-answer s n (found .0) (found .1)) in
+pub refused-some : (s : List ℕ) (n : ℕ) → readAnswer s n .rows ≡ 0 → readAnswer s n .number ≢ 0
+refused-some s n none z =
+    let found = accepts-passing s n .0 z in
+    let many : readAnswer s n .rows ≡ length (drafts s (found .0)) = ap (λ (a : Answer). a .rows) (accepted-answer s n (found .0) (found .1)) in
     omega (arith, some-row s (passes-grammatical (found .1) .derives .fits))

@@ -12,6 +12,7 @@ use Rattle.rows.proofs.ClearLaws.{cleared-whole}
 use Rattle.answers.specs.Answer as answers
 use Rattle.answers.specs.Answer.{accepts}
 use Rattle.answers.specs.Resolution.{room, resolvedInto}
+use Rattle.replies.specs.Replies.{positionOf, resolveReplied}
 use Rattle.spellings.specs.Output.{MOST}
 use Rattle.spellings.proofs.Outputs.{few-bytes}
 use Rattle.text.specs.declared.Answer.{Answer}
@@ -25,11 +26,14 @@ unfolding cleared
 fits-cleared o text h =
     rw (length-sets o 0 text, sets-eq text o 0 (omega arith)) (ap (λ (l : List ℕ). l ++ replicate (length o - length text) 0) (take-append-seam text (drop (0 + length text) o)))
 
-into-long : (m need : ℕ) (a : answers.Answer) → room m < need → resolvedInto m need a ≡ told (Long need)
-into-long m need a h = rw (lt-ltb (room m) need h, resolvedInto)
+module _ (s : List ℕ) (m need : ℕ) where
+  into-long : (a : answers.Answer) → room m < need → resolveReplied s (resolvedInto m need a) ≡ told (Long need)
+  unfolding positionOf
+  into-long a h = rw (lt-ltb (room m) need h, resolvedInto)
 
-into-room : (m need rows free : ℕ) → need ≤ room m → resolvedInto m need (accepts rows free) ≡ told (Resolved rows free need)
-into-room m need rows free h = rw (le-ltb (room m) need h, resolvedInto)
+  into-room : (rows free : ℕ) → need ≤ room m → resolveReplied s (resolvedInto m need (accepts rows free)) ≡ told (Resolved rows free need)
+  unfolding positionOf
+  into-room rows free h = rw (le-ltb (room m) need h, resolvedInto)
 
 module _ {t : List ℕ} {count : ℕ} {o o₁ : List ℕ} {bytes : ℕ} (p : TextPrinted t count o o₁ bytes) where
   -- how many bytes, and where they are
@@ -41,10 +45,10 @@ module _ {t : List ℕ} {count : ℕ} {o o₁ : List ℕ} {bytes : ℕ} (p : Tex
   pub too-long : {free : ℕ} {t₂ o₂ : List ℕ} → length o₁ ≡ length o → room (length o₁) < bytes → t₂ ≡ cleared t 0 → o₂ ≡ cleared o₁ 0 → RowsPrinted t count free o (Long bytes) t₂ o₂
   too-long {free = free} n h a b =
       record {
-        answer = λ text x l.
+        answer = λ text x l s.
             let w = written text x l in
             let e : bytes ≡ length text = omega (arith, w .0) in
-            sym (rw (← e) (into-long (length o) bytes (accepts count free) (rw n at h)));
+            sym (rw (← e) (into-long s (length o) bytes (accepts count free) (rw n at h)));
         table = λ text x l. a ∙ cleared-whole t;
         output = λ text x l. b ∙ cleared-whole o₁ ∙ rw n;
       }
@@ -52,10 +56,10 @@ module _ {t : List ℕ} {count : ℕ} {o o₁ : List ℕ} {bytes : ℕ} (p : Tex
   pub long-enough : {free : ℕ} {t₂ o₂ : List ℕ} → length o₁ ≡ length o → bytes ≤ room (length o₁) → t₂ ≡ t → o₂ ≡ cleared o₁ bytes → RowsPrinted t count free o (Resolved count free bytes) t₂ o₂
   long-enough {free = free} n h a b =
       record {
-        answer = λ text x l.
+        answer = λ text x l s.
             let w = written text x l in
             let e : bytes ≡ length text = omega (arith, w .0) in
-            sym (rw (← e) (into-room (length o) bytes count free (rw n at h)));
+            sym (rw (← e) (into-room s (length o) bytes count free (rw n at h)));
         table = λ text x l. a;
         output = λ text x l.
             let w = written text x l in

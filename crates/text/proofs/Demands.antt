@@ -1,5 +1,5 @@
 -- Demands 1 and 2 of the function `resolve`: what its contract says of every source, table and output lent, in document 01's terms, which are those of
--- `answers`' `specs/Demand3` and `roundtrip`'s `specs/Demand2`.
+-- `answers`' `specs/Demand3` and `roundtrip`'s `specs/Demand2`; and document 02's request W-201 of `resolve`.
 -- Assumes nothing.
 use Prim.Native.Nat.{ℕ, _-_, _/_, _≤_}
 use mathlib.Core.Path.{_≡_, sym, ap, _∙_}
@@ -20,20 +20,23 @@ use Rattle.answers.specs.WholeAnswer.{readAnswer, readTable}
 use Rattle.answers.specs.Resolution.{room, textOfSource, resolvedInto, resolution, resolvedTable, resolvedOutput}
 use Rattle.answers.specs.Demand3.{Sound, PassesAll}
 use Rattle.answers.proofs.Answers.{passes-text, accepted-answer, laid-rows}
+use Rattle.replies.specs.Replies.{Reply, positionOf, accepting, readReplied, resolveReplied, resolveReply}
+use Rattle.replies.specs.Lines.{GivesLine}
+use Rattle.replies.proofs.Laws.{gives-line}
 use Rattle.read.specs.declared.Answer as read-answer
 use Rattle.read.specs.Answers as read-answers
 use Rattle.read.proofs.Demands as read
-use Rattle.roundtrip.specs.Demand2.{resolvedCounts, ReadsAgain, SameTables}
+use Rattle.roundtrip.specs.Demand2.{ReadsAgain, SameTables}
 use Rattle.roundtrip.proofs.Demand2 as Demand2
 use Rattle.text.specs.declared.Answer.{Answer}
-use Rattle.text.specs.Answers.{told}
+use Rattle.text.specs.Answers.{told, resolvedCounts}
 use Rattle.text.proofs.resolve.Kinds as kinds
 use Rattle.text.proofs.resolve.Reads as promise
 
 -- what a call of `resolve` does: the source s is resolved through a table of n numbers into m bytes; r is the answer, t′ the table and o′ the output
 -- afterwards
 pub record Resolving (s : List ℕ) (n m : ℕ) (r : Answer) (t′ o′ : List ℕ) : Type 0 where
-  pub answer : told r ≡ resolution s n m
+  pub answer : told r ≡ resolveReply s n m
   pub table : t′ ≡ resolvedTable s n m
   pub output : o′ ≡ resolvedOutput s n m
 
@@ -52,6 +55,11 @@ module _ {s : List ℕ} {n m : ℕ} {r : Answer} {t′ o′ : List ℕ} (v : Res
   pub refused-zeros : told r .number ≢ 0 → (t′ ≡ replicate n 0) × (o′ ≡ replicate m 0)
   unfolding resolvedTable resolvedOutput
   refused-zeros h = let e = ne-eqb (resolution s n m .number) 0 (λ z. h (number ∙ z)) in (v .table ∙ rw e, v .output ∙ rw e)
+
+  -- ---- W-201: line and column beside the place
+
+  pub gives-both : GivesLine s (told r)
+  gives-both = let a = resolution s n m in rw (v .answer) (gives-line s (a .number) (a .place) (a .rows) (a .free) (a .bytes))
 
   -- ---- demand 3 for resolving: accepted exactly when the source is sound, and rows and text find room
 
@@ -79,9 +87,10 @@ module _ {s : List ℕ} {n m : ℕ} {r : Answer} {t′ o′ : List ℕ} (v : Res
     found = Demand2.resolved s n m resolved
 
     counts : (tree : Trees) → PassesAll s n tree → told r ≡ resolvedCounts s tree
+    unfolding positionOf
     counts tree p =
         let fits = le-ltb (room m) (length (textOfSource s)) (found .text-fits) in
-        v .answer ∙ (found .resolves ∙ rw (fits, accepted-answer s n tree p, passes-text p, resolvedInto))
+        v .answer ∙ (ap (resolveReplied s) (found .resolves) ∙ rw (fits, accepted-answer s n tree p, passes-text p, resolvedInto))
 
     -- "The rows are what document 01 says of the source": the source has a derivation whose rules hold, its rows stand in the table, their text in the
     -- output, zeros past both, and the counts are theirs
@@ -101,7 +110,7 @@ module _ {s : List ℕ} {n m : ℕ} {r : Answer} {t′ o′ : List ℕ} (v : Res
     reads-again = Demand2.reads-again s n m resolved
 
     read-counts : readAnswer s n ≡ accepts (told r .rows) (told r .free)
-    read-counts = found .answer ∙ sym (ap (λ a. accepts (a .rows) (a .free)) (counts (found .tree) (found .passes)))
+    read-counts = found .answer ∙ sym (ap (λ (a : Reply). accepts (a .rows) (a .free)) (counts (found .tree) (found .passes)))
 
     -- the table of reading the text has the same rows, but the places
     same-tables : {t₂ : List ℕ} → t₂ ≡ readTable (textOfSource s) n → SameTables n (told r .rows) t₂ t′
@@ -112,8 +121,14 @@ module _ {s : List ℕ} {n m : ℕ} {r : Answer} {t′ o′ : List ℕ} (v : Res
     -- so a second `read`, of the text, ends with the same counts and leaves the same rows in its table, but the places
     pub read-again :
         (r₂ : read-answer.Answer) (t₂ : List ℕ) → read.Reading (textOfSource s) n r₂ t₂
-        → (read-answers.told r₂ ≡ accepts (told r .rows) (told r .free)) × SameTables n (told r .rows) t₂ t′
-    read-again r₂ t₂ w = (w .answer ∙ (reads-again .same-answer ∙ read-counts), same-tables (w .table))
+        → (read-answers.told r₂ ≡ accepting (told r .rows) (told r .free) 0) × SameTables n (told r .rows) t₂ t′
+    unfolding positionOf
+    read-again r₂ t₂ w = (w .answer ∙ ap (readReplied (textOfSource s)) (reads-again .same-answer ∙ read-counts), same-tables (w .table))
+
+    -- an accepting answer has no place, whatever the source
+    anywhere : resolveReplied (textOfSource s) (resolution s n m) ≡ resolveReplied s (resolution s n m)
+    unfolding positionOf
+    anywhere = rw resolved
 
     -- and a second `resolve`, of the text, ends with the same answer, the same output and the same rows, but the places
     pub resolve-again :
@@ -122,7 +137,7 @@ module _ {s : List ℕ} {n m : ℕ} {r : Answer} {t′ o′ : List ℕ} (v : Res
     resolve-again r₂ t₂ o₂ w =
         let same = Demand2.resolves-again s n m resolved in
         let table₂ = w .table ∙ Demand2.resolved-table (textOfSource s) n m (ap (λ a. a .number) same ∙ resolved) in (
-          w .answer ∙ (same ∙ sym (v .answer)),
+          w .answer ∙ (ap (resolveReplied (textOfSource s)) same ∙ (anywhere ∙ sym (v .answer))),
           w .output ∙ (Demand2.same-output s n m resolved ∙ sym (v .output)),
           same-tables table₂,
         )

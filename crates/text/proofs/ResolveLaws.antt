@@ -12,16 +12,18 @@ use borrow.Author.Tests.{ne-eqb}
 use Rattle.rows.specs.Table.{cleared}
 use Rattle.rows.specs.Rows.{laid}
 use Rattle.rows.proofs.ClearLaws.{cleared-whole}
-use Rattle.answers.specs.Answer.{Answer, accepts, refuses, needs}
+use Rattle.answers.specs.Answer.{Answer, accepts}
 use Rattle.answers.specs.WholeAnswer.{readAnswer, readTable, rowsOf}
 use Rattle.answers.specs.Resolution.{Resolution, textOfSource, resolvedInto, resolution, resolvedTable, resolvedOutput}
+use Rattle.replies.specs.Replies.{Reply, accepting, readReply, resolveReplied, resolveReply}
+use Rattle.replies.proofs.Laws.{accepting-only}
 use Rattle.text.specs.declared.Answer as text
 use Rattle.text.specs.Answers.{told, RowsPrinted}
 use Rattle.text.proofs.AcceptedText.{accepted-text, refused-some}
 
 -- the answer, the table and the output
-abbrev pub Resolves : List ℕ → ℕ → ℕ → Resolution → List ℕ → List ℕ → Type 0
-Resolves s n m r t o = (r ≡ resolution s n m) × ((t ≡ resolvedTable s n m) × (o ≡ resolvedOutput s n m))
+abbrev pub Resolves : List ℕ → ℕ → ℕ → Reply → List ℕ → List ℕ → Type 0
+Resolves s n m r t o = (r ≡ resolveReply s n m) × ((t ≡ resolvedTable s n m) × (o ≡ resolvedOutput s n m))
 
 -- ---- accepted
 
@@ -44,37 +46,50 @@ accepted-table : (s : List ℕ) (n count free : ℕ) → accepts count free ≡ 
 unfolding readTable
 accepted-table s n count free e = ap (λ (a : Answer). tableFor s n (a .number)) (sym e)
 
-pub resolved : (s : List ℕ) (n : ℕ) {count free : ℕ} {t o t′ o′ : List ℕ} {r : text.Answer} → accepts count free ≡ readAnswer s n → t ≡ readTable s n → length t ≡ n → ((i : ℕ) → getD t i 0 < 2 ^ 64) → RowsPrinted t count free o r t′ o′ → Resolves s n (length o) (told r) t′ o′
+pub resolved :
+    (s : List ℕ) (n : ℕ) {count free : ℕ} {t o t′ o′ : List ℕ} {r : text.Answer}
+    → accepting count free 0 ≡ readReply s n → t ≡ readTable s n → length t ≡ n → ((i : ℕ) → getD t i 0 < 2 ^ 64)
+    → RowsPrinted t count free o r t′ o′ → Resolves s n (length o) (told r) t′ o′
 unfolding resolvedTable resolvedOutput
-resolved s n {count} {free} {t} {o} {t′} {o′} {r} e f l small p =
+resolved s n {count} {free} {t} {o} {t′} {o′} {r} reply f l small p =
+    let e : accepts count free ≡ readAnswer s n = accepting-only s reply in
     let both = accepted-text s n count free t e f small in
-    let answer : told r ≡ resolution s n (length o) = p .answer (textOfSource s) (both .0) (both .1) ∙ sym (accepted-resolution s n (length o) count free e) in (
+    let resolves = accepted-resolution s n (length o) count free e in
+    let answer : told r ≡ resolveReply s n (length o) = p .answer (textOfSource s) (both .0) (both .1) s ∙ sym (ap (resolveReplied s) resolves) in (
       answer,
       (
-        p .table (textOfSource s) (both .0) (both .1) ∙ ap (λ (k : ℕ). cond (eqb k 0) t (replicate (length t) 0)) (ap (λ (x : Resolution). x .number) answer) ∙ rw (l, f ∙ accepted-table s n count free e),
-        p .output (textOfSource s) (both .0) (both .1) ∙ ap (λ (x : Resolution). cond (eqb (x .number) 0) (textOfSource s ++ replicate (length o - length (textOfSource s)) 0) (replicate (length o) 0)) answer,
+        p .table (textOfSource s) (both .0) (both .1) ∙ ap (λ (k : ℕ). cond (eqb k 0) t (replicate (length t) 0)) (ap (λ (x : Reply). x .number) answer) ∙ rw (l, f ∙ accepted-table s n count free e),
+        p .output (textOfSource s) (both .0) (both .1) ∙ ap (λ (x : Reply). cond (eqb (x .number) 0) (textOfSource s ++ replicate (length o - length (textOfSource s)) 0) (replicate (length o) 0)) answer,
       ),
     )
 
 -- ---- refused
 
-refused-resolution : (s : List ℕ) (n m : ℕ) (a : Answer) → a ≡ readAnswer s n → a .number ≢ 0 → resolution s n m ≡ record { number = a .number; place = a .place; rows = a .rows; free = a .free; bytes = 0 }
+refused-resolution :
+    (s : List ℕ) (n m : ℕ) → readAnswer s n .number ≢ 0
+    → resolution s n m ≡ record { number = readAnswer s n .number; place = readAnswer s n .place; rows = readAnswer s n .rows; free = readAnswer s n .free; bytes = 0 }
 unfolding resolution
-refused-resolution s n m a e h = ap (answered m (length (textOfSource s))) (sym e) ∙ rw (ne-eqb (a .number) 0 h, answered)
+refused-resolution s n m h = rw (ne-eqb (readAnswer s n .number) 0 h, resolution)
 
-pub unresolved : (s : List ℕ) (n : ℕ) (o : List ℕ) {t o′ : List ℕ} (a : Answer) → a ≡ readAnswer s n → a .number ≢ 0 → t ≡ readTable s n → o′ ≡ cleared o 0 → Resolves s n (length o) (record { number = a .number; place = a .place; rows = a .rows; free = a .free; bytes = 0 }) t o′
+pub unresolved :
+    (s : List ℕ) (n : ℕ) (o : List ℕ) {t o′ : List ℕ} {r : Reply}
+    → r ≡ readReply s n → readAnswer s n .number ≢ 0 → t ≡ readTable s n → o′ ≡ cleared o 0 → Resolves s n (length o) r t o′
 unfolding readTable resolvedTable resolvedOutput
-unresolved s n o a e h f g =
-    let answer = refused-resolution s n (length o) a e h in (
-      sym answer,
-      (
-        f ∙ ap (λ (x : Answer). tableFor s n (x .number)) (sym e) ∙ ap (λ (k : ℕ). tableFor s n k) (sym (ap (λ (x : Resolution). x .number) answer)),
-        g ∙ cleared-whole o ∙ rw (answer, ne-eqb (a .number) 0 h),
-      ),
+unresolved s n o e h f g =
+    let answer = refused-resolution s n (length o) h in
+    let number : readAnswer s n .number ≡ resolution s n (length o) .number = sym (ap (λ (x : Resolution). x .number) answer) in (
+      e ∙ sym (ap (resolveReplied s) answer),
+      (f ∙ ap (tableFor s n) number, g ∙ cleared-whole o ∙ rw (answer, ne-eqb (readAnswer s n .number) 0 h)),
     )
 
-pub unresolved-refused : (s : List ℕ) (n : ℕ) (o : List ℕ) {k p : ℕ} {t o′ : List ℕ} → refuses k p ≡ readAnswer s n → t ≡ readTable s n → o′ ≡ cleared o 0 → Resolves s n (length o) (record { number = k; place = p; rows = 0; free = 0; bytes = 0 }) t o′
-unresolved-refused s n o {k} {p} e f g = unresolved s n o (refuses k p) e (refused-some s n k p e) f g
+-- a refusal has no rows, as no accepted source has
+pub unresolved-refused :
+    (s : List ℕ) (n : ℕ) (o : List ℕ) {t o′ : List ℕ} {r : Reply}
+    → r ≡ readReply s n → r .rows ≡ 0 → t ≡ readTable s n → o′ ≡ cleared o 0 → Resolves s n (length o) r t o′
+unresolved-refused s n o e none f g = unresolved s n o e (refused-some s n (sym (ap (λ (x : Reply). x .rows) e) ∙ none)) f g
 
-pub unresolved-short : (s : List ℕ) (n : ℕ) (o : List ℕ) {k : ℕ} {t o′ : List ℕ} → needs k ≡ readAnswer s n → t ≡ readTable s n → o′ ≡ cleared o 0 → Resolves s n (length o) (record { number = 6; place = 0; rows = k; free = 0; bytes = 0 }) t o′
-unresolved-short s n o {k} e f g = unresolved s n o (needs k) e (λ z. omega arith) f g
+pub unresolved-short :
+    (s : List ℕ) (n : ℕ) (o : List ℕ) {t o′ : List ℕ} {r : Reply}
+    → r ≡ readReply s n → r .number ≡ 6 → t ≡ readTable s n → o′ ≡ cleared o 0 → Resolves s n (length o) r t o′
+unresolved-short s n o e six f g =
+    unresolved s n o e (λ z. let never : 6 ≡ 0 = sym six ∙ ap (λ (x : Reply). x .number) e ∙ z in omega arith) f g

@@ -1,4 +1,4 @@
-// The resolved text of a source (document 01, Resolved text).
+// The resolved text of a source (document 01, Resolved text; document 02, W-201).
 mod expressions;
 mod items;
 
@@ -6,7 +6,8 @@ use crate::items::put_text;
 ghost use mathlib.Core.Path.{_≡_};
 ghost use lib.ListN.{length};
 ghost use Rattle.rows.specs.Table.{cleared};
-ghost use Rattle.answers.specs.Resolution.{room, resolution, resolvedTable, resolvedOutput};
+ghost use Rattle.answers.specs.Resolution.{room, resolvedTable, resolvedOutput};
+ghost use Rattle.replies.specs.Replies.{resolveReply};
 ghost use Rattle.text.specs.Answers.{told, RowsPrinted};
 
 // The longest text.
@@ -18,11 +19,12 @@ pub const TOO_FEW_ROWS: u64 = 6;
 
 pub const TOO_LONG: u64 = 13;
 
-// What resolving answers: rows, free numbers and bytes; a refusal's number and place; the rows needed, where fewer whole
-// ones are lent (No. 6); the bytes needed, where the output or the longest text is shorter (No. 13).
+// What resolving answers: rows, free numbers and bytes; a refusal's number and place, and that place's line and column; the
+// rows needed, where fewer whole ones are lent (No. 6); the bytes needed, where the output or the longest text is shorter
+// (No. 13).
 pub enum Answer {
     Resolved(usize, u64, usize),
-    Refused(u64, usize),
+    Refused(u64, usize, usize, usize),
     Short(usize),
     Long(usize),
 }
@@ -61,16 +63,16 @@ fn print_rows(table: &mut [u64], out: &mut [u8], rows: usize, free: u64) -> Answ
 
 // Reads a source into a table and prints its text into an output.
 pub fn resolve(src: &[u8], table: &mut [u64], out: &mut [u8]) -> Answer
-    ensures { λ r. ⌜ told r ≡ resolution (now (src .entry)) (length (now (table .entry))) (length (now (out .entry))) ⌝ }
+    ensures { λ r. ⌜ told r ≡ resolveReply (now (src .entry)) (length (now (table .entry))) (length (now (out .entry))) ⌝ }
     ensures { λ _. ⌜ now (table .exit) ≡ resolvedTable (now (src .entry)) (length (now (table .entry))) (length (now (out .entry))) ⌝ }
     ensures { λ _. ⌜ now (out .exit) ≡ resolvedOutput (now (src .entry)) (length (now (table .entry))) (length (now (out .entry))) ⌝ }
 {
     let answer = read::read(src, table);
     match answer {
         read::Answer::Accepted(rows, free) => print_rows(table, out, rows, free),
-        read::Answer::Refused(number, place) => {
+        read::Answer::Refused(number, place, line, column) => {
             clear(out, 0);
-            Answer::Refused(number, place)
+            Answer::Refused(number, place, line, column)
         }
         read::Answer::Short(need) => {
             clear(out, 0);

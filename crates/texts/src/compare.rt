@@ -14,7 +14,7 @@ ghost use Rattle.texts.specs.Agreement.{Text, Agrees};
 pub fn is_resolved(answer: Answer) -> bool {
     match answer {
         Answer::Resolved(_, _, _) => true,
-        Answer::Refused(_, _) => false,
+        Answer::Refused(_, _, _, _) => false,
         Answer::Short(_) => false,
         Answer::Long(_) => false,
     }
@@ -63,7 +63,7 @@ pub fn agrees(answer: Answer, table: &[u64], out: &[u8], expected: &[u8]) -> boo
 {
     match answer {
         Answer::Resolved(_, _, bytes) => is_text(bytes, out, expected),
-        Answer::Refused(number, place) => is_refusal(number, place, table, out, expected),
+        Answer::Refused(number, place, _, _) => is_refusal(number, place, table, out, expected),
         Answer::Short(_need) => is_refusal(TOO_FEW_ROWS, 0, table, out, expected),
         Answer::Long(_need) => is_refusal(TOO_LONG, 0, table, out, expected),
     }

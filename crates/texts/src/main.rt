@@ -25,7 +25,8 @@ use trials::input::read_part;
 ghost use mathlib.Core.Path.{_≡_};
 ghost use mathlib.Core.Bool.{true};
 ghost use lib.ListN.{length};
-ghost use Rattle.answers.specs.Resolution.{resolution, resolvedOutput};
+ghost use Rattle.answers.specs.Resolution.{resolvedOutput};
+ghost use Rattle.replies.specs.Replies.{resolveReply};
 ghost use Rattle.text.specs.Answers.{told};
 ghost use Rattle.texts.specs.Agreement.{Agreed};
 
@@ -52,7 +53,7 @@ pub struct Ran {
 
 // Resolves a source through a table and into an output that hold marks.
 fn resolve_marked(src: &[u8], table: &mut [u64], out: &mut [u8]) -> Answer
-    ensures { λ r. ⌜ told r ≡ resolution (now (src .entry)) (length (now (table .entry))) (length (now (out .entry))) ⌝ }
+    ensures { λ r. ⌜ told r ≡ resolveReply (now (src .entry)) (length (now (table .entry))) (length (now (out .entry))) ⌝ }
     ensures { λ _. ⌜ now (out .exit) ≡ resolvedOutput (now (src .entry)) (length (now (table .entry))) (length (now (out .entry))) ⌝ }
 {
     fill_numbers(table, UNCLEARED_NUMBER);

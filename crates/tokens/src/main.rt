@@ -1,10 +1,11 @@
-// Prints the tokens of the sources on standard input, one a line: its class, its start and its end. The class of a
-// sign or a reserved word is printed as its own text. A line `----` parts two sources and is printed between their
-// tokens too; the LF before it belongs to neither source.
+// Prints the tokens of the sources on standard input, one a line: its class, its start, its end, its line and its
+// column (W-201). The class of a sign or a reserved word is printed as its own text. A line `----` parts two sources
+// and is printed between their tokens too; the LF before it belongs to neither source.
 use lex::Token;
 use lexemes::classes;
 use libc::STDIN_FILENO;
 use libc::STDOUT_FILENO;
+use viewer::Positioned;
 ghost use Prim.Native.Nat.{_≤_};
 ghost use lib.ListN.{length};
 
@@ -44,25 +45,37 @@ fn print_class(src: &[u8], token: Token) {
     }
 }
 
-fn print_token(src: &[u8], token: Token) {
+// A space and a number.
+fn print_number(n: usize) {
+    io::write_all(STDOUT_FILENO, b" ");
+    io::print_decimal(STDOUT_FILENO, n as u64);
+}
+
+fn print_token(src: &[u8], seen: Positioned) {
+    let token = seen.token;
     print_class(src, token);
-    io::write_all(STDOUT_FILENO, b" ");
-    io::print_decimal(STDOUT_FILENO, token.start as u64);
-    io::write_all(STDOUT_FILENO, b" ");
-    io::print_decimal(STDOUT_FILENO, token.end as u64);
+    print_number(token.start);
+    print_number(token.end);
+    print_number(seen.line);
+    print_number(seen.column);
     io::write_all(STDOUT_FILENO, b"\n");
 }
 
 // All tokens of a source, up to the end or the first bad one.
 fn print_tokens(src: &[u8]) {
     let mut at = 0;
+    let mut line = 1;
+    let mut column = 1;
     loop {
-        let token = lex::token_at(src, at);
+        let seen = viewer::view(src, at, line, column);
+        let token = seen.token;
         print_token(src, token);
-        if classes::BAD <= token.class {
+        if classes::BAD <= token.token.class {
             return;
         }
-        at = token.end;
+        at = seen.at;
+        line = seen.line;
+        column = seen.column;
     }
 }
 

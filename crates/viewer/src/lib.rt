@@ -1,92 +1,126 @@
-// The viewer's token reader: a struct that keeps the lent source and a place in it, and thin functions over it.
-// The work is done by `lex::token_at` and `place_after`, on a slice and a number.
+// The viewer's token reader (document 01, The shape of some places): a struct that keeps the lent source, a place in it and that place's line
+// and column (W-201), and thin functions over it. The work is done by `view`, on a slice and numbers: it reads only from the kept place on.
 ghost use mathlib.Core.Path.{_≡_};
-ghost use Rattle.viewer.specs.Viewed.{placeAfter, nthToken, seenAt};
-ghost use Rattle.lex.specs.Tokens.{tokenAt};
+ghost use Rattle.viewer.specs.Viewed.{seenFrom, nthToken, positioned, seenBy, movedOn};
 use lex::Token;
 use lexemes::classes::BAD;
+use positions::Position;
 
 pub struct Reader<'a> {
     pub src: &'a [u8],
     pub at: usize,
+    pub line: usize,
+    pub column: usize,
 }
 
-// The place past the token that stands first from `at` on; at a bad token and at the end, `at`.
-pub fn place_after(src: &[u8], at: usize) -> usize
-    ensures { λ r. ⌜ r ≡ placeAfter (now (src .entry)) at ⌝ }
+// A token with the line and column of its start.
+pub struct Positioned {
+    pub token: Token,
+    pub line: usize,
+    pub column: usize,
+}
+
+// A token, and the place past it with its line and column.
+pub struct Seen {
+    pub token: Positioned,
+    pub at: usize,
+    pub line: usize,
+    pub column: usize,
+}
+
+// What a reader at the place `at` gives, where `at` has that line and column: the token that stands first from there on, and the place at
+// which to go on, past that token. At a bad token and at the end that is `at`.
+pub fn view(src: &[u8], at: usize, line: usize, column: usize) -> Seen
+    ensures { λ s. ⌜ s ≡ seenFrom (now (src .entry)) at line column ⌝ }
 {
     let t = lex::token_at(src, at);
+    let p = positions::onward(src, at, t.start, Position { line, column });
+    let token = Positioned {
+        token: t,
+        line: p.line,
+        column: p.column,
+    };
     if t.class < BAD {
-        return t.end;
+        let q = positions::onward(src, t.start, t.end, p);
+        return Seen {
+            token,
+            at: t.end,
+            line: q.line,
+            column: q.column,
+        };
     }
-    at
+    Seen {
+        token,
+        at,
+        line,
+        column,
+    }
 }
 
 // A reader at the start of a source.
 pub fn new<'a>(src: &'a [u8]) -> Reader<'a>
-    ensures { λ r. ⌜ r ≡ record { src = src .entry; at = 0 } ⌝ }
+    ensures { λ r. ⌜ r ≡ record { src = src .entry; at = 0; line = 1; column = 1 } ⌝ }
 {
-    Reader { src, at: 0 }
+    Reader {
+        src,
+        at: 0,
+        line: 1,
+        column: 1,
+    }
 }
 
 // The token that the reader stands before.
-pub fn token<'a>(r: Reader<'a>) -> Token
-    ensures { λ t. ⌜ t ≡ tokenAt (now (r .entry .src)) (r .entry .at) ⌝ }
+pub fn token<'a>(r: Reader<'a>) -> Positioned
+    ensures { λ t. ⌜ t ≡ seenBy (r .entry) .token ⌝ }
 {
-    lex::token_at(r.src, r.at)
+    let s = view(r.src, r.at, r.line, r.column);
+    s.token
 }
 
 // The reader past that token; at a bad token and at the end its place stays.
 pub fn advanced<'a>(r: Reader<'a>) -> Reader<'a>
-    ensures { λ q. ⌜ q ≡ record { src = r .entry .src; at = placeAfter (now (r .entry .src)) (r .entry .at) } ⌝ }
+    ensures { λ q. ⌜ q ≡ movedOn (r .entry) ⌝ }
 {
+    let s = view(r.src, r.at, r.line, r.column);
     Reader {
         src: r.src,
-        at: place_after(r.src, r.at),
+        at: s.at,
+        line: s.line,
+        column: s.column,
     }
-}
-
-// The token at a place, and the reader's place past it.
-pub struct Seen {
-    pub token: Token,
-    pub next: usize,
-}
-
-// What a reader at the place `at` gives. Its parameters are plain: whoever calls it needs no walk by hand.
-pub fn view(src: &[u8], at: usize) -> Seen
-    ensures { λ s. ⌜ s ≡ seenAt (now (src .entry)) at ⌝ }
-{
-    let r = Reader { src, at };
-    let t = token(r);
-    let q = advanced(r);
-    Seen {
-        token: t,
-        next: q.at,
-    }
-}
-
-// The n-th token of a source, counted from 0; a bad token and the end repeat.
-pub fn nth_token(src: &[u8], n: usize) -> Token
-    ensures { λ t. ⌜ t ≡ nthToken (now (src .entry)) n ⌝ }
-{
-    let mut at: usize = 0;
-    let mut i: usize = 0;
-    while i < n {
-        let s = view(src, at);
-        at = s.next;
-        i = i + 1;
-    }
-    let s = view(src, at);
-    let t = s.token;
-    t
 }
 
 // The token that the reader stands before; the reader is then past it, and at a bad token and at the end where it was.
-pub fn next<'s, 'a>(r: &'s mut Reader<'a>) -> Token
-    ensures { λ t. ⌜ (t ≡ tokenAt (now (now (r .entry) .src)) (now (r .entry) .at)) × (now (r .exit) ≡ record { src = now (r .entry) .src; at = placeAfter (now (now (r .entry) .src)) (now (r .entry) .at) }) ⌝ }
+pub fn next<'s, 'a>(r: &'s mut Reader<'a>) -> Positioned
+    ensures { λ t. ⌜ (t ≡ seenBy (now (r .entry)) .token) × (now (r .exit) ≡ movedOn (now (r .entry))) ⌝ }
 {
     let src = r.src;
     let at = r.at;
-    r.at = place_after(src, at);
-    lex::token_at(src, at)
+    let line = r.line;
+    let column = r.column;
+    let s = view(src, at, line, column);
+    r.at = s.at;
+    r.line = s.line;
+    r.column = s.column;
+    s.token
+}
+
+// The n-th token of a source, counted from 0, with its own line and column; a bad token and the end repeat.
+pub fn nth_token(src: &[u8], n: usize) -> Positioned
+    ensures { λ t. ⌜ t ≡ positioned (now (src .entry)) (nthToken (now (src .entry)) n) ⌝ }
+{
+    let mut at: usize = 0;
+    let mut line: usize = 1;
+    let mut column: usize = 1;
+    let mut i: usize = 0;
+    while i < n {
+        let s = view(src, at, line, column);
+        at = s.at;
+        line = s.line;
+        column = s.column;
+        i = i + 1;
+    }
+    let s = view(src, at, line, column);
+    let t = s.token;
+    t
 }

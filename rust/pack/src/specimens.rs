@@ -18,11 +18,11 @@ fn parentheses(count: usize) -> Case {
 
 /// So many conditions, each within the one before.
 fn conditions(count: usize) -> Case {
-    framed(&format!("{}{}", "suppressif 1;".repeat(count), "endif;".repeat(count)), 64)
+    framed(&format!("{}{}", "suppressif\n1;".repeat(count), "endif;".repeat(count)), 64)
 }
 
 fn rules(count: usize, rows: usize) -> Case {
-    framed(&(0..count).map(|at| format!("rule A{at:03},1 endrule;")).collect::<String>(), rows)
+    framed(&(0..count).map(|at| format!("rule A{at:03},1\nendrule;")).collect::<String>(), rows)
 }
 
 /// A source of so many bytes.

@@ -8,79 +8,79 @@ use Rattle.face.proofs.put_resolution.Tie as tie
 enum-known-answer : tie.Need-enum-known-answer
 enum-known-answer c = search needs
 
-put-four-requires : tie.Need-put-four-requires
-put-four-requires c κs = search needs
+slice-aggregate-put-numbers : tie.Need-slice-aggregate-put-numbers
+slice-aggregate-put-numbers c = search needs
 
-put-requires : tie.Need-put-requires
-put-requires c κs = search needs
+put-numbers-requires : tie.Need-put-numbers-requires
+put-numbers-requires c κs = search needs
 
 enum-known-answer-2 : tie.Need-enum-known-answer-2
 enum-known-answer-2 c = search needs
 
-put-four-requires-2 : tie.Need-put-four-requires-2
-put-four-requires-2 c κs = search needs
+slice-aggregate-put-numbers-2 : tie.Need-slice-aggregate-put-numbers-2
+slice-aggregate-put-numbers-2 c = search needs
 
-put-requires-2 : tie.Need-put-requires-2
-put-requires-2 c κs = search needs
+put-numbers-requires-2 : tie.Need-put-numbers-requires-2
+put-numbers-requires-2 c κs = search needs
 
 enum-known-answer-3 : tie.Need-enum-known-answer-3
 enum-known-answer-3 c = search needs
 
-put-four-requires-3 : tie.Need-put-four-requires-3
-put-four-requires-3 c κs = search needs
+slice-aggregate-put-numbers-3 : tie.Need-slice-aggregate-put-numbers-3
+slice-aggregate-put-numbers-3 c = search needs
 
-put-requires-3 : tie.Need-put-requires-3
-put-requires-3 c κs = search needs
+put-numbers-requires-3 : tie.Need-put-numbers-requires-3
+put-numbers-requires-3 c κs = search needs
 
 enum-known-answer-4 : tie.Need-enum-known-answer-4
 enum-known-answer-4 c = search needs
 
-put-four-requires-4 : tie.Need-put-four-requires-4
-put-four-requires-4 c κs = search needs
+slice-aggregate-put-numbers-4 : tie.Need-slice-aggregate-put-numbers-4
+slice-aggregate-put-numbers-4 c = search needs
 
-put-requires-4 : tie.Need-put-requires-4
-put-requires-4 c κs = search needs
+put-numbers-requires-4 : tie.Need-put-numbers-requires-4
+put-numbers-requires-4 c κs = search needs
 
 same-length : tie.Need-same-length
 same-length c = search needs
 
 returns : tie.Need-returns
-returns c = c .before .before .put .ensures ∙ rw (c .before .before .before .before .before .before .put-four .ensures, c .before .before .before .before .before .before .before .before .before .answer .given .1)
+returns c = c .before .before .put-numbers .ensures ∙ rw (c .before .before .before .before .before .before .answer .given .1)
 
 same-length-2 : tie.Need-same-length-2
 same-length-2 c = search needs
 
 returns-2 : tie.Need-returns-2
-returns-2 c = c .before .before .put2 .ensures ∙ rw (c .before .before .before .before .before .before .put-four2 .ensures, c .before .before .before .before .before .before .before .before .before .answer2 .given .1)
+returns-2 c = c .before .before .put-numbers2 .ensures ∙ rw (c .before .before .before .before .before .before .answer2 .given .1)
 
 same-length-3 : tie.Need-same-length-3
 same-length-3 c = search needs
 
 returns-3 : tie.Need-returns-3
-returns-3 c = c .before .before .put3 .ensures ∙ rw (c .before .before .before .before .before .before .put-four3 .ensures, c .before .before .before .before .before .before .before .before .before .answer3 .given .1)
+returns-3 c = c .before .before .put-numbers3 .ensures ∙ rw (c .before .before .before .before .before .before .answer3 .given .1)
 
 same-length-4 : tie.Need-same-length-4
 same-length-4 c = search needs
 
 returns-4 : tie.Need-returns-4
-returns-4 c = c .before .before .put4 .ensures ∙ rw (c .before .before .before .before .before .before .put-four4 .ensures, c .before .before .before .before .before .before .before .before .before .answer4 .given .1)
+returns-4 c = c .before .before .put-numbers4 .ensures ∙ rw (c .before .before .before .before .before .before .answer4 .given .1)
 
 pub put-resolution-spec : {M : Type 1} → statement M
 put-resolution-spec =
     tie.close
     (tie.spec
     enum-known-answer
-    put-four-requires
-    put-requires
+    slice-aggregate-put-numbers
+    put-numbers-requires
     enum-known-answer-2
-    put-four-requires-2
-    put-requires-2
+    slice-aggregate-put-numbers-2
+    put-numbers-requires-2
     enum-known-answer-3
-    put-four-requires-3
-    put-requires-3
+    slice-aggregate-put-numbers-3
+    put-numbers-requires-3
     enum-known-answer-4
-    put-four-requires-4
-    put-requires-4
+    slice-aggregate-put-numbers-4
+    put-numbers-requires-4
     same-length
     returns
     same-length-2

@@ -1,51 +1,23 @@
--- `read::read` meets its contract: what the stages find is the answer, and the table holds the finished rows or zeros.
+-- `read::read` meets its contract: the answer is that of the stages' outcome, and the table is theirs.
 -- Assumes nothing.
+use mathlib.Core.Path.{_∙_}
 use borrow.Author.Needs.{needs}
-use Rattle.read.proofs.ReadLaws.{refused-read, short-read, drafted, finished-read}
 use Rattle.read.proofs.read.Statement.{statement}
 use Rattle.read.proofs.read.Tie as tie
 
-survey-requires : tie.Need-survey-requires
-survey-requires c κs = search needs
+read-rows-requires : tie.Need-read-rows-requires
+read-rows-requires c κs = search needs
+
+answered-requires : tie.Need-answered-requires
+answered-requires c κs = search needs
 
 same-length : tie.Need-same-length
 same-length c = search needs
 
 returns : tie.Need-returns
-returns c = refused-read (c .before .before .before .before .survey .ensures) (c .if1 .taken)
-
-whole-rows-requires : tie.Need-whole-rows-requires
-whole-rows-requires c κs = search needs
-
-clear-requires : tie.Need-clear-requires
-clear-requires c κs = search needs
-
-same-length-2 : tie.Need-same-length-2
-same-length-2 c = search needs
-
-returns-2 : tie.Need-returns-2
-returns-2 c = short-read (c .before .before .before .before .before .before .before .before .before .before .before .survey .ensures .passed (c .before .before .before .before .before .before .before .if1 .left) .1) (c .before .before .before .before .before .whole-rows .ensures) (c .before .before .before .before .if2 .taken) (c .before .before .clear .ensures)
-
-finish-requires : tie.Need-finish-requires
-finish-requires c κs = drafted (c .before .before .before .before .before .before .before .before .survey .ensures .passed (c .before .before .before .before .if1 .left) .1) (c .before .before .whole-rows .ensures) (c .before .if2 .left)
-
-same-length-3 : tie.Need-same-length-3
-same-length-3 c = search needs
-
-returns-3 : tie.Need-returns-3
-returns-3 c = finished-read (c .before .before .before .before .before .before .before .before .before .before .before .survey .ensures .passed (c .before .before .before .before .before .before .before .if1 .left) .1) (c .before .before .before .before .before .whole-rows .ensures) (c .before .before .before .before .if2 .left) (c .before .before .finish .ensures)
+returns c =
+    let outcome = c .before .before .before .read-rows in
+    (c .answered .ensures ∙ rw (outcome .ensures .0), outcome .ensures .1)
 
 pub read-spec : {M : Type 1} → statement M
-read-spec =
-    tie.close
-    (tie.spec
-    survey-requires
-    same-length
-    returns
-    whole-rows-requires
-    clear-requires
-    same-length-2
-    returns-2
-    finish-requires
-    same-length-3
-    returns-3)
+read-spec = tie.close (tie.spec read-rows-requires answered-requires same-length returns)

@@ -1,7 +1,7 @@
 -- `text::resolve` meets its contract.
 -- Assumes nothing.
 use native.Mathlib.Omega.{arith}
-use mathlib.Core.Path.{sym, ap, _∙_}
+use mathlib.Core.Path.{refl, sym, ap, _∙_}
 use Rattle.read.specs.Answers as read
 use Rattle.text.proofs.ResolveLaws.{resolved, unresolved-refused, unresolved-short}
 use borrow.Author.Needs.{needs}
@@ -57,7 +57,7 @@ returns-2 c =
     let reading = c .before .before .before .before .before .before .before .before .before .read in
     let answer2 = c .before .before .before .before .before .answer2 in
     let clear = c .before .before .clear in
-    unresolved-refused (args .src .now) _ (args .out .now) (ap read.told (sym (answer2 .given .1)) ∙ reading .ensures .0) (reading .ensures .1) (clear .ensures)
+    unresolved-refused (args .src .now) _ (args .out .now) (ap read.told (sym (answer2 .given .1)) ∙ reading .ensures .0) refl (reading .ensures .1) (clear .ensures)
 
 same-length-5 : tie.Need-same-length-5
 same-length-5 c = search needs
@@ -71,7 +71,7 @@ returns-3 c =
     let reading = c .before .before .before .before .before .before .before .before .before .read in
     let answer3 = c .before .before .before .before .before .answer3 in
     let clear2 = c .before .before .clear2 in
-    unresolved-short (args .src .now) _ (args .out .now) (ap read.told (sym (answer3 .given .1)) ∙ reading .ensures .0) (reading .ensures .1) (clear2 .ensures)
+    unresolved-short (args .src .now) _ (args .out .now) (ap read.told (sym (answer3 .given .1)) ∙ reading .ensures .0) refl (reading .ensures .1) (clear2 .ensures)
 
 pub resolve-spec : {M : Type 1} → statement M
 resolve-spec =

@@ -1,7 +1,7 @@
 -- `resolve_marked` meets its contract: filling keeps the lengths.
 -- Assumes nothing.
 use mathlib.Core.Path.{_∙_}
-use Rattle.texts.proofs.LengthLaws.{resolution-as, output-as}
+use Rattle.texts.proofs.LengthLaws.{reply-as, output-as}
 use borrow.Author.Needs.{needs}
 use Rattle.texts.proofs.resolve_marked.Statement.{statement}
 use Rattle.texts.proofs.resolve_marked.Tie as tie
@@ -26,7 +26,7 @@ returns c =
     let far = c .before .before .before .before .before .before .before .before .before .before in
     let s = far .before .before .before .before .before .before .before .before .args .src .now in
     let r = c .before .before .before .before .resolve .ensures in
-    (r .0 ∙ resolution-as s (search needs) (search needs), r .1 .1 ∙ output-as s (search needs) (search needs))
+    (r .0 ∙ reply-as s (search needs) (search needs), r .1 .1 ∙ output-as s (search needs) (search needs))
 
 pub resolve-marked-spec : {M : Type 1} → statement M
 resolve-marked-spec =

@@ -1,4 +1,4 @@
--- `compare::is_answer` meets its contract: each of the four values is the same.
+-- `compare::is_answer` meets its contract: each of the six values is the same.
 -- Assumes nothing.
 use mathlib.Core.Path.{refl}
 use mathlib.Core.Bool.{and-eq-true-iff}
@@ -30,14 +30,32 @@ slice-aggregate-is-same-4 c = search needs
 is-same-requires-4 : tie.Need-is-same-requires-4
 is-same-requires-4 c κs = search needs
 
+slice-aggregate-is-same-5 : tie.Need-slice-aggregate-is-same-5
+slice-aggregate-is-same-5 c = search needs
+
+is-same-requires-5 : tie.Need-is-same-requires-5
+is-same-requires-5 c κs = search needs
+
+slice-aggregate-is-same-6 : tie.Need-slice-aggregate-is-same-6
+slice-aggregate-is-same-6 c = search needs
+
+is-same-requires-6 : tie.Need-is-same-requires-6
+is-same-requires-6 c κs = search needs
+
 returns : tie.Need-returns
 returns c e =
-    let three = and-eq-true-iff _ _ .0 e in
+    let five = and-eq-true-iff _ _ .0 e in
+    let four = and-eq-true-iff _ _ .0 (five .0) in
+    let three = and-eq-true-iff _ _ .0 (four .0) in
     let two = and-eq-true-iff _ _ .0 (three .0) in
     let one = and-eq-true-iff _ _ .0 (two .0) in
-    let number = c .before .before .before .before .before .before .is-same .ensures (one .0) in
-    let place = c .before .before .before .before .is-same2 .ensures (one .1) in
-    rw (number, place, c .before .before .is-same3 .ensures (two .1), c .is-same4 .ensures (three .1)) refl
+    let counts = c .before .before .before .before in
+    let places = counts .before .before .before .before in
+    let number = places .before .before .is-same .ensures (one .0) in
+    let place = places .is-same2 .ensures (one .1) in
+    let rows = counts .before .before .is-same3 .ensures (two .1) in
+    let free = counts .is-same4 .ensures (three .1) in
+    rw (number, place, rows, free, c .before .before .is-same5 .ensures (four .1), c .is-same6 .ensures (five .1)) refl
 
 pub is-answer-spec : {M : Type 1} → statement M
 is-answer-spec =
@@ -51,4 +69,8 @@ is-answer-spec =
     is-same-requires-3
     slice-aggregate-is-same-4
     is-same-requires-4
+    slice-aggregate-is-same-5
+    is-same-requires-5
+    slice-aggregate-is-same-6
+    is-same-requires-6
     returns)

@@ -8,7 +8,7 @@
  * buffers lent, keeps no pointer and allocates nothing. A buffer of length 0 is not touched, and its pointer
  * may be NULL. Two things are left to the caller: the buffers of one call do not overlap, and there is stack
  * enough. vfr_read and vfr_resolve take about 140 KB of it for a source that is not deep and 280 KB for the
- * deepest, so that a thread wants 320 KB; vfr_quick_check takes about 170 KB at most.
+ * deepest, so that a thread wants 320 KB; vfr_quick_check takes about 170 KB at most, vfr_token under 1 KB.
  */
 #ifndef DRNKAVEC_H
 #define DRNKAVEC_H

@@ -606,6 +606,7 @@ static void check_lines(void)
     CHECK_SPOT("after a last comment it is on the comment's line", "formset\n//ab", VFR_NOT_GRAMMAR, 12, 2, 5);
     CHECK_SPOT("CR LF is one line, a lone CR none, a tab one byte", "\r\nformset\r\r\n\t@", VFR_BAD_TOKEN, 13, 3, 2);
     CHECK_SPOT("a column counts bytes", "//\xc3\xa9 \n \xc3", VFR_BAD_TOKEN, 7, 2, 2);
+    CHECK_SPOT("those of a comment too", "formset //\xc3\xa9", VFR_NOT_GRAMMAR, 12, 1, 13);
     CHECK_SPOT("LF in blanks and after comments count alike", "//a\n \n\n//\n\n  endif", VFR_NOT_GRAMMAR, 13, 6, 3);
     memset(feeds, '\n', sizeof feeds);
     check_spot("65,536 LF bytes are 65,537 lines", feeds, VFR_MAX_SOURCE, VFR_NOT_GRAMMAR,
@@ -799,6 +800,8 @@ static void check_last(void)
         good = good && has_seen(VFR_TOKEN_END, (struct spot){6, 2, 5}, 6, 1, 1);
     }
     check("a bad token and the end repeat, with the place that was given", good);
+    token_from("a //\xc3\xa9", 6, 1, 1, 2);
+    check("a column counts the bytes of a comment", has_seen(VFR_TOKEN_END, (struct spot){6, 1, 7}, 6, 1, 1));
     token_from("a\n b", 4, 4, 2, 3);
     check("at the length the token is the end", has_seen(VFR_TOKEN_END, (struct spot){4, 2, 3}, 4, 4, 1));
     token_from("a\n b", 4, 5, 7, 9);

@@ -92,18 +92,20 @@ fn checks(source: &[u8], random: &mut Random) -> Vec<Check> {
         checks.push(Check::Resolve { table, out, answer: random.between(0, MOST_NUMBERS) });
     }
     if random.once_in(4) {
-        checks.push(token_check(source, random));
+        checks.extend((0..3).map(|_| token_check(source, random)));
     }
     checks
 }
 
-/// The token from any place on, the length and past it too, with any line and column.
+/// The token from any place on, an LF or the length or past it now and then, with any line and column.
 fn token_check(source: &[u8], random: &mut Random) -> Check {
-    let at = match random.below(8) {
+    let within = random.below(source.len() + 1);
+    let at = match random.below(10) {
         0 => source.len(),
         1 => source.len().saturating_add(random.between(1, 100)),
         2 => usize::MAX - random.below(100),
-        _ => random.below(source.len() + 1),
+        3..=5 => within + source[within..].iter().position(|&byte| byte == b'\n').unwrap_or(0),
+        _ => within,
     };
     let position = Position { line: any_count(random), column: any_count(random) };
     Check::Token { at, position, token: random.between(0, MOST_NUMBERS) }
@@ -111,9 +113,10 @@ fn token_check(source: &[u8], random: &mut Random) -> Check {
 
 /// A line or column: small, near 2^64 - 1, or any.
 fn any_count(random: &mut Random) -> u64 {
-    match random.below(4) {
+    match random.below(5) {
         0 => random.number(),
         1 => u64::MAX - random.below(300) as u64,
+        2 => u64::MAX - random.below(2) as u64,
         _ => random.below(300) as u64,
     }
 }

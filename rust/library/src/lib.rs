@@ -80,9 +80,10 @@ pub fn token(source: &[u8], at: usize, line: usize, column: usize) -> Token {
 }
 
 /// The tokens of a source from its start, by the rule that the header gives a caller; the last is a bad one or the end.
+/// There are no more than bytes besides the last one, so a walk that does not end is cut off there.
 pub fn walk(source: &[u8]) -> impl Iterator<Item = Token> + '_ {
     let mut place = Some((0, 1, 1));
-    std::iter::from_fn(move || {
+    let tokens = std::iter::from_fn(move || {
         let (at, line, column) = place?;
         let token = token(source, at, line, column);
         place = (token.last == 0).then(|| {
@@ -90,5 +91,6 @@ pub fn walk(source: &[u8]) -> impl Iterator<Item = Token> + '_ {
             (token.next as usize, token.line as usize, token.column.wrapping_add(length) as usize)
         });
         Some(token)
-    })
+    });
+    tokens.take(source.len() + 1)
 }

@@ -25,7 +25,7 @@ pub struct Kind {
     pub build: fn(usize) -> String,
 }
 
-pub const KINDS: [Kind; 9] = [
+pub const KINDS: [Kind; 10] = [
     Kind { name: "realistic", build: realistic },
     Kind { name: "operator chain", build: chain },
     Kind { name: "rules of one number", build: rules },
@@ -35,6 +35,7 @@ pub const KINDS: [Kind; 9] = [
     Kind { name: "deep groups in deep conditions", build: groups },
     Kind { name: "blanks and comments", build: blanks },
     Kind { name: "a fault in the first token", build: early_fault },
+    Kind { name: "a fault at the end", build: late_fault },
 ];
 
 /// A frame round as many parts as there is room for.
@@ -164,4 +165,10 @@ fn blanks(size: usize) -> String {
 
 fn early_fault(size: usize) -> String {
     format!("endform {}", realistic(size - 8))
+}
+
+/// Refused at its length, so that all its lines are counted.
+fn late_fault(size: usize) -> String {
+    let source = realistic(size);
+    source.trim_end_matches(";\n").to_string()
 }

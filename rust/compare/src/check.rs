@@ -154,8 +154,7 @@ pub fn walk(source: &[u8]) -> Result<Vec<u64>, String> {
     }
 }
 
-/// The token from a place on that has this line and column, lent so many numbers; then once more with a whole layout, at
-/// which a caller would go on.
+/// The token from a place on that has this line and column: lent so many numbers, and once more lent a whole layout.
 pub fn token(source: &[u8], at: usize, position: Position, token_len: usize) -> Result<(), String> {
     let wanted = told(at, Walk::at(source, at, position).next_token());
     let lent = source.to_vec();

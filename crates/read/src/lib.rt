@@ -12,8 +12,8 @@ ghost use Rattle.answers.specs.WholeAnswer.{readTable, quickCheck};
 ghost use Rattle.replies.specs.Replies.{readReplied, readReply};
 ghost use Rattle.read.specs.Answers.{found, told};
 
-// What reading answers: rows and free numbers; a refusal's number and place, and that place's line and column; or, where
-// fewer whole rows are lent than the source needs, the need (No. 6).
+// What reading answers: rows and free numbers; a refusal's number and place, and that place's line and column (0 and 0 at
+// No. 1, whose place is always 0); or, where fewer whole rows are lent than the source needs, the need (No. 6).
 pub enum Answer {
     Accepted(usize, u64),
     Refused(u64, usize, usize, usize),

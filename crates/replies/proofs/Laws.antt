@@ -24,15 +24,15 @@ module _ (s : List ℕ) (number place : ℕ) where
 
 -- which numbers have a place
 
-has-place : (n : ℕ) → (Unplaced n → ⊥) → hasPlace n ≡ true
-has-place n h =
-    rw (ne-eqb n 0 (λ e. h (inl e)), ne-eqb n 1 (λ e. h (inr (inl e))), ne-eqb n 6 (λ e. h (inr (inr (inl e)))), ne-eqb n 13 (λ e. h (inr (inr (inr e)))))
-
 has-none : (n : ℕ) → Unplaced n → hasPlace n ≡ false
 has-none n (inl e) = rw e
 has-none n (inr (inl e)) = rw e
 has-none n (inr (inr (inl e))) = rw e
 has-none n (inr (inr (inr e))) = rw e
+
+has-place : (n : ℕ) → (Unplaced n → ⊥) → hasPlace n ≡ true
+has-place n h =
+    rw (ne-eqb n 0 (λ e. h (inl e)), ne-eqb n 1 (λ e. h (inr (inl e))), ne-eqb n 6 (λ e. h (inr (inr (inl e)))), ne-eqb n 13 (λ e. h (inr (inr (inr e)))))
 
 pub gives-line : (s : List ℕ) (number place rows free written : ℕ) → GivesLine s (replied s number place rows free written)
 unfolding positionAt

@@ -4,7 +4,7 @@ use Prim.Native.Nat.{ℕ}
 use mathlib.Core.Path.{_≡_}
 use mathlib.Core.List.{List}
 use Rattle.positions.specs.declared.Position.{Position}
-use Rattle.replies.specs.Replies.{Reply, positionOf, readReplied}
+use Rattle.replies.specs.Replies.{positionOf, readReplied}
 use Rattle.read.specs.declared.Outcome.{Outcome}
 use Rattle.read.specs.declared.Outcome.the-variants as outcome
 use Rattle.read.specs.declared.Answer.the-variants.{Accepted, Refused, Short}

@@ -21,7 +21,7 @@ use Rattle.answers.specs.WholeAnswer.{quickCheck, readAnswer, readTable}
 use Rattle.answers.specs.Demand3.{Sound, Refuses, questionNumbers, GetsSmallest}
 use Rattle.answers.proofs.Answers.{passes-grammatical}
 use Rattle.answers.proofs.Demand3 as Demand3
-use Rattle.replies.specs.Replies.{Reply, positionOf, accepting, readReplied, readReply}
+use Rattle.replies.specs.Replies.{positionOf, accepting, readReplied, readReply}
 use Rattle.replies.specs.Lines.{GivesLine}
 use Rattle.replies.proofs.Laws.{gives-line, read-replied-only}
 use Rattle.read.specs.declared.Answer.{Answer}

@@ -5,7 +5,7 @@ use Prim.Native.String.{String}
 use mathlib.Core.Path.{_≡_, refl}
 use mathlib.Core.List.{List, [], _∷_, map}
 use Rattle.lexemes.specs.Lexemes.{bytes}
-use Rattle.positions.specs.Positions.{lineFeeds, columnPast, lineAt, columnAt, positionAt}
+use Rattle.positions.specs.Positions.{lineFeeds, sinceFeed, columnAfter, lineAt, columnAt, positionAt}
 use Rattle.answers.proofs.Computed.{outcomeIn, outcome}
 use Rattle.replies.specs.Replies.{Reply, positionOf, readReplied}
 
@@ -20,5 +20,5 @@ refused number place line column = record { number = number; place = place; rows
 pub readings-hold :
     answers ("" ∷ "@" ∷ "\n@" ∷ "\t\r\n \r@" ∷ "formset" ∷ "formset\n" ∷ "formset\n//ab" ∷ "formset\n\tform" ∷ [])
     ≡ refused 3 0 1 1 ∷ refused 2 0 1 1 ∷ refused 2 1 2 1 ∷ refused 2 5 2 3 ∷ refused 3 7 1 8 ∷ refused 3 8 2 1 ∷ refused 3 12 2 5 ∷ refused 3 9 2 2 ∷ []
-unfolding outcomeIn positionOf positionAt lineAt columnAt lineFeeds columnPast
+unfolding outcomeIn positionOf positionAt lineAt columnAt lineFeeds sinceFeed columnAfter
 readings-hold = refl

@@ -1,14 +1,13 @@
 -- Line and column of an answer's place, by whether it has one; W-201 of every answer that is made so.
 -- Assumes nothing.
-use mathlib.Core.Path.{_≡_, refl, ap}
-use mathlib.Core.Logic.{_⊎_, inl, inr, _≢_}
-use mathlib.Core.Bool.{Bool, true, false}
+use mathlib.Core.Path.{_≡_, ap}
+use mathlib.Core.Logic.{inl, inr}
+use mathlib.Core.Bool.{true, false}
 use mathlib.Core.List.{List}
 use Prim.Native.Nat.{ℕ}
-use lib.Dec.{eqb}
 use borrow.Author.Tests.{ne-eqb}
 use Rattle.positions.specs.declared.Position.{Position}
-use Rattle.positions.specs.Positions.{positionAt, lineAt, columnAt}
+use Rattle.positions.specs.Positions.{positionAt}
 use Rattle.answers.specs.Answer.{Answer, accepts}
 use Rattle.replies.specs.Replies.{hasPlace, positionOf, replied, accepting, readReplied}
 use Rattle.replies.specs.Lines.{Unplaced, GivesLine}

@@ -11,7 +11,7 @@ use Rattle.lexemes.specs.Classes.{BAD}
 use Rattle.lex.specs.Tokens.{tokenAt}
 use Rattle.lexemes.proofs.Lists.{either-less}
 use Rattle.lex.proofs.Progress.{token-moves, past-end, start-is}
-use Rattle.positions.specs.Positions.{lineFeeds, columnPast, lineAt, columnAt, positionAt}
+use Rattle.positions.specs.Positions.{lineFeeds, sinceFeed, lineAt, columnAt, positionAt}
 use Rattle.positions.proofs.Laws.{position-onward}
 use Rattle.viewer.specs.declared.Seen.{Seen}
 use Rattle.viewer.specs.declared.Reader.{Reader}
@@ -63,7 +63,7 @@ module _ (s : List ℕ) (short : length s < 2 ^ 63) where
 
 -- it stands at its place with that place's own line and column
 pub started-place : (src : RefT (List ℕ)) → length (now src) < 2 ^ 63 → (n : ℕ) → afterNth n (started src) ≡ standing src (placeOfNth (now src) n)
-unfolding afterNth placeOfNth standing seenAt lineAt columnAt lineFeeds columnPast
+unfolding afterNth placeOfNth standing seenAt lineAt columnAt lineFeeds sinceFeed
 started-place src short zero = refl
 started-place src short (suc n) =
     ap movedOn (started-place src short n)

@@ -5,7 +5,7 @@ use native.Mathlib.Omega.{arith}
 use mathlib.Core.Path.{_≡_, refl, sym, ap, _∙_}
 use Prim.Native.Nat.{_-_, _^_, _≤_, _<_}
 use lib.ListN.{length}
-use Rattle.positions.specs.Positions.{lineFeeds, columnPast, lineAt, columnAt}
+use Rattle.positions.specs.Positions.{lineFeeds, sinceFeed, lineAt, columnAt}
 use Rattle.viewer.specs.declared.Seen.{Seen}
 use Rattle.viewer.specs.Viewed.{placeOfNth, nthToken, positioned, seenAt}
 use Rattle.viewer.proofs.Onward.{next-place}
@@ -21,7 +21,7 @@ abbrev μ-loop : tie.MeasureT-loop
 μ-loop src n at₀ line₀ column₀ i₀ at line column i = n - i
 
 loop-holds : tie.Need-loop-holds Inv-loop μ-loop
-unfolding placeOfNth lineAt columnAt lineFeeds columnPast
+unfolding placeOfNth lineAt columnAt lineFeeds sinceFeed
 loop-holds c = (refl, refl, refl, omega arith)
 
 view-requires : tie.Need-view-requires Inv-loop μ-loop

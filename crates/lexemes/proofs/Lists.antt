@@ -1,30 +1,18 @@
 -- Facts about lists and tests that have nothing to do with tokens.
 -- Assumes nothing.
 use mathlib.Core.Path.{_≡_, refl, ap}
-use mathlib.Core.Bool.{Bool, true, false, _&&_, false≢true}
+use mathlib.Core.Bool.{Bool, true, false, _&&_}
 use mathlib.Core.List.{List, [], _∷_}
 use Prim.Native.Nat.{ℕ, zero, suc, _+_, _-_, _≤_, _<_}
+use native.Mathlib.Nat.{add-zero, zero-add, suc-add, add-suc, le-of-suc-le-suc}
 use native.Mathlib.Numerals.{add-one}
 use native.Mathlib.Omega.{arith}
-use lib.Dec.{ltb}
 use lib.ListN.{length, getD, take, drop, length-drop, drop-of-length-le, List·getD-eq-default}
 use lib.Seq.{drop-cons, take-all}
-use borrow.Author.Tests.{ltb-true, ltb-false}
+-- a statement that holds whatever a test says, or whether a number is below another or not; both parts of a conjunction that is true
+pub use Rattle.wordlist.proofs.Lists.{either, either-less, and-true}
 
--- a statement that holds whatever the test t says
-pub either : {A : Type 0} (t : Bool) → (t ≡ true → A) → (t ≡ false → A) → A
-either true yes-case no-case = yes-case refl
-either false yes-case no-case = no-case refl
-
--- and one that holds whether a is below b or not
-pub either-less : {A : Type 0} (a b : ℕ) → (a < b → A) → (b ≤ a → A) → A
-either-less a b less not-less = either (ltb a b) (λ e. less (ltb-true a b e)) (λ e. not-less (ltb-false a b e))
-
--- both parts of a conjunction that is true, and one whose second part is false
-pub and-true : (a b : Bool) → a && b ≡ true → (a ≡ true) × (b ≡ true)
-and-true true b e = (refl, e)
-and-true false b e = absurd (false≢true e)
-
+-- a conjunction whose second part is false
 pub and-false : (a b : Bool) → b ≡ false → a && b ≡ false
 and-false true b e = e
 and-false false b e = refl
@@ -50,3 +38,18 @@ pub take-own : (n : ℕ) (s : List ℕ) → take (length (take n s)) s ≡ take 
 take-own zero s = refl
 take-own (suc n) [] = refl
 take-own (suc n) (b ∷ s) = ap (_∷_ b) (take-own n s)
+
+-- ---- a test over all texts of a list, and what it says at each
+
+abbrev pub every : (ℕ → List ℕ → Bool) → ℕ → List (List ℕ) → Bool
+every test i [] = true
+every test i (v ∷ vs) = test i v && every test (suc i) vs
+
+every-from : (test : ℕ → List ℕ → Bool) (i k : ℕ) (ws : List (List ℕ)) → every test i ws ≡ true → k < length ws → test (i + k) (getD ws k []) ≡ true
+every-from test i k [] t h = absurd (omega arith)
+every-from test i zero (v ∷ vs) t h = rw add-zero (and-true (test i v) (every test (suc i) vs) t .0)
+every-from test i (suc k) (v ∷ vs) t h =
+    rw (add-suc, ← suc-add) (every-from test (suc i) k vs (and-true (test i v) (every test (suc i) vs) t .1) (le-of-suc-le-suc h))
+
+pub every-at : (test : ℕ → List ℕ → Bool) (ws : List (List ℕ)) → every test 0 ws ≡ true → (k : ℕ) → k < length ws → test k (getD ws k []) ≡ true
+every-at test ws t k h = rw zero-add at (every-from test 0 k ws t h)

@@ -1,16 +1,18 @@
--- A text that none of the arms of a `match` names stands in no list of texts that the arms cover.
+-- What the last arm of a `match` knows: that no arm before it has the key. So a text stands in no list of texts that the arms cover, and a
+-- letter that no arm has starts no reserved word.
 -- Assumes nothing.
 use mathlib.Core.Path.{_≡_, refl, sym, ap, _∙_}
 use mathlib.Core.Bool.{Bool, true, false, cond, _&&_, _||_, true≢false}
 use mathlib.Core.List.{List, [], _∷_}
-use Prim.Native.Nat.{ℕ, suc}
-use lib.Dec.{eqb}
-use lib.ListN.{length, take}
-use borrow.Author.Tests.{ne-eqb, eqb-false}
-use Rattle.lexemes.specs.Lookup.{packed, codePlace}
+use Prim.Native.Nat.{ℕ, suc, _≤_, zero-le}
+use native.Mathlib.Omega.{arith}
+use lib.Dec.{eqb, ltb}
+use lib.ListN.{length, getD}
+use borrow.Author.Tests.{ne-eqb, ltb-true}
+use Rattle.lexemes.specs.Lexemes.{reserved}
+use Rattle.lexemes.specs.Search.{COUNT, letterPlace, letterStart}
 use Rattle.lexemes.specs.Words.{same, placeAmong}
 use Rattle.lexemes.proofs.Lists.{either, and-true, and-false}
-use Rattle.lexemes.proofs.Steps.{same-length}
 
 -- x is none of the keys, as the last arm of a `match` has it, after a fact A
 abbrev pub Missed : Type 0 → List ℕ → ℕ → Type 0
@@ -45,40 +47,25 @@ place-none b rest ((x ∷ v) ∷ vs) h =
 pub byte-missed : (b : ℕ) (rest : List ℕ) (ws : List (List ℕ)) → Missed Unit (firstBytes rest ws) b → placeAmong (b ∷ rest) ws ≡ length ws
 byte-missed b rest ws h = place-none b rest ws (no-member (firstBytes rest ws) b h .1)
 
--- the first eight bytes of the texts of n bytes
-abbrev pub firstCodes : ℕ → List (List ℕ) → List ℕ
-firstCodes n [] = []
-firstCodes n (v ∷ vs) = let more = firstCodes n vs in cond (eqb (length v) n) (packed (take 8 v) ∷ more) more
+-- the first letter of each text is one of the keys
+abbrev pub lettersIn : List ℕ → List (List ℕ) → Bool
+lettersIn ks [] = true
+lettersIn ks (v ∷ vs) = member (getD v 0 0) ks && lettersIn ks vs
 
-code-none : (n x y : ℕ) (ws : List (List ℕ)) → member x (firstCodes n ws) ≡ false → codePlace n x y ws ≡ length ws
-unfolding codePlace
-code-none n x y [] h = refl
-code-none n x y (v ∷ vs) h =
-    either (eqb (length v) n)
-    (λ e.
-    let among : eqb x (packed (take 8 v)) || member x (firstCodes n vs) ≡ false = rw e at h in
-    either (eqb x (packed (take 8 v)))
-    (λ t. absurd (true≢false (rw t at among)))
-    (λ t. rw (e, ne-eqb (packed (take 8 v)) x (λ same. eqb-false x _ t (sym same))) (ap suc (code-none n x y vs (rw t at among)))))
-    (λ e. rw e (ap suc (code-none n x y vs (rw e at h))))
+letter-none : (b : ℕ) (ks : List ℕ) (ws : List (List ℕ)) → lettersIn ks ws ≡ true → member b ks ≡ false → letterPlace b ws ≡ length ws
+unfolding letterPlace
+letter-none b ks [] t h = refl
+letter-none b ks (v ∷ vs) t h =
+    let both = and-true (member (getD v 0 0) ks) (lettersIn ks vs) t in
+    let differ : b ≡ getD v 0 0 → ⊥ = λ e. true≢false (sym (both .0) ∙ rw e at h) in
+    rw (ne-eqb b (getD v 0 0) differ) (ap suc (letter-none b ks vs (both .1) h))
 
-pub code-missed : (n x y : ℕ) (ws : List (List ℕ)) → Missed Unit (firstCodes n ws) x → codePlace n x y ws ≡ length ws
-code-missed n x y ws h = code-none n x y ws (no-member (firstCodes n ws) x h .1)
+-- where the search starts for a letter that no arm has
+pub letter-missed : (b : ℕ) (ks : List ℕ) → lettersIn ks reserved ≡ true → Missed Unit ks b → letterStart b ≡ 0
+unfolding letterStart reserved
+letter-missed b ks t h = rw (letter-none b ks reserved t (no-member ks b h .1))
 
--- the length of each text is one of the keys, or another that is not in question
-abbrev pub lengthsIn : (ℕ → Bool) → List ℕ → List (List ℕ) → Bool
-lengthsIn other ks [] = true
-lengthsIn other ks (v ∷ vs) = (member (length v) ks || other (length v)) && lengthsIn other ks vs
-
-length-none : (other : ℕ → Bool) (w ks : List ℕ) (ws : List (List ℕ)) →
-    lengthsIn other ks ws ≡ true → member (length w) ks || other (length w) ≡ false → placeAmong w ws ≡ length ws
-unfolding placeAmong
-length-none other w ks [] t h = refl
-length-none other w ks (v ∷ vs) t h =
-    let both = and-true (member (length v) ks || other (length v)) (lengthsIn other ks vs) t in
-    let differ : length w ≡ length v → ⊥ = λ e. true≢false (sym (both .0) ∙ rw e at h) in
-    rw (same-length w v differ) (ap suc (length-none other w ks vs (both .1) h))
-
-pub length-missed : (other : ℕ → Bool) (w ks : List ℕ) (ws : List (List ℕ)) →
-    lengthsIn other ks ws ≡ true → other (length w) ≡ false → Missed Unit ks (length w) → placeAmong w ws ≡ length ws
-length-missed other w ks ws t outside h = length-none other w ks ws t (rw (no-member ks (length w) h .1) outside)
+-- the search starts in the list, or where it ends
+pub start-le : (b : ℕ) → letterStart b ≤ COUNT
+unfolding letterStart
+start-le b = either (ltb (letterPlace b reserved) COUNT) (λ e. rw e (omega (arith, ltb-true (letterPlace b reserved) COUNT e))) (λ e. rw e zero-le)

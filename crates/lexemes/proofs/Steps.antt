@@ -1,14 +1,14 @@
 -- One step of each definition that goes along a list, at the place i of a list s: at the list's end, and at its next element.
 -- Assumes nothing.
 use mathlib.Core.Path.{_≡_, refl, ap, _∙_}
-use mathlib.Core.Bool.{Bool, true, false, _&&_, _||_, true≢false, false≢true}
+use mathlib.Core.Bool.{Bool, true, false, _&&_, _||_}
 use mathlib.Core.List.{List, [], _∷_}
 use Prim.Native.Nat.{ℕ, zero, suc, _+_, _≤_, _<_, zero-le, suc-le-suc}
 use native.Mathlib.Nat.{le-of-suc-le-suc}
 use native.Mathlib.Omega.{arith}
 use lib.Dec.{eqb, leb}
 use lib.ListN.{length, getD, take, drop}
-use borrow.Author.Tests.{ne-eqb, lt-leb, leb-true}
+use borrow.Author.Tests.{ne-eqb, le-leb, lt-leb, leb-true}
 use Rattle.lexemes.specs.Bytes.{isDigit, isLetter, isWordByte}
 use Rattle.lexemes.specs.Words.{run, all, same}
 use Rattle.lexemes.proofs.Lists.{either, and-true, and-false, from-end, from-next}
@@ -83,28 +83,32 @@ same-first (a ∷ w) (b ∷ v) h = rw (ne-eqb a b h)
 
 -- ---- the kinds of a byte
 
-or-letter : (d u l o : Bool) → u || l ≡ true → d || u || l || o ≡ true
-or-letter true u l o e = refl
-or-letter false true l o e = refl
-or-letter false false true o e = refl
-or-letter false false false o e = absurd (false≢true e)
+or-third : (d u l o : Bool) → l ≡ true → d || u || l || o ≡ true
+or-third true u l o e = refl
+or-third false true l o e = refl
+or-third false false l o e = rw e
 
-or-other : (d u l o : Bool) → u || l ≡ false → d || u || l || o ≡ d || o
-or-other true u l o e = refl
-or-other false false false o e = refl
-or-other false true l o e = absurd (true≢false e)
-or-other false false true o e = absurd (true≢false e)
+or-others : (d u l o : Bool) → l ≡ false → d || u || l || o ≡ d || u || o
+or-others true u l o e = refl
+or-others false true l o e = refl
+or-others false false l o e = rw e
 
 or-none : (d : Bool) → d || false ≡ d
 or-none true = refl
 or-none false = refl
 
 module _ (b : ℕ) where
-  pub letter-word : isLetter b ≡ true → isWordByte b ≡ true
-  letter-word e = or-letter (isDigit b) (leb 65 b && leb b 90) (leb 97 b && leb b 122) (eqb b 95) e
+  abbrev isSmall : Bool
+  isSmall = leb 97 b && leb b 122
 
-  pub other-word : isLetter b ≡ false → isWordByte b ≡ isDigit b || eqb b 95
-  other-word e = or-other (isDigit b) (leb 65 b && leb b 90) (leb 97 b && leb b 122) (eqb b 95) e
+  abbrev isCapital : Bool
+  isCapital = leb 65 b && leb b 90
+
+  pub small-word : isSmall ≡ true → isWordByte b ≡ true
+  small-word e = or-third (isDigit b) isCapital isSmall (eqb b 95) e
+
+  pub other-word : isSmall ≡ false → isWordByte b ≡ isDigit b || isCapital || eqb b 95
+  other-word e = or-others (isDigit b) isCapital isSmall (eqb b 95) e
 
   pub digit-word : isDigit b ≡ true → isWordByte b ≡ true
   digit-word e = rw e
@@ -112,10 +116,13 @@ module _ (b : ℕ) where
   pub digit-range : isDigit b ≡ true → (48 ≤ b) × (b ≤ 57)
   digit-range e = let both = and-true (leb 48 b) (leb b 57) e in (leb-true 48 b (both .0), leb-true b 57 (both .1))
 
-  pub low-word : b < 65 → isWordByte b ≡ isDigit b
-  low-word h =
-      let none : isLetter b ≡ false = rw (lt-leb 65 b h, lt-leb 97 b (omega arith)) in
-      other-word none ∙ rw (ne-eqb b 95 (λ e. omega arith)) (or-none (isDigit b))
+  pub low-word : b < 48 → isWordByte b ≡ false
+  low-word h = rw (lt-leb 48 b h, lt-leb 65 b (omega arith), lt-leb 97 b (omega arith), ne-eqb b 95 (λ e. omega arith))
+
+  pub middle-word : 48 ≤ b → b < 65 → isWordByte b ≡ leb b 57
+  middle-word l h =
+      rw (le-leb 48 b l, lt-leb 65 b h, lt-leb 97 b (omega arith), ne-eqb b 95 (λ e. omega arith))
+      (or-none (leb b 57 || false || false) ∙ or-none (leb b 57 || false) ∙ or-none (leb b 57))
 
   pub high-word : 65 ≤ b → isWordByte b ≡ isLetter b || eqb b 95
   high-word h = rw (lt-leb b 57 (omega arith), and-false (leb 48 b) false refl)

@@ -1,36 +1,19 @@
--- The signs and the reserved words, each listed once (document 01, Tokens and Grammar).
+-- The signs, each listed once, and after them the reserved words (document 01, Tokens and Grammar).
 -- Assumes nothing.
 use Prim.Native.Nat.{ℕ}
 use Prim.Native.String.{String}
-use Prim.Native.String as S
-use Prim.Native.Char.{code}
 use mathlib.Core.List.{List, [], _∷_, _++_, map}
-
--- the codes of a text's characters
-abbrev pub bytes : String → List ℕ
-bytes S.[] = []
-bytes (S._∷_ c s) = code c ∷ bytes s
+-- the reserved words are those of the printed list
+pub use Rattle.wordlist.specs.Words.{bytes, reservedTexts}
+unfoldable pub use Rattle.wordlist.specs.Words.{reserved}
 
 -- the signs, in document 01's order
 abbrev pub signTexts : List String
 signTexts =
     "{" ∷ "}" ∷ "(" ∷ ")" ∷ "," ∷ ";" ∷ "=" ∷ "|" ∷ "&" ∷ "==" ∷ "!=" ∷ "<" ∷ "<=" ∷ ">" ∷ ">=" ∷ "<<" ∷ ">>" ∷ "+" ∷ "-" ∷ "*" ∷ "/" ∷ "%" ∷ []
 
--- all words quoted in the grammar, in byte order
-abbrev pub reservedTexts : List String
-reservedTexts =
-    "AND" ∷ "DEFAULT" ∷ "FALSE" ∷ "INTERACTIVE" ∷ "NOT" ∷ "ONE" ∷ "ONES" ∷ "OR" ∷ "READ_ONLY" ∷ "RESET_REQUIRED" ∷
-    "STRING_TOKEN" ∷ "TRUE" ∷ "UNDEFINED" ∷ "ZERO" ∷ "checkbox" ∷ "default" ∷ "disableif" ∷ "endcheckbox" ∷
-    "endform" ∷ "endformset" ∷ "endif" ∷ "endnumeric" ∷ "endoneof" ∷ "endrule" ∷ "flags" ∷ "form" ∷ "formid" ∷
-    "formset" ∷ "goto" ∷ "grayoutif" ∷ "guid" ∷ "help" ∷ "label" ∷ "maximum" ∷ "minimum" ∷ "name" ∷ "numeric" ∷
-    "oneof" ∷ "option" ∷ "prompt" ∷ "questionid" ∷ "questionref" ∷ "rule" ∷ "ruleref" ∷ "step" ∷ "subtitle" ∷
-    "suppressif" ∷ "text" ∷ "title" ∷ "value" ∷ []
-
 unfoldable pub signs : List (List ℕ)
 signs = map bytes signTexts
-
-unfoldable pub reserved : List (List ℕ)
-reserved = map bytes reservedTexts
 
 -- a sign's or a reserved word's class is its place here
 unfoldable pub lexemes : List (List ℕ)

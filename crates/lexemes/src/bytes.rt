@@ -27,14 +27,14 @@ fn is_letter(b: u8) -> bool
     (b'A' <= b) & (b <= b'Z') | (b'a' <= b) & (b <= b'z')
 }
 
-// A letter, a digit or `_`; most are letters.
+// A letter, a digit or `_`; most are small letters.
 pub fn is_word_byte(b: u8) -> bool
     ensures { λ r. ⌜ r ≡ isWordByte b ⌝ }
 {
-    if is_letter(b) {
+    if (b'a' <= b) & (b <= b'z') {
         true
     } else {
-        is_digit(b) | (b == b'_')
+        is_digit(b) | (b'A' <= b) & (b <= b'Z') | (b == b'_')
     }
 }
 
@@ -42,11 +42,13 @@ pub fn is_word_byte(b: u8) -> bool
 pub fn in_word(b: u8) -> bool
     ensures { λ r. ⌜ r ≡ isWordByte b ⌝ }
 {
-    if b < b'A' {
-        is_digit(b)
-    } else {
-        is_letter(b) | (b == b'_')
+    if b < b'0' {
+        return false;
     }
+    if b < b'A' {
+        return b <= b'9';
+    }
+    is_letter(b) | (b == b'_')
 }
 
 // The byte at an index, or 0 past the end.

@@ -1,4 +1,4 @@
-//! The library and the reference take for reserved exactly the words of `crates/lexemes/src/list.rt`, each with the class of
+//! The library and the reference take for reserved exactly the words of `crates/wordlist/src/list.rt`, each with the class of
 //! its place there: the words, and what differs little from one of them, alone and among other bytes. What is wanted of a
 //! token comes from the list alone.
 
@@ -8,7 +8,7 @@ use std::collections::BTreeSet;
 use std::fs;
 use std::ops::Range;
 
-const LIST: &str = concat!(env!("CARGO_MANIFEST_DIR"), "/../../crates/lexemes/src/list.rt");
+const LIST: &str = concat!(env!("CARGO_MANIFEST_DIR"), "/../../crates/wordlist/src/list.rt");
 
 /// `VFR_TOKEN_RESERVED`, `VFR_TOKEN_NAME` and `VFR_TOKEN_BAD` of the header.
 const RESERVED: u64 = 22;
@@ -30,7 +30,7 @@ const AFTER: [&[u8]; 10] =
 /// The words of the list, in its order.
 fn listed() -> Vec<Vec<u8>> {
     let text = fs::read_to_string(LIST).expect("the list of reserved words can be read");
-    let filled = text.lines().filter_map(|line| line.strip_prefix("    *b\"")?.strip_suffix("\","));
+    let filled = text.lines().filter_map(|line| line.strip_prefix("    ")?.strip_suffix('\\'));
     let words: Vec<_> = filled
         .inspect(|word| assert_eq!(word.len(), FILLED, "{word:?}"))
         .map(|word| word.trim_end_matches(' ').as_bytes().to_vec())

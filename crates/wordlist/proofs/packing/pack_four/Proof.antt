@@ -1,0 +1,21 @@
+-- `wordlist::packing::pack_four` meets its contract.
+use native.Mathlib.Omega.{arith}
+use borrow.Author.Needs.{needs}
+use Rattle.wordlist.specs.Rows.{filled}
+use Rattle.wordlist.proofs.PackedBytes.{packed-split}
+use Rattle.wordlist.proofs.packing.pack_four.Statement.{statement}
+use Rattle.wordlist.proofs.packing.pack_four.Tie as tie
+
+returns : tie.Need-returns
+returns c = (omega (arith, packed-split (filled (c .before .before .before .args .w .now)) (c .before .before .before .args .from) 2 2, c .before .pack-two .ensures .0, c .pack-two2 .ensures .0), omega arith)
+
+pub pack-four-spec : {M : Type 1} → statement M
+pack-four-spec =
+    tie.close
+    (tie.spec
+    (λ c κs. search needs)
+    (λ c. search needs)
+    (λ c κs. search needs)
+    (λ c. search needs)
+    (λ c. search needs)
+    returns)

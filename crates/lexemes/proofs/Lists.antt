@@ -45,11 +45,15 @@ abbrev pub every : (ℕ → List ℕ → Bool) → ℕ → List (List ℕ) → B
 every test i [] = true
 every test i (v ∷ vs) = test i v && every test (suc i) vs
 
-every-from : (test : ℕ → List ℕ → Bool) (i k : ℕ) (ws : List (List ℕ)) → every test i ws ≡ true → k < length ws → test (i + k) (getD ws k []) ≡ true
+every-from :
+    (test : ℕ → List ℕ → Bool) (i k : ℕ) (ws : List (List ℕ)) → every test i ws ≡ true → k < length ws
+    → test (i + k) (getD ws k []) ≡ true
 every-from test i k [] t h = absurd (omega arith)
 every-from test i zero (v ∷ vs) t h = rw add-zero (and-true (test i v) (every test (suc i) vs) t .0)
 every-from test i (suc k) (v ∷ vs) t h =
     rw (add-suc, ← suc-add) (every-from test (suc i) k vs (and-true (test i v) (every test (suc i) vs) t .1) (le-of-suc-le-suc h))
 
-pub every-at : (test : ℕ → List ℕ → Bool) (ws : List (List ℕ)) → every test 0 ws ≡ true → (k : ℕ) → k < length ws → test k (getD ws k []) ≡ true
+pub every-at :
+    (test : ℕ → List ℕ → Bool) (ws : List (List ℕ)) → every test 0 ws ≡ true → (k : ℕ) → k < length ws
+    → test k (getD ws k []) ≡ true
 every-at test ws t k h = rw zero-add at (every-from test 0 k ws t h)

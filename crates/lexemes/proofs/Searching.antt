@@ -24,7 +24,8 @@ unfolding reserved
 counted = refl
 
 -- all listed words pass the test, and w does not
-pub unlisted : (test : List ℕ → Bool) → every (λ _ v. test v) 0 reserved ≡ true → (w : List ℕ) → test w ≡ false → placeAmong w reserved ≡ COUNT
+pub unlisted :
+    (test : List ℕ → Bool) → every (λ _ v. test v) 0 reserved ≡ true → (w : List ℕ) → test w ≡ false → placeAmong w reserved ≡ COUNT
 unlisted test t w h =
     either-less (placeAmong w reserved) (length reserved)
     (λ l. absurd (true≢false (sym (every-at (λ _ v. test v) reserved t (placeAmong w reserved) l) ∙ rw (place-at w reserved l) h)))
@@ -79,7 +80,9 @@ cond-same : (t : Bool) (x y z : ℕ) → x ≡ z → y ≡ z → cond t x y ≡ 
 cond-same true x y z p q = p
 cond-same false x y z p q = q
 
-scan-none : (w : List ℕ) → Fits w → (none i : ℕ) (ws : List (List ℕ)) → allFit ws ≡ true → nowhere w ws ≡ true → scan none i (firstOf w) (restOf w) ws ≡ none
+scan-none :
+    (w : List ℕ) → Fits w → (none i : ℕ) (ws : List (List ℕ)) → allFit ws ≡ true → nowhere w ws ≡ true
+    → scan none i (firstOf w) (restOf w) ws ≡ none
 unfolding scan
 scan-none w fw none i [] g h = refl
 scan-none w fw none i (v ∷ vs) g h =
@@ -95,15 +98,23 @@ scan-none w fw none i (v ∷ vs) g h =
 
 -- ---- the search
 
--- from the first word with its letter on, each listed word is found at its place
+-- what is found of the word with the numbers x and y from the place i on, and what of a word from the first one with its letter on
+abbrev from : ℕ → ℕ → ℕ → ℕ
+from i x y = scan COUNT i x y (drop i reserved)
+
+abbrev foundOf : List ℕ → ℕ
+foundOf w = from (letterStart (getD w 0 0)) (firstOf w) (restOf w)
+
+-- each listed word is found at its place
 finds : ℕ → List ℕ → Bool
-finds k v = eqb (scan COUNT (letterStart (getD v 0 0)) (firstOf v) (restOf v) (drop (letterStart (getD v 0 0)) reserved)) k
+finds k v = eqb (foundOf v) k
 
 all-found : every finds 0 reserved ≡ true
 unfolding finds reserved scan letterPlace letterStart fillTo packed
 all-found = refl
 
-pub found : (w : List ℕ) → Fits w → scan COUNT (letterStart (getD w 0 0)) (firstOf w) (restOf w) (drop (letterStart (getD w 0 0)) reserved) ≡ placeAmong w reserved
+-- and so every word is found, or found nowhere, as its place is
+pub found : (w : List ℕ) → Fits w → foundOf w ≡ placeAmong w reserved
 unfolding finds
 found w fw =
     either-less (placeAmong w reserved) (length reserved)
@@ -111,29 +122,33 @@ found w fw =
     (λ l.
     let none : placeAmong w reserved ≡ length reserved = omega (arith, place-le w reserved) in
     let s = letterStart (getD w 0 0) in
-    scan-none w fw COUNT s (drop s reserved) (drop-fit s reserved all-fit) (drop-nowhere w s reserved (none-nowhere w reserved none)) ∙ sym (none ∙ counted))
+    let missed = drop-nowhere w s reserved (none-nowhere w reserved none) in
+    scan-none w fw COUNT s (drop s reserved) (drop-fit s reserved all-fit) missed ∙ sym (none ∙ counted))
 
 pub found-place : (w : List ℕ) → Fits w → (s : ℕ) (p : Packed) → s ≡ letterStart (getD w 0 0) → p ≡ packOf w →
-    scan COUNT s (p .first) (p .rest) (drop s reserved) ≡ placeAmong w reserved
+    from s (p .first) (p .rest) ≡ placeAmong w reserved
 found-place w fw s p is-s is-p = rw (is-s, is-p) (found w fw)
 
 -- ---- the steps of the search
 
 -- at the place i, whose word has the packed form r, for the numbers x and y
 module _ (i x y : ℕ) (r : Packed) (inside : i < COUNT) (is-r : r ≡ packOf (getD reserved i [])) where
-  step : scan COUNT i x y (drop i reserved) ≡ cond (eqb (r .first) x && eqb (r .rest) y) i (cond (eqb (r .first % 256) (x % 256)) (scan COUNT (i + 1) x y (drop (i + 1) reserved)) COUNT)
+  abbrev isWanted : Bool
+  isWanted = eqb (r .first) x && eqb (r .rest) y
+
+  step : from i x y ≡ cond isWanted i (cond (eqb (r .first % 256) (x % 256)) (from (i + 1) x y) COUNT)
   unfolding scan
   step = rw (from-next reserved i [] (omega (arith, counted)), is-r)
 
-  pub step-found : eqb (r .first) x && eqb (r .rest) y ≡ true → scan COUNT i x y (drop i reserved) ≡ i
+  pub step-found : isWanted ≡ true → from i x y ≡ i
   step-found e = step ∙ rw e
 
-  pub step-stops : eqb (r .first) x && eqb (r .rest) y ≡ false → (r .first % 256 ≡ x % 256 → ⊥) → scan COUNT i x y (drop i reserved) ≡ COUNT
+  pub step-stops : isWanted ≡ false → (r .first % 256 ≡ x % 256 → ⊥) → from i x y ≡ COUNT
   step-stops e d = step ∙ rw (e, ne-eqb _ _ d)
 
-  pub step-on : eqb (r .first) x && eqb (r .rest) y ≡ false → r .first % 256 ≡ x % 256 → scan COUNT i x y (drop i reserved) ≡ scan COUNT (i + 1) x y (drop (i + 1) reserved)
+  pub step-on : isWanted ≡ false → r .first % 256 ≡ x % 256 → from i x y ≡ from (i + 1) x y
   step-on e d = step ∙ rw (e, eq-eqb _ _ d)
 
-pub at-end : (i x y : ℕ) → COUNT ≤ i → scan COUNT i x y (drop i reserved) ≡ COUNT
+pub at-end : (i x y : ℕ) → COUNT ≤ i → from i x y ≡ COUNT
 unfolding scan
 at-end i x y h = let past : length reserved ≤ i = omega (arith, counted) in rw (drop-of-length-le reserved past)

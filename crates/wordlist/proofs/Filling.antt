@@ -10,7 +10,7 @@ use lib.Dec.{eqb, leb, ltb}
 use lib.ListN.{length, getD, take, drop, take-append-drop, length-take, length-drop, length-append, drop-of-length-le, List·getD-eq-default}
 use lib.Seq.{take-all, ext-getD}
 use borrow.Author.Tests.{eq-eqb, leb-true}
-use Rattle.wordlist.specs.Rows.{fillTo, filled, inRows, rowAt, firstOf, restOf, packOf}
+use Rattle.wordlist.specs.Rows.{fillTo, filled, inRows, rowAt, packed, firstOf, restOf, packOf}
 use Rattle.wordlist.proofs.Lists.{either-less, and-true, same-default}
 use Rattle.wordlist.proofs.PackedBytes.{areBytes, packed-same, take-bytes, drop-bytes}
 
@@ -130,19 +130,21 @@ module _ (w v : List ℕ) (fw : Fits w) (fv : Fits v) where
       let shorter = no-shorter v w (λ i l. sym (alike i l)) fw in
       ext-getD 32 w v (omega arith) (λ i l. alike i (omega (arith, fw .short)))
 
+  -- the eight bytes from k on are the same where their numbers are
+  eight-same : (k : ℕ) → packed (take 8 (drop k (filled v))) ≡ packed (take 8 (drop k (filled w))) → take 8 (drop k (filled w)) ≡ take 8 (drop k (filled v))
+  eight-same k e =
+      let bw = drop-bytes k (filled w) (fill-bytes 16 w (fw .bytes)) in
+      let bv = drop-bytes k (filled v) (fill-bytes 16 v (fv .bytes)) in
+      let long : length (take 8 (drop k (filled w))) ≡ length (take 8 (drop k (filled v))) = simp (length-take, length-drop) (rw (fill-length 16 w, fill-length 16 v)) in
+      packed-same (take 8 (drop k (filled w))) (take 8 (drop k (filled v))) (take-bytes 8 (drop k (filled w)) bw) (take-bytes 8 (drop k (filled v)) bv) long (sym e)
+
   pub pack-same : firstOf v ≡ firstOf w → restOf v ≡ restOf w → w ≡ v
   pack-same first rest =
-      let bw = fill-bytes 16 w (fw .bytes) in
-      let bv = fill-bytes 16 v (fv .bytes) in
-      let lw = fill-length 16 w in
-      let lv = fill-length 16 v in
       let dw = length-drop 8 (filled w) in
       let dv = length-drop 8 (filled v) in
-      let one : take 8 (filled w) ≡ take 8 (filled v) =
-      packed-same (take 8 (filled w)) (take 8 (filled v)) (take-bytes 8 (filled w) bw) (take-bytes 8 (filled v) bv) (simp length-take (rw (lw, lv))) (sym first) in
-      let two : take 8 (drop 8 (filled w)) ≡ take 8 (drop 8 (filled v)) =
-      packed-same (take 8 (drop 8 (filled w))) (take 8 (drop 8 (filled v))) (take-bytes 8 (drop 8 (filled w)) (drop-bytes 8 (filled w) bw)) (take-bytes 8 (drop 8 (filled v)) (drop-bytes 8 (filled v) bv))
-      (simp (length-take, length-drop) (rw (lw, lv))) (sym rest) in
+      let lw = fill-length 16 w in
+      let lv = fill-length 16 v in
+      let one : take 8 (filled w) ≡ take 8 (filled v) = eight-same 0 first in
       let other : drop 8 (filled w) ≡ drop 8 (filled v) =
-      sym (take-all 8 (drop 8 (filled w)) (omega arith)) ∙ two ∙ take-all 8 (drop 8 (filled v)) (omega arith) in
+      sym (take-all 8 (drop 8 (filled w)) (omega arith)) ∙ eight-same 8 rest ∙ take-all 8 (drop 8 (filled v)) (omega arith) in
       filled-same (sym (take-append-drop 8 (filled w)) ∙ rw (one, other) (take-append-drop 8 (filled v)))

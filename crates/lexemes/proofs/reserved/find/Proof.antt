@@ -30,7 +30,8 @@ returns c =
 returns-2 : tie.Need-returns-2 Inv-loop μ-loop
 returns-2 c =
     let at = c .before .before .before .before .before .before .before .before .before .before .loop in
-    sym (step-stops (at .i) _ _ _ (omega arith) (c .before .before .before .before .before .before .before .before .listed .ensures) (c .before .before .before .if1 .left) (c .if2 .taken)) ∙ at .inv .1
+    let row = c .before .before .before .before .before .before .before .before .listed in
+    sym (step-stops (at .i) _ _ _ (omega arith) (row .ensures) (c .before .before .before .if1 .left) (c .if2 .taken)) ∙ at .inv .1
 
 add-i : tie.Need-add-i Inv-loop μ-loop
 add-i c = omega arith
@@ -41,7 +42,9 @@ loop-less c = omega arith
 loop-again : tie.Need-loop-again Inv-loop μ-loop
 loop-again c =
     let at = c .before .before .before .before .before .before .before .before .before .before .loop in
-    (omega arith, sym (step-on (at .i) _ _ _ (omega arith) (c .before .before .before .before .before .before .before .before .listed .ensures) (c .before .before .before .if1 .left) (c .if2 .left)) ∙ at .inv .1)
+    let row = c .before .before .before .before .before .before .before .before .listed in
+    let on = step-on (at .i) _ _ _ (omega arith) (row .ensures) (c .before .before .before .if1 .left) (c .if2 .left) in
+    (omega arith, sym on ∙ at .inv .1)
 
 returns-3 : tie.Need-returns-3 Inv-loop μ-loop
 returns-3 c =

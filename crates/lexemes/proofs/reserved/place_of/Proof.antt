@@ -23,10 +23,13 @@ returns-2 c = sym (unlisted (λ v. leb (length v) 16) at-most-sixteen (c .before
 
 returns-3 : tie.Need-returns-3
 returns-3 c =
-    sym (unlisted (λ v. not (eqb (getD v (length v - 1) 0) 32)) no-blank-ends (c .before .before .before .before .before .args .w .now) (rw (eq-eqb _ _ (c .if3 .taken))))
+    let w = c .before .before .before .before .before .args .w .now in
+    sym (unlisted (λ v. not (eqb (getD v (length v - 1) 0) 32)) no-blank-ends w (rw (eq-eqb _ _ (c .if3 .taken))))
 
 find-requires : tie.Need-find-requires
-find-requires c κs = omega (arith, c .first-class .ensures, start-le (getD (c .before .before .before .before .before .before .before .before .args .w .now) 0 0))
+find-requires c κs =
+    let w = c .before .before .before .before .before .before .before .before .args .w .now in
+    omega (arith, c .first-class .ensures, start-le (getD w 0 0))
 
 returns-4 : tie.Need-returns-4
 returns-4 c =

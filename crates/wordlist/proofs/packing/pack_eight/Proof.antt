@@ -7,7 +7,10 @@ use Rattle.wordlist.proofs.packing.pack_eight.Statement.{statement}
 use Rattle.wordlist.proofs.packing.pack_eight.Tie as tie
 
 returns : tie.Need-returns
-returns c = omega (arith, packed-split (filled (c .before .before .before .args .w .now)) (c .before .before .before .args .from) 4 4, c .before .pack-four .ensures .0, c .pack-four2 .ensures .0)
+returns c =
+    let args = c .before .before .before .args in
+    let parts = packed-split (filled (args .w .now)) (args .from) 4 4 in
+    omega (arith, parts, c .before .pack-four .ensures .0, c .pack-four2 .ensures .0)
 
 pub pack-eight-spec : {M : Type 1} → statement M
 pack-eight-spec =

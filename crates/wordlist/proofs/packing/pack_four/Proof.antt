@@ -7,7 +7,10 @@ use Rattle.wordlist.proofs.packing.pack_four.Statement.{statement}
 use Rattle.wordlist.proofs.packing.pack_four.Tie as tie
 
 returns : tie.Need-returns
-returns c = (omega (arith, packed-split (filled (c .before .before .before .args .w .now)) (c .before .before .before .args .from) 2 2, c .before .pack-two .ensures .0, c .pack-two2 .ensures .0), omega arith)
+returns c =
+    let args = c .before .before .before .args in
+    let parts = packed-split (filled (args .w .now)) (args .from) 2 2 in
+    (omega (arith, parts, c .before .pack-two .ensures .0, c .pack-two2 .ensures .0), omega arith)
 
 pub pack-four-spec : {M : Type 1} → statement M
 pack-four-spec =

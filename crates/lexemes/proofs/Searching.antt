@@ -10,7 +10,7 @@ use lib.ListN.{length, getD, drop, drop-of-length-le}
 use borrow.Author.Tests.{eqb-true, eq-eqb, ne-eqb}
 use Rattle.lexemes.specs.Lexemes.{reserved}
 use Rattle.lexemes.specs.Words.{same, placeAmong}
-use Rattle.wordlist.specs.Rows.{fillTo, packed, firstOf, restOf, packOf}
+use Rattle.wordlist.specs.Filled.{fillTo, packed, firstOf, restOf, packOf}
 use Rattle.lexemes.specs.Search.{COUNT, letterPlace, letterStart, scan}
 use Rattle.wordlist.specs.declared.Packed.{Packed}
 use Rattle.lexemes.proofs.Lists.{either, either-less, and-true, from-next, every, every-at}

@@ -6,7 +6,7 @@ use mathlib.Core.Bool.{cond, _&&_}
 use mathlib.Core.List.{List, [], _∷_}
 use lib.Dec.{eqb, ltb}
 use lib.ListN.{getD}
-use Rattle.wordlist.specs.Rows.{firstOf, restOf}
+use Rattle.wordlist.specs.Filled.{firstOf, restOf}
 use Rattle.lexemes.specs.Classes.{SIGNS, NAME}
 use Rattle.lexemes.specs.Lexemes.{reserved}
 

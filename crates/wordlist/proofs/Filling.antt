@@ -1,4 +1,4 @@
--- Texts that are filled up with blanks, one after another, and as numbers: two that end in no blank are equal where their numbers are.
+-- Texts that are filled up with blanks, and as numbers: two that end in no blank are equal where their numbers are.
 -- Assumes nothing.
 use mathlib.Core.Path.{_≡_, refl, sym, ap, _∙_}
 use mathlib.Core.Bool.{Bool, true, false, not, _&&_, true≢false}
@@ -10,7 +10,7 @@ use lib.Dec.{eqb, leb, ltb}
 use lib.ListN.{length, getD, take, drop, take-append-drop, length-take, length-drop, length-append, drop-of-length-le, List·getD-eq-default}
 use lib.Seq.{take-all, ext-getD}
 use borrow.Author.Tests.{eq-eqb, leb-true}
-use Rattle.wordlist.specs.Rows.{fillTo, filled, inRows, rowAt, packed, firstOf, restOf, packOf}
+use Rattle.wordlist.specs.Filled.{fillTo, filled, packed, firstOf, restOf, packOf}
 use Rattle.wordlist.proofs.Lists.{either-less, and-true, same-default}
 use Rattle.wordlist.proofs.PackedBytes.{areBytes, packed-same, take-bytes, drop-bytes}
 
@@ -46,44 +46,6 @@ unfolding fillTo
 fill-bytes zero w h = refl
 fill-bytes (suc n) [] h = fill-bytes n [] refl
 fill-bytes (suc n) (b ∷ w) h = let both = and-true (ltb b 256) (areBytes w) h in rw (both .0) (fill-bytes n w (both .1))
-
--- ---- texts one after another
-
--- past the first of two texts the other begins
-drop-past : (n k : ℕ) (s t : List ℕ) → length s ≡ n → drop (n + k) (s ++ t) ≡ drop k t
-drop-past n k [] t e = rw (sym e, zero-add)
-drop-past zero k (b ∷ s) t e = absurd (omega arith)
-drop-past (suc n) k (b ∷ s) t e = rw suc-add (drop-past n k s t (omega arith))
-
--- and before it the first one stands
-take-first : (n : ℕ) (s t : List ℕ) → length s ≡ n → take n (s ++ t) ≡ s
-take-first zero [] t e = refl
-take-first zero (b ∷ s) t e = absurd (omega arith)
-take-first (suc n) [] t e = absurd (omega arith)
-take-first (suc n) (b ∷ s) t e = ap (_∷_ b) (take-first n s t (omega arith))
-
--- the row at a place is the text there, filled up
-row-filled : (ws : List (List ℕ)) (k : ℕ) → k < length ws → rowAt (inRows ws) k ≡ filled (getD ws k [])
-unfolding inRows
-row-filled [] k h = absurd (omega arith)
-row-filled (w ∷ ws) zero h = take-first 16 (filled w) (inRows ws) (fill-length 16 w)
-row-filled (w ∷ ws) (suc k) h =
-    let next : 16 * suc k ≡ 16 + 16 * k = omega arith in
-    rw (next, drop-past 16 (16 * k) (filled w) (inRows ws) (fill-length 16 w)) (row-filled ws k (le-of-suc-le-suc h))
-
-rows-length : (ws : List (List ℕ)) → length (inRows ws) ≡ 16 * length ws
-unfolding inRows
-rows-length [] = refl
-rows-length (w ∷ ws) = omega (arith, length-append (filled w) (inRows ws), fill-length 16 w, rows-length ws)
-
--- the row at a place has the numbers of the text at that place; past the last one both are blank
-pub row-packed : (ws : List (List ℕ)) (k : ℕ) → packOf (rowAt (inRows ws) k) ≡ packOf (getD ws k [])
-row-packed ws k =
-    either-less k (length ws)
-    (λ l. ap packOf (row-filled ws k l) ∙ pack-again (getD ws k []))
-    (λ l.
-    let past : length (inRows ws) ≤ 16 * k = omega (arith, rows-length ws) in
-    rw (drop-of-length-le (inRows ws) past, List·getD-eq-default ws [] {n = k} l))
 
 -- ---- texts that fit
 

@@ -2,7 +2,7 @@
 -- Assumes nothing.
 use mathlib.Core.Path.{_≡_, refl}
 use mathlib.Core.Bool.{Bool, true, false, _&&_, false≢true}
-use mathlib.Core.List.{List, [], _∷_}
+use mathlib.Core.List.{List, [], _∷_, map}
 use Prim.Native.Nat.{ℕ, zero, suc, _<_}
 use native.Mathlib.Nat.{le-of-suc-le-suc}
 use native.Mathlib.Omega.{arith}
@@ -13,7 +13,7 @@ use borrow.Fn.Kinds.{Dens, endedOf}
 use contract.Lifetimes.{Lfts}
 use denote.Triple.Clauses.{AtExit}
 use Rattle.wordlist.specs.Order.{before, Rises}
-use Rattle.wordlist.specs.Rows.{fillTo, inRows, rowsOf}
+use Rattle.wordlist.specs.Filled.{fillTo, filled}
 use Rattle.wordlist.specs.Words.{reserved}
 use Rattle.wordlist.proofs.Lists.{either, and-true}
 use Rattle.wordlist.proofs.list.words.Kinds as kinds
@@ -84,13 +84,13 @@ pub reserved-rises : Rises reserved
 unfolding reserved before
 reserved-rises = rises-in reserved refl
 
--- and so do its rows, where blanks follow each word
-rows-rise : Rises (rowsOf (length reserved) (inRows reserved))
-unfolding reserved before fillTo inRows
-rows-rise = rises-in (rowsOf (length reserved) (inRows reserved)) refl
+-- and so do the rows, where blanks follow each word
+rows-rise : Rises (map filled reserved)
+unfolding reserved before fillTo
+rows-rise = rises-in (map filled reserved) refl
 
--- the list that is printed in the code, row by row, as the contract of `words` gives it
+-- the list that is printed in the code, as the contract of `words` gives it
 pub list-rises :
-    (κs : Lfts 0) (a : Dens κs kinds.ps) (r : List ℕ) (e : AtExit (endedOf 0 kinds.ps kinds.r) κs)
-    → promise.Learnt κs a r e → Rises (rowsOf (length reserved) r)
+    (κs : Lfts 0) (a : Dens κs kinds.ps) (r : List (List ℕ)) (e : AtExit (endedOf 0 kinds.ps kinds.r) κs)
+    → promise.Learnt κs a r e → Rises r
 list-rises κs a r e p = rw p rows-rise

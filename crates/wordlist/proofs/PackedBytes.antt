@@ -10,7 +10,7 @@ use lib.Dec.{ltb}
 use lib.ListN.{length, getD, take, drop}
 use lib.Seq.{getD-drop, drop-drop}
 use borrow.Author.Tests.{ltb-true, lt-ltb}
-use Rattle.wordlist.specs.Rows.{packed}
+use Rattle.wordlist.specs.Filled.{packed}
 use Rattle.wordlist.proofs.Lists.{and-true}
 
 -- ---- the parts of a packed number

@@ -1,4 +1,4 @@
--- The reserved words, byte order, and how the code has texts and their list.
+-- The reserved words, byte order, and how the code has a text.
 pub mod Words
 pub mod Order
-pub mod Rows
+pub mod Filled

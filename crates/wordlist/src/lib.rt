@@ -6,7 +6,7 @@ mod table;
 ghost use mathlib.Core.Path.{_≡_};
 ghost use mathlib.Core.List.{[]};
 ghost use lib.ListN.{getD};
-ghost use Rattle.wordlist.specs.Rows.{packOf};
+ghost use Rattle.wordlist.specs.Filled.{packOf};
 ghost use Rattle.wordlist.specs.Words.{reserved};
 
 // Sixteen bytes as two numbers, of which the lowest byte comes first.
@@ -22,7 +22,9 @@ pub const COUNT: usize = list::COUNT;
 pub fn listed(place: usize) -> Packed
     ensures { λ r. ⌜ r ≡ packOf (getD reserved place []) ⌝ }
 {
-    table::constant_row(list::words(), place)
+    let words = list::words();
+    let word = table::constant_word(&words, place);
+    packing::pack(&word, 16)
 }
 
 // A text of up to sixteen bytes, filled up with blanks, or the first sixteen of a longer one. It has an arm for each length, in which

@@ -2,7 +2,7 @@
 ghost use mathlib.Core.Path.{_≡_};
 ghost use Prim.Native.Nat.{_≤_, _<_};
 ghost use lib.ListN.{length, getD, take, drop};
-ghost use Rattle.wordlist.specs.Rows.{filled, packed, packOf};
+ghost use Rattle.wordlist.specs.Filled.{filled, packed, packOf};
 use crate::Packed;
 
 // The byte at an index of a text of n bytes, or a blank past its end.

@@ -30,7 +30,7 @@ const AFTER: [&[u8]; 10] =
 /// The words of the list, in its order.
 fn listed() -> Vec<Vec<u8>> {
     let text = fs::read_to_string(LIST).expect("the list of reserved words can be read");
-    let filled = text.lines().filter_map(|line| line.strip_prefix("    ")?.strip_suffix('\\'));
+    let filled = text.lines().filter_map(|line| line.strip_prefix("    *b\"")?.strip_suffix("\","));
     let words: Vec<_> = filled
         .inspect(|word| assert_eq!(word.len(), FILLED, "{word:?}"))
         .map(|word| word.trim_end_matches(' ').as_bytes().to_vec())

@@ -1,7 +1,7 @@
 -- `wordlist::packing::pack_eight` meets its contract.
 use native.Mathlib.Omega.{arith}
 use borrow.Author.Needs.{needs}
-use Rattle.wordlist.specs.Rows.{filled}
+use Rattle.wordlist.specs.Filled.{filled}
 use Rattle.wordlist.proofs.PackedBytes.{packed-split}
 use Rattle.wordlist.proofs.packing.pack_eight.Statement.{statement}
 use Rattle.wordlist.proofs.packing.pack_eight.Tie as tie

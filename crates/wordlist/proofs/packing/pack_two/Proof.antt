@@ -2,7 +2,7 @@
 use Prim.Native.Nat.{_+_}
 use native.Mathlib.Omega.{arith}
 use borrow.Author.Needs.{needs}
-use Rattle.wordlist.specs.Rows.{filled}
+use Rattle.wordlist.specs.Filled.{filled}
 use Rattle.wordlist.proofs.PackedBytes.{packed-two}
 use Rattle.wordlist.proofs.Filling.{fill-at}
 use Rattle.wordlist.proofs.packing.pack_two.Statement.{statement}

@@ -1,7 +1,7 @@
--- How the code has a text: filled up with blanks to sixteen bytes, which make two numbers; and how it has the list: rows of sixteen bytes.
+-- How the code has a text: filled up with blanks to sixteen bytes, which make two numbers.
 -- Assumes nothing.
 use Prim.Native.Nat.{ℕ, zero, suc, _+_, _*_}
-use mathlib.Core.List.{List, [], _∷_, _++_}
+use mathlib.Core.List.{List, [], _∷_}
 use lib.ListN.{take, drop}
 use Rattle.wordlist.specs.declared.Packed.{Packed}
 
@@ -13,19 +13,6 @@ fillTo (suc n) (b ∷ w) = b ∷ fillTo n w
 
 abbrev pub filled : List ℕ → List ℕ
 filled w = fillTo 16 w
-
--- texts one after another, each filled up, and the one at a place
-unfoldable pub inRows : List (List ℕ) → List ℕ
-inRows [] = []
-inRows (w ∷ ws) = filled w ++ inRows ws
-
-abbrev pub rowAt : List ℕ → ℕ → List ℕ
-rowAt rows k = take 16 (drop (16 * k) rows)
-
--- the first n rows
-abbrev pub rowsOf : ℕ → List ℕ → List (List ℕ)
-rowsOf zero rows = []
-rowsOf (suc n) rows = take 16 rows ∷ rowsOf n (drop 16 rows)
 
 -- bytes as a number; the lowest byte comes first
 unfoldable pub packed : List ℕ → ℕ

@@ -2,12 +2,12 @@
 -- Assumes nothing.
 use mathlib.Core.Path.{_≡_, refl, sym, ap, _∙_}
 use mathlib.Core.Bool.{Bool, true, false, not, _&&_, true≢false}
-use mathlib.Core.List.{List, [], _∷_, _++_}
-use Prim.Native.Nat.{ℕ, zero, suc, _+_, _-_, _*_, _≤_, _<_}
-use native.Mathlib.Nat.{zero-add, suc-add, le-of-suc-le-suc}
+use mathlib.Core.List.{List, [], _∷_}
+use Prim.Native.Nat.{ℕ, zero, suc, _-_, _≤_, _<_}
+use native.Mathlib.Nat.{le-of-suc-le-suc}
 use native.Mathlib.Omega.{arith}
 use lib.Dec.{eqb, leb, ltb}
-use lib.ListN.{length, getD, take, drop, take-append-drop, length-take, length-drop, length-append, drop-of-length-le, List·getD-eq-default}
+use lib.ListN.{length, getD, take, drop, take-append-drop, length-take, length-drop, List·getD-eq-default}
 use lib.Seq.{take-all, ext-getD}
 use borrow.Author.Tests.{eq-eqb, leb-true}
 use Rattle.wordlist.specs.Filled.{fillTo, filled, packed, firstOf, restOf, packOf}
@@ -93,12 +93,15 @@ module _ (w v : List ℕ) (fw : Fits w) (fv : Fits v) where
       ext-getD 32 w v (omega arith) (λ i l. alike i (omega (arith, fw .short)))
 
   -- the eight bytes from k on are the same where their numbers are
-  eight-same : (k : ℕ) → packed (take 8 (drop k (filled v))) ≡ packed (take 8 (drop k (filled w))) → take 8 (drop k (filled w)) ≡ take 8 (drop k (filled v))
+  abbrev eight : ℕ → List ℕ → List ℕ
+  eight k u = take 8 (drop k (filled u))
+
+  eight-same : (k : ℕ) → packed (eight k v) ≡ packed (eight k w) → eight k w ≡ eight k v
   eight-same k e =
       let bw = drop-bytes k (filled w) (fill-bytes 16 w (fw .bytes)) in
       let bv = drop-bytes k (filled v) (fill-bytes 16 v (fv .bytes)) in
-      let long : length (take 8 (drop k (filled w))) ≡ length (take 8 (drop k (filled v))) = simp (length-take, length-drop) (rw (fill-length 16 w, fill-length 16 v)) in
-      packed-same (take 8 (drop k (filled w))) (take 8 (drop k (filled v))) (take-bytes 8 (drop k (filled w)) bw) (take-bytes 8 (drop k (filled v)) bv) long (sym e)
+      let long : length (eight k w) ≡ length (eight k v) = simp (length-take, length-drop) (rw (fill-length 16 w, fill-length 16 v)) in
+      packed-same (eight k w) (eight k v) (take-bytes 8 (drop k (filled w)) bw) (take-bytes 8 (drop k (filled v)) bv) long (sym e)
 
   pub pack-same : firstOf v ≡ firstOf w → restOf v ≡ restOf w → w ≡ v
   pack-same first rest =

@@ -19,6 +19,7 @@ unfoldable pub packed : List ℕ → ℕ
 packed [] = 0
 packed (b ∷ s) = b + 256 * packed s
 
+-- the two numbers of a text: its first eight bytes, and the other eight
 abbrev pub firstOf : List ℕ → ℕ
 firstOf w = packed (take 8 (drop 0 (filled w)))
 

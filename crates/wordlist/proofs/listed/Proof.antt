@@ -1,7 +1,6 @@
 -- `wordlist::listed` meets its contract: a word that is filled up is filled up already.
 use mathlib.Core.Path.{ap, _∙_}
-use mathlib.Core.List.{List, []}
-use Prim.Native.Nat.{ℕ}
+use mathlib.Core.List.{[]}
 use lib.ListN.{getD, List·getD-map}
 use borrow.Author.Needs.{needs}
 use Rattle.wordlist.specs.Filled.{filled, packOf}

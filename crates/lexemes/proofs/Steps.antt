@@ -65,15 +65,7 @@ module _ (p : ℕ → Bool) (s : List ℕ) (i : ℕ) where
   unfolding all
   all-yes h e = rw (from-next s i 0 h, e)
 
--- texts of other lengths are not the same
-pub same-length : (w v : List ℕ) → (length w ≡ length v → ⊥) → same w v ≡ false
-unfolding same
-same-length [] [] h = absurd (h refl)
-same-length [] (b ∷ v) h = refl
-same-length (a ∷ w) [] h = refl
-same-length (a ∷ w) (b ∷ v) h = and-false (eqb a b) (same w v) (same-length w v (λ e. h (ap suc e)))
-
--- neither are texts whose first bytes differ, 0 standing for no byte
+-- texts whose first bytes differ are not the same, 0 standing for no byte
 pub same-first : (w v : List ℕ) → (getD w 0 0 ≡ getD v 0 0 → ⊥) → same w v ≡ false
 unfolding same
 same-first [] [] h = absurd (h refl)

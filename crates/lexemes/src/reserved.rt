@@ -12,7 +12,7 @@ use wordlist::Packed;
 use wordlist::listed;
 use wordlist::pack_word;
 
-// The class of the first word with a letter; of a letter that no word has, any.
+// The class of the first word with a letter, at which the search starts; of a letter that no word has, the first class of all.
 fn first_class(letter: u8) -> u8
     ensures { λ r. ⌜ r ≡ SIGNS + letterStart letter ⌝ }
 {

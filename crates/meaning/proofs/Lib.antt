@@ -1,0 +1,2 @@
+-- The laws of `meaning`.
+pub mod Rules

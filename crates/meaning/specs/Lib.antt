@@ -1,0 +1,3 @@
+-- What an expression is worth.
+pub mod Meaning
+pub mod RuleValues

@@ -11,7 +11,7 @@ use Rattle.numbers.specs.Numbers.{emptyMap}
 use Rattle.circles.specs.Circles.{isRule, Step, leads, Within, Maps}
 use Rattle.circles.proofs.Reaching.{and-yes, or-yes}
 use Rattle.circles.proofs.Steps.{rule-range, maps-empty, maps-behind}
-use Rattle.rule_steps.specs.Steps.{ruleRound, ruleFound, stepIn, stepsAmong, ruleSteps, greatest, allAdded}
+use Rattle.rule_steps.specs.Steps.{ruleRound, ruleFound, isStep, stepIn, stepsAmong, ruleSteps, greatest, allAdded}
 
 -- ---- steps between rules
 
@@ -27,10 +27,10 @@ rules-append (more e h) k = more e (rules-append h k)
 module _ (rows : List (List ℕ)) where
   rules-in : (r : List ℕ) → Rules (stepIn rows r)
   unfolding stepIn
-  rules-in r = go (isRule (ruleRound rows r) && isRule (ruleFound rows r)) refl
+  rules-in r = go (isStep rows r) refl
     where
       go :
-          (t : Bool) → (isRule (ruleRound rows r) && isRule (ruleFound rows r)) ≡ t
+          (t : Bool) → isStep rows r ≡ t
           → Rules (cond t (record { from = ruleRound rows r; to = ruleFound rows r } ∷ []) [])
       go true e = more e none
       go false e = none

@@ -1,7 +1,7 @@
 -- The references between rules in rows, as steps (document 02, W-202, refusal 14).
 -- Assumes nothing.
 use Prim.Native.Nat.{ℕ, max}
-use mathlib.Core.Bool.{cond, _&&_}
+use mathlib.Core.Bool.{Bool, cond, _&&_}
 use mathlib.Core.List.{List, [], _∷_, _++_}
 use lib.Dec.{eqb}
 use lib.ListN.{getD}
@@ -23,9 +23,13 @@ module _ (rows : List (List ℕ)) where
   abbrev pub ruleFound : List ℕ → ℕ
   ruleFound r = getD r column.A 0
 
+  -- a row that leads from a rule to a rule
+  abbrev pub isStep : List ℕ → Bool
+  isStep r = isRule (ruleRound r) && isRule (ruleFound r)
+
   -- the step of a row, if it is one
   unfoldable pub stepIn : List ℕ → List Step
-  stepIn r = cond (isRule (ruleRound r) && isRule (ruleFound r)) (record { from = ruleRound r; to = ruleFound r } ∷ []) []
+  stepIn r = cond (isStep r) (record { from = ruleRound r; to = ruleFound r } ∷ []) []
 
   -- the steps of some of the rows
   unfoldable pub stepsAmong : List (List ℕ) → List Step

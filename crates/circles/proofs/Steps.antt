@@ -53,7 +53,7 @@ module _ (ws : List ℕ) (a b : ℕ) where
 
 -- ---- a map of steps
 
-leads-append : (l m : List Step) (a b : ℕ) → leads (l ++ m) a b ≡ (leads l a b || leads m a b)
+pub leads-append : (l m : List Step) (a b : ℕ) → leads (l ++ m) a b ≡ (leads l a b || leads m a b)
 unfolding leads
 leads-append [] m a b = refl
 leads-append (s ∷ l) m a b = rw (leads-append l m a b) (sym (or-assoc (eqb (s .from) a && eqb (s .to) b) (leads l a b) (leads m a b)))

@@ -16,7 +16,7 @@ use rows::columns::OWN;
 use rows::columns::PARENT;
 
 // The rule that the ruleref in a row stands in, or 0.
-fn rule_round(table: &[u64], count: usize, row: usize) -> u64
+pub fn rule_round(table: &[u64], count: usize, row: usize) -> u64
     ensures { λ r. ⌜ r ≡ ruleRound (rowsFrom (now (table .entry)) 0 count) (rowAt (now (table .entry)) row) ⌝ }
 {
     if cell(table, row, CODE) != codes::RULE_REF {

@@ -1,13 +1,12 @@
 -- The first mark by the closed map of the rows' steps is the first of a row that is a step on a circle.
-use Prim.Native.Nat.{ℕ, _+_, _≤_, _<_, max}
+use Prim.Native.Nat.{ℕ}
 use mathlib.Core.Path.{_≡_, refl, sym, ap, _∙_}
-use mathlib.Core.Bool.{Bool, true, false, cond, _&&_, _||_, or-true}
+use mathlib.Core.Bool.{Bool, true, false, cond, _&&_, or-true}
 use mathlib.Core.List.{List, [], _∷_, _++_}
 use native.Mathlib.Omega.{arith}
 use borrow.Author.Tests.{eq-eqb}
-use lib.Dec.{eqb}
 use Rattle.numbers.specs.Numbers.{emptyMap}
-use Rattle.circles.specs.Circles.{isRule, Step, leads, Maps, Closed, circular, circularIn}
+use Rattle.circles.specs.Circles.{isRule, leads, Maps, Closed, circular, circularIn}
 use Rattle.circles.proofs.Steps.{rule-range, leads-append, circular-none, closed-circular}
 use Rattle.numbers.proofs.Ranges.{and-yes}
 use Rattle.rule_steps.specs.Steps.{ruleRound, ruleFound, isStep, stepIn, stepsAmong, ruleSteps, tableSteps, greatest, allAdded}
@@ -16,7 +15,7 @@ use Rattle.rule_steps.proofs.Theorems.{steps-within, steps-mapped}
 use Rattle.answers.specs.Rows.{Draft}
 use Rattle.answers.specs.Drafts.{draftsFrom}
 use Rattle.drafts.specs.Faults.{alone, firstFault}
-use Rattle.circle_stage.specs.Circular.{rowsOf, onCircle, circleFault, markIf}
+use Rattle.circle_stage.specs.Circular.{rowsOf, onCircle, circleFault, markIf, firstBy}
 use Rattle.circle_stage.proofs.Marks.{steps-decoded}
 
 module _ (rows : List (List ℕ)) where
@@ -96,14 +95,14 @@ module _ (t : List ℕ) (n : ℕ) where
   abbrev drafts : List Draft
   drafts = draftsFrom t 0 n
 
-  pub none-found : {last : ℕ} → last ≡ greatest (tableSteps t n) → last ≡ 0 → 0 ≡ firstFault (alone (circleFault (rowsOf drafts))) drafts
+  pub none-found : {last : ℕ} → last ≡ greatest (tableSteps t n) → last ≡ 0 → 0 ≡ firstBy circleFault drafts
   none-found e z = sym (no-faults (rowsOf drafts) drafts (ap greatest (sym (steps-decoded t n)) ∙ sym e ∙ z))
 
   pub first-found :
       {empty words after : List ℕ} {last r : ℕ}
       → empty ≡ emptyMap → words ≡ allAdded empty (tableSteps t n) → last ≡ greatest (tableSteps t n) → Closed words last after
-      → r ≡ firstFault (alone (markIf (circularIn after) (rowsOf drafts))) drafts
-      → r ≡ firstFault (alone (circleFault (rowsOf drafts))) drafts
+      → r ≡ firstBy (markIf (circularIn after)) drafts
+      → r ≡ firstBy circleFault drafts
   first-found {words = words} {after = after} e f g c h =
       let l = ruleSteps (rowsOf drafts) in
       let maps : Maps words l = rw (f, e, steps-decoded t n) (steps-mapped (rowsOf drafts)) in

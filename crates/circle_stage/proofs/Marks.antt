@@ -1,8 +1,8 @@
 -- Rows of a table with and without their marks have the same steps; and what the code tells of one of them.
 use Prim.Native.Nat.{ℕ, zero, suc, _+_}
-use mathlib.Core.Path.{_≡_, refl, sym, ap, ap₂, _∙_}
+use mathlib.Core.Path.{_≡_, refl, ap₂, _∙_}
 use mathlib.Core.Bool.{Bool, true, false}
-use mathlib.Core.List.{List, [], _∷_}
+use mathlib.Core.List.{List}
 use Rattle.rows.specs.Columns as column
 use Rattle.rows.specs.Table.{rowAt, cellAt}
 use Rattle.rows.specs.Rows.{rowsFrom}

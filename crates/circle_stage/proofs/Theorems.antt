@@ -1,5 +1,5 @@
 -- Stage 14 in W-202's terms: the rows at fault are the steps on a circle, by paths; the code finds the first; without faults there is no circle.
-use Prim.Native.Nat.{ℕ, _<_}
+use Prim.Native.Nat.{ℕ}
 use mathlib.Core.Path.{_≡_, refl, sym, _∙_}
 use mathlib.Core.Bool.{Bool, true, false, true≢false, cond, _&&_, _||_, or-true, or-false}
 use mathlib.Core.Logic.{_↔_, ⊎-elim}
@@ -11,7 +11,7 @@ use lib.ListN.{getD}
 use Rattle.rows.specs.Codes as code
 use Rattle.rows.specs.Columns as column
 use Rattle.numbers.proofs.Ranges.{and-yes}
-use Rattle.circles.specs.Circles.{isRule, Step, leads, Circular, NoCircle, circular}
+use Rattle.circles.specs.Circles.{isRule, leads, Circular, NoCircle}
 use Rattle.circles.proofs.Reaching.{or-yes, circle-path, path-circle}
 use Rattle.circles.proofs.Steps.{rule-range, leads-append}
 use Rattle.rule_steps.specs.Steps.{ruleRound, ruleFound, isStep, stepIn, stepsAmong, ruleSteps, greatest}
@@ -22,7 +22,7 @@ use Rattle.drafts.specs.Faults.{alone, firstFault}
 use Rattle.drafts.specs.Sound.{First, none}
 use Rattle.drafts.proofs.Firsts.{first-append, first-if}
 use Rattle.circle_stage.proofs.Circles.{step-leads}
-use Rattle.circle_stage.specs.Circular.{rowsOf, onCircle, circularReferences, Marked, none-marked, add-marked, circleFault}
+use Rattle.circle_stage.specs.Circular.{rowsOf, onCircle, circularReferences, Marked, none-marked, add-marked, circleFault, firstBy}
 
 module _ (rows : List (List ℕ)) where
   -- a row is at fault exactly where it is a step, and there is a way back by the steps of all rows
@@ -119,7 +119,9 @@ module _ (rows : List (List ℕ)) where
       y : ℕ
       y = ruleFound rows (d .row)
 
-      both : (a b : ℕ) → leads (stepIn rows (d .row) ++ stepsAmong rows (rowsOf ds)) a b ≡ (leads (stepIn rows (d .row)) a b || leads (stepsAmong rows (rowsOf ds)) a b)
+      both :
+          (a b : ℕ)
+          → leads (stepIn rows (d .row) ++ stepsAmong rows (rowsOf ds)) a b ≡ (leads (stepIn rows (d .row)) a b || leads (stepsAmong rows (rowsOf ds)) a b)
       both = leads-append (stepIn rows (d .row)) (stepsAmong rows (rowsOf ds))
 
       later : (a b : ℕ) → leads (stepsAmong rows (rowsOf ds)) a b ≡ true → leads (stepIn rows (d .row) ++ stepsAmong rows (rowsOf ds)) a b ≡ true
@@ -130,7 +132,7 @@ module _ (rows : List (List ℕ)) where
       off false e = refl
 
 -- stage 14 answers the first of the names that it lists, as the code finds it
-pub circle-first : {ds : List Draft} → Marked ds → First (firstFault (alone (circleFault (rowsOf ds))) ds) (circularReferences ds)
+pub circle-first : {ds : List Draft} → Marked ds → First (firstBy circleFault ds) (circularReferences ds)
 unfolding circularReferences
 circle-first {ds} h = first-fault (rowsOf ds) h []
 

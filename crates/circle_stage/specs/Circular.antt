@@ -9,6 +9,7 @@ use Rattle.circles.specs.Circles.{circular}
 use Rattle.rule_steps.specs.Steps.{ruleRound, ruleFound, isStep, ruleSteps, greatest}
 use Rattle.answers.specs.Rows.{Draft}
 use Rattle.answers.specs.Stages.{is, faultIf, faultsIn}
+use Rattle.drafts.specs.Faults.{alone, firstFault}
 
 -- the rows of drafts, without their marks
 abbrev pub rowsOf : List Draft → List (List ℕ)
@@ -36,3 +37,7 @@ circleFault rows d = cond (onCircle rows (d .row)) (d .ownAt) 0
 -- where a test holds of the two rules that it leads from and to
 unfoldable pub markIf : (ℕ → ℕ → Bool) → List (List ℕ) → Draft → ℕ
 markIf test rows d = cond (test (ruleRound rows (d .row)) (ruleFound rows (d .row))) (d .ownAt) 0
+
+-- the first mark of rows, each told by all of them
+abbrev pub firstBy : (List (List ℕ) → Draft → ℕ) → List Draft → ℕ
+firstBy fault ds = firstFault (alone (fault (rowsOf ds))) ds

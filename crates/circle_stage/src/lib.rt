@@ -2,8 +2,8 @@
 ghost use mathlib.Core.Path.{_≡_};
 ghost use Rattle.answers.specs.Drafts.{draftsFrom};
 ghost use Rattle.circles.specs.Circles.{circularIn};
-ghost use Rattle.drafts.specs.Faults.{draftAt, alone, firstFault};
-ghost use Rattle.circle_stage.specs.Circular.{markIf, circleFault, rowsOf};
+ghost use Rattle.drafts.specs.Faults.{draftAt};
+ghost use Rattle.circle_stage.specs.Circular.{rowsOf, markIf, circleFault, firstBy};
 use circles::circular;
 use circles::close;
 use drafts::own_mark;
@@ -25,7 +25,7 @@ fn mark_in(table: &[u64], count: usize, row: usize, map: &Map) -> u64
 
 // The first of them.
 fn first_mark(table: &[u64], count: usize, map: &Map) -> u64
-    ensures { λ r. ⌜ r ≡ firstFault (alone (markIf (circularIn (now (map .entry))) (rowsOf (draftsFrom (now (table .entry)) 0 count)))) (draftsFrom (now (table .entry)) 0 count) ⌝ }
+    ensures { λ r. ⌜ r ≡ firstBy (markIf (circularIn (now (map .entry)))) (draftsFrom (now (table .entry)) 0 count) ⌝ }
 {
     let mut row = 0;
     while row < count {
@@ -40,7 +40,7 @@ fn first_mark(table: &[u64], count: usize, map: &Map) -> u64
 
 // 14: the mark of the name in the first ruleref, inside a rule, that is a step on a circle; or 0.
 pub fn circular_reference(table: &[u64], count: usize) -> u64
-    ensures { λ r. ⌜ r ≡ firstFault (alone (circleFault (rowsOf (draftsFrom (now (table .entry)) 0 count)))) (draftsFrom (now (table .entry)) 0 count) ⌝ }
+    ensures { λ r. ⌜ r ≡ firstBy circleFault (draftsFrom (now (table .entry)) 0 count) ⌝ }
 {
     let mut map = numbers::empty();
     let last = add_steps(table, count, &mut map);

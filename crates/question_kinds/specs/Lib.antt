@@ -1,0 +1,2 @@
+-- The definitions that the contracts of `question_kinds` cite.
+pub mod Kinds

@@ -7,7 +7,9 @@ use native.Mathlib.Omega.{arith}
 use lib.Dec.{eqb, ltb}
 use lib.Pow.{pow-pos, ones-lt, shr-le}
 use lib.Bits.{or-lt, and-lt}
-use Rattle.operators.specs.Values.{Operation, nothing, operations, operationOf, found, applied, combined, negated, logic, equality, order, arithmetic, division, constants, constantOf, sum, difference, product, shiftedLeft, shiftedRight, divided}
+use Rattle.operators.specs.Values.{Operation, logic, numeric, arithmetic, order, equality, noOperation, operations, operationOf, found}
+use Rattle.operators.specs.Values.{applied, combined, negated, constants, constantOf}
+use Rattle.operators.specs.Values.{sum, difference, product, shiftedLeft, shiftedRight, divided}
 use Rattle.operators.specs.Range.{InRange}
 use Rattle.operators.specs.declared.Scalar.{Scalar}
 use Rattle.operators.specs.declared.Scalar.the-variants.{Boolean, Number, Undefined}
@@ -47,7 +49,7 @@ order-keeps = record { of-booleans = λ a b. tt; of-numbers = λ a b h k. tt }
 arithmetic-keeps : {f : ℕ → ℕ → ℕ} → ((a b : ℕ) → a < 2 ^ 64 → b < 2 ^ 64 → f a b < 2 ^ 64) → Keeps (arithmetic f)
 arithmetic-keeps g = record { of-booleans = λ a b. tt; of-numbers = g }
 
-division-keeps : {f : ℕ → ℕ → ℕ} → ((a b : ℕ) → f a b ≤ a) → Keeps (division f)
+division-keeps : {f : ℕ → ℕ → ℕ} → ((a b : ℕ) → f a b ≤ a) → Keeps (numeric (divided f))
 unfolding divided
 division-keeps g =
     record {
@@ -89,7 +91,7 @@ operations-keep =
     & end
 
 operation-keeps : (c : ℕ) → Keeps (operationOf c)
-operation-keeps c = found-holds Keeps nothing operations c (record { of-booleans = λ a b. tt; of-numbers = λ a b h k. tt }) operations-keep
+operation-keeps c = found-holds Keeps noOperation operations c (record { of-booleans = λ a b. tt; of-numbers = λ a b h k. tt }) operations-keep
 
 applied-in-range : (o : Operation) → Keeps o → (l r : Scalar) → InRange l → InRange r → InRange (applied o l r)
 unfolding applied

@@ -8,7 +8,8 @@ use lib.Bits.{bitOr, bitAnd}
 use Rattle.rows.specs.Codes.{OR, AND, BITWISE-OR, BITWISE-AND, EQUAL, NOT-EQUAL, GREATER-THAN, GREATER-EQUAL, LESS-THAN, LESS-EQUAL}
 use Rattle.rows.specs.Codes.{SHIFT-LEFT, SHIFT-RIGHT, ADD, SUBTRACT, MULTIPLY, DIVIDE, MODULO}
 use Rattle.rows.specs.Codes.{TRUE, FALSE, ZERO, ONE, ONES, UNDEFINED}
--- "Values are TRUE or FALSE, an unsigned 64-bit number, or undefined": Boolean true or Boolean false, a Number, or Undefined
+-- "Values are TRUE or FALSE, an unsigned 64-bit number, or undefined": Boolean true or Boolean false, a Number, or Undefined.
+-- Here a number has any size; InRange (in Range) says that it has 64 bits.
 use Rattle.operators.specs.declared.Scalar.{Scalar}
 use Rattle.operators.specs.declared.Scalar.the-variants.{Boolean, Number, Undefined}
 
@@ -19,8 +20,8 @@ pub record Operation : Type 0 where
   pub booleans : Bool → Bool → Scalar
   pub numbers : ℕ → ℕ → Scalar
 
--- "An operator with an undefined operand is undefined"; and so is every operator between two sorts, for one of them is no boolean and
--- the other no number: see the sentences of `logic`, `numeric` and `equality`
+-- "An operator with an undefined operand is undefined;" of two sorts one operand is a non-boolean and the other a non-number, so that
+-- by the words quoted below every operator, be it logic, arithmetic, bits, order or equality, is undefined there too
 unfoldable pub applied : Operation → Scalar → Scalar → Scalar
 applied o (Boolean a) (Boolean b) = o .booleans a b
 applied o (Boolean a) (Number b) = Undefined
@@ -30,7 +31,7 @@ applied o (Number a) (Number b) = o .numbers a b
 applied o (Number a) Undefined = Undefined
 applied o Undefined r = Undefined
 
--- "so is logic on a non-boolean"
+-- "so is logic on a non-boolean,"
 abbrev pub logic : (Bool → Bool → Bool) → Operation
 logic f = record { booleans = λ a b. Boolean (f a b); numbers = λ a b. Undefined }
 
@@ -40,7 +41,7 @@ negated (Boolean a) = Boolean (not a)
 negated (Number a) = Undefined
 negated Undefined = Undefined
 
--- "arithmetic, bits or order on a non-number"
+-- "arithmetic, bits or order on a non-number,"
 abbrev pub numeric : (ℕ → ℕ → Scalar) → Operation
 numeric f = record { booleans = λ a b. Undefined; numbers = f }
 
@@ -48,11 +49,11 @@ numeric f = record { booleans = λ a b. Undefined; numbers = f }
 abbrev pub arithmetic : (ℕ → ℕ → ℕ) → Operation
 arithmetic f = numeric (λ a b. Number (f a b))
 
--- order makes TRUE or FALSE
+-- order makes TRUE or FALSE of unsigned numbers
 abbrev pub order : (ℕ → ℕ → Bool) → Operation
 order f = numeric (λ a b. Boolean (f a b))
 
--- "and equality between two sorts": it is good between two booleans and between two numbers, where f takes whether the two are equal
+-- "and equality between two sorts." Between two booleans and between two numbers it makes TRUE or FALSE; f is told whether they are equal
 abbrev pub equality : (Bool → Bool) → Operation
 equality f = record { booleans = λ a b. Boolean (f (Bool·beq a b)); numbers = λ a b. Boolean (f (eqb a b)) }
 
@@ -65,22 +66,22 @@ low n = n % 2 ^ 64
 unfoldable pub sum : ℕ → ℕ → ℕ
 sum a b = low (a + b)
 
--- (2^64 more, which the low 64 bits do not show, since natural numbers end at 0)
+-- with 2^64 added, which the low 64 bits do not show: natural numbers do not go below 0
 unfoldable pub difference : ℕ → ℕ → ℕ
 difference a b = low (a + 2 ^ 64 - b)
 
 unfoldable pub product : ℕ → ℕ → ℕ
 product a b = low (a * b)
 
--- "as does a left shift;" and 0 by the last sentence
+-- "as does a left shift;" see also shiftedRight
 unfoldable pub shiftedLeft : ℕ → ℕ → ℕ
 shiftedLeft a n = cond (ltb n 64) (low (a * 2 ^ n)) 0
 
--- "a zero divisor gives undefined;" f is the quotient or the remainder
+-- "a zero divisor gives undefined;" here f is the quotient or the remainder
 unfoldable pub divided : (ℕ → ℕ → ℕ) → ℕ → ℕ → Scalar
 divided f a b = cond (eqb b 0) Undefined (Number (f a b))
 
--- "a shift by 64 or more gives 0."
+-- "a shift by 64 or more gives 0.", to the left as well
 unfoldable pub shiftedRight : ℕ → ℕ → ℕ
 shiftedRight a n = cond (ltb n 64) (a / 2 ^ n) 0
 
@@ -108,12 +109,12 @@ operations =
     ∷ (MODULO, numeric (divided _%_))
     ∷ []
 
--- what stands beside a code in a table; other where the code stands nowhere
+-- what stands beside a code in a table; other where the code does not stand there
 unfoldable pub found : {A : Type 0} → A → List (ℕ × A) → ℕ → A
 found other [] c = other
 found other (e ∷ es) c = cond (eqb c (e .0)) (e .1) (found other es c)
 
--- the operator of a code; where the code is none of these, one that is undefined on all operands
+-- the operator of a code; one that is undefined on all operands where the code is none of these
 abbrev pub noOperation : Operation
 noOperation = record { booleans = λ a b. Undefined; numbers = λ a b. Undefined }
 
@@ -126,7 +127,7 @@ combined c = applied (operationOf c)
 
 -- ---- the constants by their codes
 
--- "ZERO, ONE and ONES are 0, 1 and all ones."
+-- "ZERO, ONE and ONES are 0, 1 and all ones."; TRUE, FALSE and UNDEFINED are the values of these names
 unfoldable pub constants : List (ℕ × Scalar)
 constants =
     (TRUE, Boolean true)

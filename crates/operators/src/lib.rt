@@ -51,7 +51,7 @@ fn quotient(a: u64, b: u64) -> Scalar
     ensures { λ w. ⌜ w ≡ divided _/_ a b ⌝ }
 {
     if b == 0 {
-        return Scalar::Undefined;
+        return Scalar::Undefined; // a / 0
     }
     let q = a / b;
     Scalar::Number(q)
@@ -113,7 +113,7 @@ pub fn combine(code: u64, l: Scalar, r: Scalar) -> Scalar
         Scalar::Boolean(a) => match r {
             Scalar::Boolean(b) => of_booleans(code, a, b),
             Scalar::Number(_) => Scalar::Undefined,
-            Scalar::Undefined => Scalar::Undefined,
+            Scalar::Undefined => Scalar::Undefined, // `TRUE OR UNDEFINED` too
         },
         Scalar::Number(a) => match r {
             Scalar::Boolean(_) => Scalar::Undefined,

@@ -1,6 +1,6 @@
 -- A code that stands in a table, and one that is none of a list of codes.
 use mathlib.Core.Path.{_≡_, refl, sym, ap, ap₂, _∙_}
-use mathlib.Core.Bool.{Bool, true, false, true≢false, false≢true, cond, _&&_, _||_}
+use mathlib.Core.Bool.{Bool, true, false, false≢true, cond, _&&_, _||_}
 use mathlib.Core.List.{List, [], _∷_}
 use Prim.Native.Nat.{ℕ}
 use lib.Dec.{eqb}
@@ -13,7 +13,7 @@ use Rattle.operators.specs.Values.{noOperation, operations, operationOf,
 use Rattle.operators.specs.declared.Scalar.{Scalar}
 use Rattle.operators.specs.declared.Scalar.the-variants.{Boolean, Number, Undefined}
 
--- ---- tests
+-- ---- tests that hold
 
 both : (a b : Bool) → (a && b) ≡ true → (a ≡ true) × (b ≡ true)
 both true b h = (refl, h)

@@ -1,5 +1,5 @@
 -- Values of expressions (document 02, W-202): what an operator makes of its operands' values, and what each constant is.
--- The sentences in quotes are W-202's, in its order.
+-- The words in quotes are W-202's, in its order. What a question answers is not said here.
 use mathlib.Core.Bool.{Bool, true, false, not, cond, _&&_, _||_, Bool·beq}
 use mathlib.Core.List.{List, [], _∷_}
 use Prim.Native.Nat.{ℕ, _+_, _-_, _*_, _/_, _%_, _^_}
@@ -73,7 +73,7 @@ difference a b = low (a + 2 ^ 64 - b)
 unfoldable pub product : ℕ → ℕ → ℕ
 product a b = low (a * b)
 
--- "as does a left shift;" see also shiftedRight
+-- "as does a left shift;" and from 64 on it gives 0, as the last of these sentences says
 unfoldable pub shiftedLeft : ℕ → ℕ → ℕ
 shiftedLeft a n = cond (ltb n 64) (low (a * 2 ^ n)) 0
 
@@ -81,7 +81,7 @@ shiftedLeft a n = cond (ltb n 64) (low (a * 2 ^ n)) 0
 unfoldable pub divided : (ℕ → ℕ → ℕ) → ℕ → ℕ → Scalar
 divided f a b = cond (eqb b 0) Undefined (Number (f a b))
 
--- "a shift by 64 or more gives 0.", to the left as well
+-- "a shift by 64 or more gives 0."
 unfoldable pub shiftedRight : ℕ → ℕ → ℕ
 shiftedRight a n = cond (ltb n 64) (a / 2 ^ n) 0
 
@@ -114,10 +114,11 @@ unfoldable pub found : {A : Type 0} → A → List (ℕ × A) → ℕ → A
 found other [] c = other
 found other (e ∷ es) c = cond (eqb c (e .0)) (e .1) (found other es c)
 
--- the operator of a code; one that is undefined on all operands where the code is none of these
+-- the operator of a code that is none of these: undefined on all operands
 abbrev pub noOperation : Operation
 noOperation = record { booleans = λ a b. Undefined; numbers = λ a b. Undefined }
 
+-- the operator of a code
 abbrev pub operationOf : ℕ → Operation
 operationOf = found noOperation operations
 

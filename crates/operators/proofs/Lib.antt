@@ -2,6 +2,6 @@
 pub mod Theorems
 -- Values stay within 64 bits: for the layers above.
 pub mod Ranges
--- What these and the functions rest on.
-pub mod Tables
-pub mod Arithmetic
+-- What these and the functions rest on; it serves here alone.
+mod Tables
+mod Arithmetic

@@ -7,6 +7,7 @@ use mathlib.Core.Bool.{true, false}
 use mathlib.Core.List.{List, [], _∷_, map}
 use lib.ListN.{getD, List·getD-map}
 use Rattle.lexemes.specs.Lexemes.{signs, reserved, lexemes}
+use Rattle.circles.specs.Circles.{Step}
 use Rattle.operators.specs.declared.Scalar.{Scalar}
 use Rattle.operators.specs.declared.Scalar.the-variants.{Boolean, Number, Undefined}
 use Rattle.operators.specs.Values.{applied, negated, found, operations, constants, sum, difference, product, shiftedLeft, shiftedRight, divided}
@@ -18,7 +19,8 @@ use Rattle.formulas.specs.Shapes.{word}
 use Rattle.formulas.specs.Formula.{Formula, f-number as N, f-constant as C, f-rule as R, f-not as NOT, f-binary}
 use Rattle.formulas.specs.Words.{print}
 use Rattle.meaning.specs.Meaning.{meaning}
-use Rattle.meaning.specs.Rules.{ruleAt, Solves}
+use Rattle.meaning.specs.References.{references}
+use Rattle.meaning.specs.Rules.{ruleAt, stepsFrom, steps, Solves}
 
 -- an operator between its operands
 infix 68 _⟨_⟩_
@@ -105,7 +107,8 @@ abbrev stated : Example → List Word × Scalar
 stated e = (words (e .text), e .value)
 
 worked : map (computed none) examples ≡ map stated examples
-unfolding examples meaning signs reserved lexemes decimalDigits applied negated found operations constants sum difference product shiftedLeft shiftedRight divided
+unfolding examples meaning signs reserved lexemes decimalDigits
+    applied negated found operations constants sum difference product shiftedLeft shiftedRight divided
 worked = refl
 
 -- ---- expressions beside rules
@@ -124,10 +127,10 @@ ruled =
     -- a later rule is as good as an earlier one
     ∷ record {
       rules =
-        record { text = "ruleref ( R2 ) * ruleref ( R3 )"; formula = R 2 ⟨ multiply ⟩ R 3; value = Number 35 }
-        ∷ record { text = "ruleref ( R3 ) + 2"; formula = R 3 ⟨ add ⟩ N 2; value = Number 7 }
-        ∷ record { text = "5"; formula = N 5; value = Number 5 }
-        ∷ [];
+          record { text = "ruleref ( R2 ) * ruleref ( R3 )"; formula = R 2 ⟨ multiply ⟩ R 3; value = Number 35 }
+          ∷ record { text = "ruleref ( R3 ) + 2"; formula = R 3 ⟨ add ⟩ N 2; value = Number 7 }
+          ∷ record { text = "5"; formula = N 5; value = Number 5 }
+          ∷ [];
       asked = record { text = "ruleref ( R1 ) % ruleref ( R2 )"; formula = R 1 ⟨ modulo ⟩ R 2; value = Number 0 };
     }
     -- a reference has the rule's value with its sort
@@ -154,6 +157,16 @@ values r = valueAt (map (λ e. e .value) (r .rules))
 rules-worked : map (λ r. map (computed (values r)) (r .asked ∷ r .rules)) ruled ≡ map (λ r. map stated (r .asked ∷ r .rules)) ruled
 unfolding ruled valueAt meaning signs reserved lexemes decimalDigits applied negated found operations sum product divided
 rules-worked = refl
+
+-- ---- the steps of rules, in source order
+
+infix 90 _⇒_
+abbrev _⇒_ : ℕ → ℕ → Step
+a ⇒ b = record { from = a; to = b }
+
+stepped : steps ((R 3 ⟨ multiply ⟩ R 2) ∷ (N 2 ⟨ add ⟩ NOT (R 3)) ∷ N 5 ∷ []) ≡ 1 ⇒ 3 ∷ 1 ⇒ 2 ∷ 2 ⇒ 3 ∷ []
+unfolding stepsFrom references
+stepped = refl
 
 -- ---- sixty rules, each the sum of the next with itself, and one more
 

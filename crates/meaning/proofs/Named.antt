@@ -1,15 +1,13 @@
 -- What a meaning depends on.
 -- Assumes nothing.
 use Prim.Native.Nat.{ℕ}
-use mathlib.Core.Path.{_≡_, refl, sym, ap, ap₂, _∙_}
-use mathlib.Core.Bool.{true, or-true, or-false}
+use mathlib.Core.Path.{_≡_, refl, _∙_}
+use mathlib.Core.Bool.{true, or-true}
 use mathlib.Core.List.{List, [], _∷_, _++_}
 use borrow.Author.Tests.{eq-eqb}
 use Rattle.numbers.specs.Numbers.{mem}
 use Rattle.numbers.proofs.Lists.{mem-append}
 use Rattle.operators.specs.declared.Scalar.{Scalar}
-use Rattle.operators.specs.Values.{combined, negated}
-use Rattle.answers.specs.Expression.{operatorCode}
 use Rattle.formulas.specs.Formula.{Formula, f-number, f-constant, f-question, f-rule, f-not, f-binary}
 use Rattle.meaning.specs.Meaning.{meaning}
 use Rattle.meaning.specs.References.{references, questionReferences}
@@ -29,7 +27,7 @@ module _ {r s : ℕ → Scalar} where
   agree-right : (l m : List ℕ) → Agree (l ++ m) r s → Agree m r s
   agree-right l m h n e = h n (mem-append n l m ∙ rw (e, or-true (mem n l)))
 
--- the questions and the rules that an expression refers to
+-- only on the questions and the rules that the expression refers to: so rules can be evaluated once each, those first that others refer to
 module _ {p q r s : ℕ → Scalar} where
   pub meaning-named : (e : Formula) → Agree (questionReferences e) p q → Agree (references e) r s → meaning p r e ≡ meaning q s e
   unfolding meaning references questionReferences
@@ -37,8 +35,9 @@ module _ {p q r s : ℕ → Scalar} where
   meaning-named (f-constant c) g h = refl
   meaning-named (f-question n) g h = agree-one g
   meaning-named (f-rule n) g h = agree-one h
-  meaning-named (f-not e) g h = ap negated (meaning-named e g h)
+  meaning-named (f-not e) g h = rw (meaning-named e g h)
   meaning-named (f-binary o x y) g h =
-      ap₂ (combined (operatorCode o))
-      (meaning-named x (agree-left (questionReferences x) (questionReferences y) g) (agree-left (references x) (references y) h))
-      (meaning-named y (agree-right (questionReferences x) (questionReferences y) g) (agree-right (references x) (references y) h))
+      rw (
+        meaning-named x (agree-left (questionReferences x) (questionReferences y) g) (agree-left (references x) (references y) h),
+        meaning-named y (agree-right (questionReferences x) (questionReferences y) g) (agree-right (references x) (references y) h),
+      )

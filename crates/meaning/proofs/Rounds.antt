@@ -38,7 +38,7 @@ module _ (rules : List Formula) (questions : ℕ → Scalar) where
     found-solves =
         record {
           solved = λ n.
-            meaning-named (ruleAt rules n) (λ m e. refl) (λ m e. steady (rank n) (suc (rank m)) m (falls n m e) (omega arith));
+              meaning-named (ruleAt rules n) (λ m e. refl) (λ m e. steady (rank n) (suc (rank m)) m (falls n m e) (omega arith));
         }
 
     -- two solutions are the same up to any rank

@@ -15,10 +15,10 @@ module _ (questions rules : ℕ → Scalar) where
   meaning (f-number v) = Number v
   -- TRUE FALSE ZERO ONE ONES UNDEFINED: "ZERO, ONE and ONES are 0, 1 and all ones"
   meaning (f-constant c) = constantOf (constantCode c)
-  -- questionref ( N ): what the question answers, undefined where "a goto or a missing answer is undefined"
+  -- questionref ( N ): what the question of that number answers
   meaning (f-question n) = questions n
-  -- ruleref ( NAME ): the rule's value, with its sort
+  -- ruleref ( NAME ): what the rule is worth, of whatever sort
   meaning (f-rule n) = rules n
-  -- NOT and the binary operators: by their operands' meanings alone. "An operator with an undefined operand is undefined", so none is skipped
+  -- NOT and the binary operators: by what all their operands mean, for "An operator with an undefined operand is undefined"
   meaning (f-not e) = negated (meaning e)
   meaning (f-binary o l r) = combined (operatorCode o) (meaning l) (meaning r)

@@ -11,7 +11,7 @@ use lib.ListN.{length}
 use Rattle.numbers.specs.Numbers.{emptyMap, used, withUsed, isNumber}
 use Rattle.numbers.proofs.Maps.{used-empty, used-marked, length-marked, holds-empty}
 use Rattle.numbers.proofs.FreeNumbers.{is-number}
-use Rattle.circles.specs.Circles.{isRule, Step, leads, Circular, Within, joined, circular, linked, added, Maps, last, Closed, circularIn}
+use Rattle.circles.specs.Circles.{isRule, Step, leads, Circular, Within, closure, circular, hasStep, added, Maps, last, Closed, circularIn}
 use Rattle.circles.proofs.Reaching.{and-yes, circle-path, path-circle}
 
 -- ---- rule numbers
@@ -44,7 +44,7 @@ module _ (ws : List ℕ) (a b : ℕ) where
   added-none e = rw e
 
   pub circular-rules : {r : Bool} → (isRule a && isRule b) ≡ true → r ≡ used ws (b * 256 + a) → (eqb a b || r) ≡ circularIn ws a b
-  unfolding circularIn linked
+  unfolding circularIn hasStep
   circular-rules e f = rw (e, f)
 
   pub circular-none : (isRule a && isRule b) ≡ false → false ≡ circularIn ws a b
@@ -53,13 +53,13 @@ module _ (ws : List ℕ) (a b : ℕ) where
 
 -- ---- a map of steps
 
-leads-append : (l m : List Step) (a b : ℕ) → leads (l ++ m) a b ≡ (leads l a b || leads m a b)
+pub leads-append : (l m : List Step) (a b : ℕ) → leads (l ++ m) a b ≡ (leads l a b || leads m a b)
 unfolding leads
 leads-append [] m a b = refl
 leads-append (s ∷ l) m a b = rw (leads-append l m a b) (sym (or-assoc (eqb (s .from) a && eqb (s .to) b) (leads l a b) (leads m a b)))
 
 pub maps-empty : Maps emptyMap []
-unfolding linked leads
+unfolding hasStep leads
 maps-empty = record { size = holds-empty .size; same = λ a b h l. used-empty (a * 256 + b) }
 
 -- one number for a step: the numbers of two steps are equal where both ends are
@@ -78,7 +78,7 @@ module _ {ws : List ℕ} {l : List Step} (v : Maps ws l) (a b : ℕ) {now : List
 
   -- a step between rules, in front of the others or behind them
   pub maps-front : (isRule a && isRule b) ≡ true → Maps now (record { from = a; to = b } ∷ l)
-  unfolding linked leads added
+  unfolding hasStep leads added
   maps-front f = record { size = ap length now-is ∙ length-marked ws (a * 256 + b) ∙ v .size; same = same }
     where
       rules : (0 < a) × (a < 256) × (b < 256)
@@ -108,20 +108,20 @@ module _ {ws : List ℕ} {l : List Step} (v : Maps ws l) (a b : ℕ) {now : List
 
 -- ---- the closed map
 
-joined-same : (r s : ℕ → ℕ → Bool) → ((a b : ℕ) → a < 256 → b < 256 → r a b ≡ s a b)
-    → (k a b : ℕ) → k ≤ 256 → a < 256 → b < 256 → joined r k a b ≡ joined s k a b
-unfolding joined
-joined-same r s e zero a b h l m = e a b l m
-joined-same r s e (suc k) a b h l m =
-    rw (joined-same r s e k a b (omega arith) l m, joined-same r s e k a k (omega arith) l h, joined-same r s e k k b (omega arith) h m)
+closure-same : (r s : ℕ → ℕ → Bool) → ((a b : ℕ) → a < 256 → b < 256 → r a b ≡ s a b)
+    → (k a b : ℕ) → k ≤ 256 → a < 256 → b < 256 → closure r k a b ≡ closure s k a b
+unfolding closure
+closure-same r s e zero a b h l m = e a b l m
+closure-same r s e (suc k) a b h l m =
+    rw (closure-same r s e k a b (omega arith) l m, closure-same r s e k a k (omega arith) l h, closure-same r s e k k b (omega arith) h m)
 
 module _ {ws : List ℕ} {l : List Step} {n : ℕ} {after : List ℕ} (v : Maps ws l) (w : Within l n) (c : Closed ws n after) where
   -- the closed map has the paths of one or more steps
-  pub closed-joined : (a b : ℕ) → a ≤ n → b < 256 → linked after a b ≡ joined (leads l) (suc n) a b
-  closed-joined a b h g =
+  pub closed-steps : (a b : ℕ) → a ≤ n → b < 256 → hasStep after a b ≡ closure (leads l) (suc n) a b
+  closed-steps a b h g =
       let e : suc (last n) ≡ suc n = omega (arith, w .few) in
       c .same a b (omega (arith, w .few)) g
-      ∙ rw e (joined-same (linked ws) (leads l) (v .same) (suc n) a b (omega (arith, w .few)) (omega (arith, w .few)) g)
+      ∙ rw e (closure-same (hasStep ws) (leads l) (v .same) (suc n) a b (omega (arith, w .few)) (omega (arith, w .few)) g)
 
   -- it tells which steps stand on a circle
   pub closed-circular : (a b : ℕ) → leads l a b ≡ true → circularIn after a b ≡ circular l n a b
@@ -129,7 +129,7 @@ module _ {ws : List ℕ} {l : List Step} {n : ℕ} {after : List ℕ} (v : Maps 
   closed-circular a b e =
       let f = w .from a b e in
       let g = w .to a b e in
-      rw (is-rule a (f .0) (omega (arith, w .few)), is-rule b (g .0) (omega (arith, w .few)), closed-joined b a (g .1) (omega (arith, w .few)))
+      rw (is-rule a (f .0) (omega (arith, w .few)), is-rule b (g .0) (omega (arith, w .few)), closed-steps b a (g .1) (omega (arith, w .few)))
 
   pub circle-found : (a b : ℕ) → leads l a b ≡ true → (circularIn after a b ≡ true) ↔ Circular l a b
   circle-found a b e =

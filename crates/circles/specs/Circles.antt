@@ -1,19 +1,19 @@
--- Steps between rules, and which of them stand on a circle (W-202, refusal 14).
+-- Steps between rules, which of them stand on a circle (W-202, refusal 14), and an order of the rules without circles.
 use mathlib.Core.Path.{_≡_}
 use mathlib.Core.Bool.{Bool, true, false, cond, _&&_, _||_}
-use mathlib.Core.List.{List, [], _∷_}
+use mathlib.Core.List.{List, [], _∷_, _++_}
 use Prim.Native.Nat.{ℕ, zero, suc, _+_, _*_, _≤_, _<_, min}
 use lib.Dec.{ltb, eqb}
-use lib.ListN.{length}
+use lib.ListN.{length, getD, take, replicate}
 use Rattle.numbers.specs.Numbers.{used, withUsed, picked}
 
--- ---- steps, paths and circles
+-- ---- what is believed: steps, paths and circles
 
 -- rule numbers are 1 to 255 (document 01, refusal 10)
 abbrev pub isRule : ℕ → Bool
 isRule n = ltb 0 n && ltb n 256
 
--- a reference: from the rule that it stands in to the rule that it finds
+-- a `ruleref` inside a rule: from the rule that it stands in to the rule that it finds (W-202)
 pub record Step : Type 0 where
   pub from : ℕ
   pub to : ℕ
@@ -23,16 +23,24 @@ unfoldable pub leads : List Step → ℕ → ℕ → Bool
 leads [] a b = false
 leads (s ∷ l) a b = eqb (s .from) a && eqb (s .to) b || leads l a b
 
--- a path of none or more steps
+-- a path from a to b of none or more steps, where r a b says that a step leads from a to b
 pub data Reaches (r : ℕ → ℕ → Bool) : ℕ → ℕ → Type 0 where
   here : {a : ℕ} → Reaches r a a
   onward : {a b c : ℕ} → r a b ≡ true → Reaches r b c → Reaches r a c
 
--- the step from a to b stands on a circle: there is a way back
+-- "a rule that reaches itself through references" (W-202): by one or more steps
+abbrev pub ReachesItself : List Step → ℕ → Type 0
+ReachesItself l a = (b : ℕ) × (leads l a b ≡ true) × Reaches (leads l) b a
+
+-- the step from a to b "is a step of such a circle" (W-202, refusal 14): a path leads back
 abbrev pub Circular : List Step → ℕ → ℕ → Type 0
 Circular l a b = Reaches (leads l) b a
 
--- every step leads from one of the rules 1 to n to another or the same
+-- no step stands on a circle
+abbrev pub NoCircle : List Step → Type 0
+NoCircle l = (a b : ℕ) → leads l a b ≡ true → Circular l a b → ⊥
+
+-- every step leads from one of the rules 1 to n to one of them
 pub record Within (l : List Step) (n : ℕ) : Type 0 where
   pub few : n < 256
   pub from : (a b : ℕ) → leads l a b ≡ true → (0 < a) × (a ≤ n)
@@ -40,59 +48,93 @@ pub record Within (l : List Step) (n : ℕ) : Type 0 where
 
 -- ---- the same, computed
 
--- a path of one or more steps from a to b, whose inner rules all lie below k (Warshall's closure)
-unfoldable pub joined : (ℕ → ℕ → Bool) → ℕ → ℕ → ℕ → Bool
-joined r zero a b = r a b
-joined r (suc k) a b = joined r k a b || joined r k a k && joined r k k b
+-- Warshall's closure: a path of one or more steps leads from a to b, and the rules between the two all lie below k
+unfoldable pub closure : (ℕ → ℕ → Bool) → ℕ → ℕ → ℕ → Bool
+closure r zero a b = r a b
+closure r (suc k) a b = closure r k a b || closure r k a k && closure r k k b
 
--- the step from a to b, rules up to n, stands on a circle
+-- the step from a to b, between rules up to n, stands on a circle
 unfoldable pub circular : List Step → ℕ → ℕ → ℕ → Bool
-circular l n a b = eqb a b || joined (leads l) (suc n) b a
+circular l n a b = eqb a b || closure (leads l) (suc n) b a
 
--- how many rules, up to n, the rule a reaches by one or more steps
+-- how many rules the rule a reaches by one or more steps between rules up to n
 unfoldable pub rank : List Step → ℕ → ℕ → ℕ
-rank l n a = length (picked (joined (leads l) (suc n) a) 0 256)
+rank l n a = length (picked (closure (leads l) (suc n) a) 0 256)
 
--- ---- the map of steps: rule a's row is the numbers 256 a to 256 a + 255 of a map of `numbers`
+-- the rules 1 to n of rank below k, by rising rank, those of one rank by number
+unfoldable pub byRank : (ℕ → ℕ) → ℕ → ℕ → List ℕ
+byRank ranks n zero = []
+byRank ranks n (suc k) = byRank ranks n k ++ picked (λ a. eqb (ranks a) k) 1 n
+
+-- ---- the map of steps: row a is the numbers 256 a to 256 a + 255 of a map of `numbers`
 
 -- the map has a step from a to b
-unfoldable pub linked : List ℕ → ℕ → ℕ → Bool
-linked words a b = used words (a * 256 + b)
-
--- the map with one step more; what is no rule number changes nothing
-unfoldable pub added : List ℕ → ℕ → ℕ → List ℕ
-added words a b = cond (isRule a && isRule b) (withUsed words (a * 256 + b)) words
+unfoldable pub hasStep : List ℕ → ℕ → ℕ → Bool
+hasStep words a b = used words (a * 256 + b)
 
 -- the map has the steps of the list, and no other
 pub record Maps (words : List ℕ) (l : List Step) : Type 0 where
   pub size : length words ≡ 1024
-  pub same : (a b : ℕ) → a < 256 → b < 256 → linked words a b ≡ leads l a b
+  pub same : (a b : ℕ) → a < 256 → b < 256 → hasStep words a b ≡ leads l a b
 
--- the last rule that a closing looks at
+-- the map with the step from a to b too; what is no rule number changes nothing
+unfoldable pub added : List ℕ → ℕ → ℕ → List ℕ
+added words a b = cond (isRule a && isRule b) (withUsed words (a * 256 + b)) words
+
+-- ---- closing a map
+
+-- row a, if it has k, has gained row k; the other rows are as before
+pub record RowJoined (words : List ℕ) (a k : ℕ) (after : List ℕ) : Type 0 where
+  pub size : length after ≡ length words
+  pub same : (x y : ℕ) → x < 256 → y < 256
+      → hasStep after x y ≡ (hasStep words x y || eqb x a && (hasStep words x k && hasStep words k y))
+
+-- Warshall's turn k over the rows below n: each of them that had k has gained row k; the other rows are as before
+pub record Turned (words : List ℕ) (k n : ℕ) (after : List ℕ) : Type 0 where
+  pub size : length after ≡ length words
+  pub same : (x y : ℕ) → x < 256 → y < 256
+      → hasStep after x y ≡ (hasStep words x y || ltb x n && (hasStep words x k && hasStep words k y))
+
+-- the last of n rules; there are 255 at the most
 abbrev pub last : ℕ → ℕ
 last n = min n 255
 
--- the rows up to n of a map, closed through the rules up to n
+-- the rows of the rules up to n now have a step wherever a path of one or more steps between rules up to n led
 pub record Closed (words : List ℕ) (n : ℕ) (after : List ℕ) : Type 0 where
   pub size : length after ≡ length words
-  pub same : (a b : ℕ) → a ≤ last n → b < 256 → linked after a b ≡ joined (linked words) (suc (last n)) a b
+  pub same : (a b : ℕ) → a ≤ last n → b < 256 → hasStep after a b ≡ closure (hasStep words) (suc (last n)) a b
 
--- row a of the map has gained row k, where it has k
-pub record RowJoined (words : List ℕ) (a k : ℕ) (after : List ℕ) : Type 0 where
-  pub size : length after ≡ length words
-  pub same : (x y : ℕ) → x < 256 → y < 256 → linked after x y ≡ (linked words x y || eqb x a && (linked words x k && linked words k y))
+-- ---- what a closed map says
 
--- the rows below n have gained row k, where they had k
-pub record Turned (words : List ℕ) (k n : ℕ) (after : List ℕ) : Type 0 where
-  pub size : length after ≡ length words
-  pub same : (x y : ℕ) → x < 256 → y < 256 → linked after x y ≡ (linked words x y || ltb x n && (linked words x k && linked words k y))
-
--- ---- a closed map
-
--- by a closed map, the step from a to b stands on a circle; what is no rule number does not
+-- the step from a to b stands on a circle; what is no rule number stands on none
 unfoldable pub circularIn : List ℕ → ℕ → ℕ → Bool
-circularIn words a b = isRule a && isRule b && (eqb a b || linked words b a)
+circularIn words a b = isRule a && isRule b && (eqb a b || hasStep words b a)
 
--- by a closed map, how many rules the rule a reaches; what is above 255 reaches none
+-- how many rules the rule a reaches; what is above 255 reaches none
 unfoldable pub rankIn : List ℕ → ℕ → ℕ
-rankIn words a = length (picked (linked words a) 0 256)
+rankIn words a = length (picked (hasStep words a) 0 256)
+
+-- the ranks of the rule numbers 0 to 255
+pub record RanksOf (words ranks : List ℕ) : Type 0 where
+  pub size : length ranks ≡ 256
+  pub same : (a : ℕ) → a < 256 → getD ranks a 0 ≡ rankIn words a
+
+-- the 256 numbers that begin with the list, and are 0 past it
+unfoldable pub padded : List ℕ → List ℕ
+padded l = take 256 (l ++ replicate 256 0)
+
+-- the order of the rules 1 to n, and then 0
+unfoldable pub orderIn : List ℕ → ℕ → List ℕ
+orderIn words n = padded (byRank (rankIn words) (last n) (last n))
+
+-- ---- filling an order, place by place
+
+-- the places hold the list and are 0 past it; i is the next place
+pub record Lays (l places : List ℕ) (i : ℕ) : Type 0 where
+  pub size : length places ≡ 256
+  pub next : i ≡ min (length l) 256
+  pub same : (j : ℕ) → j < 256 → getD places j 0 ≡ getD l j 0
+
+-- whatever list the places held, they now hold that list and more
+pub record Appends (before : List ℕ) (i : ℕ) (more after : List ℕ) (j : ℕ) : Type 0 where
+  pub behind : (l : List ℕ) → Lays l before i → Lays (l ++ more) after j

@@ -1,0 +1,2 @@
+-- The definitions that the contracts of `circle_stage` cite.
+pub mod Circular

@@ -1,0 +1,2 @@
+-- The definitions that the contracts of `rule_steps` cite.
+pub mod Steps

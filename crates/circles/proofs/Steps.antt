@@ -1,7 +1,6 @@
 -- A map of steps: adding a step, and what the closed map says of the steps.
 use mathlib.Core.Path.{_≡_, refl, sym, ap, _∙_}
 use mathlib.Core.Bool.{Bool, true, false, _&&_, _||_, or-false, or-comm, or-assoc, and-true}
-use mathlib.Core.Logic.{_↔_}
 use mathlib.Core.List.{List, [], _∷_, _++_}
 use Prim.Native.Nat.{ℕ, zero, suc, _+_, _*_, _≤_, _<_}
 use native.Mathlib.Omega.{arith}
@@ -10,9 +9,9 @@ use lib.Dec.{ltb, eqb}
 use lib.ListN.{length}
 use Rattle.numbers.specs.Numbers.{emptyMap, used, withUsed, isNumber}
 use Rattle.numbers.proofs.Maps.{used-empty, used-marked, length-marked, holds-empty}
+use Rattle.numbers.proofs.Ranges.{and-yes}
 use Rattle.numbers.proofs.FreeNumbers.{is-number}
-use Rattle.circles.specs.Circles.{isRule, Step, leads, Circular, Within, closure, circular, hasStep, added, Maps, last, Closed, circularIn}
-use Rattle.circles.proofs.Reaching.{and-yes, circle-path, path-circle}
+use Rattle.circles.specs.Circles.{isRule, Step, leads, Within, closure, circular, hasStep, added, Maps, last, Closed, circularIn}
 
 -- ---- rule numbers
 
@@ -130,7 +129,3 @@ module _ {ws : List ℕ} {l : List Step} {n : ℕ} {after : List ℕ} (v : Maps 
       let f = w .from a b e in
       let g = w .to a b e in
       rw (is-rule a (f .0) (omega (arith, w .few)), is-rule b (g .0) (omega (arith, w .few)), closed-steps b a (g .1) (omega (arith, w .few)))
-
-  pub circle-found : (a b : ℕ) → leads l a b ≡ true → (circularIn after a b ≡ true) ↔ Circular l a b
-  circle-found a b e =
-      (λ t. circle-path l n w a b (sym (closed-circular a b e) ∙ t), λ p. closed-circular a b e ∙ path-circle l n w p)

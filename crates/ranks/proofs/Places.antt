@@ -10,8 +10,10 @@ use lib.Dec.{ltb, eqb}
 use lib.ListN.{length, getD, set, take, replicate, length-append, length-take, length-set, length-replicate, getD-replicate, List·getD-append, List·getD-eq-default}
 use lib.Seq.{getD-append-seam, getD-append-add, getD-set-same, getD-set-other, getD-take, ext-getD}
 use Rattle.numbers.specs.Numbers.{picked}
-use Rattle.numbers.proofs.Ranges.{pick-yes, pick-no, pick-same}
-use Rattle.circles.specs.Circles.{rankIn, RanksOf, byRank, last, padded, orderIn, Lays, Appends}
+use Rattle.numbers.proofs.Ranges.{pick-same}
+use Rattle.circles.specs.Circles.{last}
+use Rattle.ranks.specs.Ranks.{rankIn, RanksOf, byRank, padded, orderIn, Lays, Appends}
+use Rattle.ranks.proofs.Lists.{pick-last}
 
 -- ---- a list in 256 places
 
@@ -104,17 +106,6 @@ module _ (before : List ℕ) (i a : ℕ) where
     put-stored e h = rw (not-false wanted e) (stored h)
 
 -- ---- the loop of `put_rank`: the rules below a of one rank are put
-
--- one number more
-pick-last : (p : ℕ → Bool) (m n : ℕ) → picked p n (suc m) ≡ picked p n m ++ cond (p (n + m)) ((n + m) ∷ []) []
-unfolding picked
-pick-last p zero n = let e : n + 0 ≡ n = omega arith in rw e
-pick-last p (suc m) n = go (p n) refl (pick-last p m (n + 1))
-  where
-    go : (b : Bool) → p n ≡ b → picked p (n + 1) (suc m) ≡ picked p (n + 1) m ++ cond (p (n + 1 + m)) ((n + 1 + m) ∷ []) []
-        → picked p n (suc (suc m)) ≡ picked p n (suc m) ++ cond (p (n + suc m)) ((n + suc m) ∷ []) []
-    go true e ih = let f : n + suc m ≡ n + 1 + m = omega arith in rw (e, f) (ap (λ (l : List ℕ). n ∷ l) ih)
-    go false e ih = let f : n + suc m ≡ n + 1 + m = omega arith in rw (e, f) ih
 
 pub record Putting (p : ℕ → Bool) (n : ℕ) (before : List ℕ) (i a : ℕ) (places : List ℕ) (next : ℕ) : Type 0 where
   pub some : 1 ≤ a

@@ -21,15 +21,8 @@ is-rule n h l = rw (lt-ltb 0 n h, lt-ltb n 256 l)
 pub rule-range : (n : ℕ) → isRule n ≡ true → (0 < n) × (n < 256)
 rule-range n e = let z = and-yes (ltb 0 n) (ltb n 256) e in (ltb-true 0 n (z .0), ltb-true n 256 (z .1))
 
--- the tests of `add` and `circular`
-module _ (a b : ℕ) {p q : Bool} where
-  pub both : {t : Bool} → p ≡ isRule a → q ≡ isRule b → (p && q) ≡ t → (isRule a && isRule b) ≡ t
-  both e f g = rw (← e, ← f) g
-
-  pub both-low : p ≡ isRule a → q ≡ isRule b → (p && q) ≡ true → (a < 256) × (b < 256)
-  both-low e f g =
-      let z = and-yes (isRule a) (isRule b) (rw (← e, ← f) g) in
-      (rule-range a (z .0) .1, rule-range b (z .1) .1)
+pub rules-low : (a b : ℕ) → (isRule a && isRule b) ≡ true → (a < 256) × (b < 256)
+rules-low a b e = let z = and-yes (isRule a) (isRule b) e in (rule-range a (z .0) .1, rule-range b (z .1) .1)
 
 -- ---- adding a step
 

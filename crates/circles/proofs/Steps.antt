@@ -15,7 +15,7 @@ use Rattle.circles.specs.Circles.{isRule, Step, leads, Within, closure, 
 
 -- ---- rule numbers
 
-pub is-rule : (n : ℕ) → 0 < n → n < 256 → isRule n ≡ true
+is-rule : (n : ℕ) → 0 < n → n < 256 → isRule n ≡ true
 is-rule n h l = rw (lt-ltb 0 n h, lt-ltb n 256 l)
 
 pub rule-range : (n : ℕ) → isRule n ≡ true → (0 < n) × (n < 256)
@@ -69,7 +69,7 @@ module _ {ws : List ℕ} {l : List Step} (v : Maps ws l) (a b : ℕ) {now : List
   maps-kept f = rw (e ∙ sym (added-none ws a b f)) v
 
   -- a step between rules, in front of the others or behind them
-  pub maps-front : (isRule a && isRule b) ≡ true → Maps now (record { from = a; to = b } ∷ l)
+  maps-front : (isRule a && isRule b) ≡ true → Maps now (record { from = a; to = b } ∷ l)
   unfolding hasStep leads added
   maps-front f = record { size = ap length now-is ∙ length-marked ws (a * 256 + b) ∙ v .size; same = same }
     where
@@ -95,7 +95,8 @@ module _ {ws : List ℕ} {l : List Step} (v : Maps ws l) (a b : ℕ) {now : List
       let w = maps-front f in
       record {
         size = w .size;
-        same = λ x y h g. w .same x y h g ∙ rw (leads-append l (record { from = a; to = b } ∷ []) x y, or-false (eqb a x && eqb b y)) (or-comm (eqb a x && eqb b y) (leads l x y));
+        same = λ x y h g. w .same x y h g
+        ∙ rw (leads-append l (record { from = a; to = b } ∷ []) x y, or-false (eqb a x && eqb b y)) (or-comm (eqb a x && eqb b y) (leads l x y));
       }
 
 -- ---- the closed map

@@ -34,7 +34,7 @@ module _ (ranks : ℕ → ℕ) (n : ℕ) where
       go false s t u = absurd (false≢true (sym (pick-outside (λ x. eqb (ranks x) k) a n 1 (λ h. absurd (omega (arith, ltb-false 0 a s)))) ∙ e))
 
   -- what stands in it
-  pub ranked-rule : (k a : ℕ) → mem a (byRank ranks n k) ≡ true → (0 < a) × (a ≤ n) × (ranks a < k)
+  ranked-rule : (k a : ℕ) → mem a (byRank ranks n k) ≡ true → (0 < a) × (a ≤ n) × (ranks a < k)
   unfolding byRank mem
   ranked-rule zero a e = absurd (false≢true e)
   ranked-rule (suc k) a e =
@@ -43,7 +43,7 @@ module _ (ranks : ℕ → ℕ) (n : ℕ) where
       (λ f. let u = of-rank k a f in (u .0, u .1, omega (arith, u .2)))
       (or-yes (mem a (byRank ranks n k)) (mem a (ofRank k)) (sym (mem-append a (byRank ranks n k) (ofRank k)) ∙ e))
 
-  pub rule-ranked : (k a : ℕ) → 0 < a → a ≤ n → ranks a < k → mem a (byRank ranks n k) ≡ true
+  rule-ranked : (k a : ℕ) → 0 < a → a ≤ n → ranks a < k → mem a (byRank ranks n k) ≡ true
   unfolding byRank
   rule-ranked zero a l h r = absurd (omega arith)
   rule-ranked (suc k) a l h r = mem-append a (byRank ranks n k) (ofRank k) ∙ go (ltb (ranks a) k) refl (rule-ranked k a l h)
@@ -55,7 +55,7 @@ module _ (ranks : ℕ → ℕ) (n : ℕ) where
           rw (pick-inside (λ x. eqb (ranks x) k) a n 1 l (omega arith), eq-eqb (ranks a) k e, or-true (mem a (byRank ranks n k)))
 
   -- nothing twice
-  pub ranked-distinct : (k : ℕ) → distinct (byRank ranks n k) ≡ true
+  ranked-distinct : (k : ℕ) → distinct (byRank ranks n k) ≡ true
   unfolding byRank distinct
   ranked-distinct zero = refl
   ranked-distinct (suc k) =
@@ -72,15 +72,20 @@ module _ (ranks : ℕ → ℕ) (n : ℕ) where
         length-append (byRank ranks n k) (ofRank k),
         ranked-count k,
         count-or (λ a. ltb (ranks a) k) (λ a. eqb (ranks a) k) n 1,
-        ap length (pick-same (λ a. ltb (ranks a) k || eqb (ranks a) k) (λ a. ltb (ranks a) (suc k)) n 1 (λ a l h. below-next (ranks a) k ∙ ap (ltb (ranks a)) (add-one k))),
+        ap length (pick-same (λ a. ltb (ranks a) k || eqb (ranks a) k) (λ a. ltb (ranks a) (suc k)) n 1 next),
         ap length (pick-none (λ a. ltb (ranks a) k && eqb (ranks a) k) n 1 (λ a l h. not-both a)),
       )
     where
+      next : (a : ℕ) → 1 ≤ a → a < 1 + n → (ltb (ranks a) k || eqb (ranks a) k) ≡ ltb (ranks a) (suc k)
+      next a l h = below-next (ranks a) k ∙ ap (ltb (ranks a)) (add-one k)
+
       not-both : (a : ℕ) → (ltb (ranks a) k && eqb (ranks a) k) ≡ false
-      not-both a = not-yes _ (λ e. let z = and-yes (ltb (ranks a) k) (eqb (ranks a) k) e in omega (arith, ltb-true (ranks a) k (z .0), eqb-true (ranks a) k (z .1)))
+      not-both a =
+          not-yes _
+          (λ e. let z = and-yes (ltb (ranks a) k) (eqb (ranks a) k) e in omega (arith, ltb-true (ranks a) k (z .0), eqb-true (ranks a) k (z .1)))
 
   -- ranks rise
-  pub ranked-rises : (k i j : ℕ) → i ≤ j → j < length (byRank ranks n k) → ranks (getD (byRank ranks n k) i 0) ≤ ranks (getD (byRank ranks n k) j 0)
+  ranked-rises : (k i j : ℕ) → i ≤ j → j < length (byRank ranks n k) → ranks (getD (byRank ranks n k) i 0) ≤ ranks (getD (byRank ranks n k) j 0)
   unfolding byRank
   ranked-rises zero i j h g = absurd (omega arith)
   ranked-rises (suc k) i j h g = go (ltb j (length l)) refl (ranked-rises k i j h)

@@ -1,12 +1,9 @@
--- The rank of a rule: the ones of its closed row.
+-- The rank of a rule: the ones of its closed row. Without circles it falls with every reference.
 use mathlib.Core.Path.{_≡_, refl, sym, ap, _∙_}
-use mathlib.Core.Bool.{Bool, true, false, _&&_, false≢true, and-false}
-use mathlib.Core.List.{List, [], _∷_}
-use Prim.Native.Nat.{ℕ, zero, suc, _+_, _-_, _*_, _/_, _^_, _≤_, _<_}
-use native.Mathlib.Numerals.{add-one}
+use mathlib.Core.Bool.{Bool, true, false}
+use mathlib.Core.List.{List}
+use Prim.Native.Nat.{ℕ, zero, suc, _+_, _-_, _*_, _^_, _≤_, _<_}
 use native.Mathlib.Omega.{arith}
-use borrow.Author.Tests.{eqb-true, eqb-false, lt-ltb, le-ltb}
-use lib.Dec.{ltb, eqb}
 use lib.Count.{ones, ones-le}
 use lib.ListN.{length, getD}
 use Rattle.numbers.specs.Numbers.{used, picked}
@@ -26,7 +23,7 @@ count-shift p m (suc k) n =
     let e : m + n + 1 ≡ m + (n + 1) = omega arith in
     count-next (λ b. p (m + b)) n k ∙ rw (count-shift p m k (n + 1), ← e) (sym (count-next p (m + n) k))
 
-pub rank-row : (ws : List ℕ) (a : ℕ) → rankIn ws a ≡ length (picked (used ws) (a * 256) 256)
+rank-row : (ws : List ℕ) (a : ℕ) → rankIn ws a ≡ length (picked (used ws) (a * 256) 256)
 unfolding rankIn hasStep
 rank-row ws a = let e : a * 256 + 0 ≡ a * 256 = omega arith in count-shift (used ws) (a * 256) 256 0 ∙ rw e
 
@@ -60,7 +57,8 @@ module _ {ws : List ℕ} {a sum j : ℕ} (v : Ranking ws a sum j) where
   ranking-end h =
       let e : (a * 4 + j) * 64 ≡ a * 256 + 256 = omega (arith, v .few) in
       let z : 0 + a * 256 ≡ a * 256 = omega arith in
-      let all : length (picked (used ws) 0 ((a * 4 + j) * 64)) ≡ length (picked (used ws) 0 (a * 256)) + length (picked (used ws) (a * 256) 256) = rw (e, count-add (used ws) (a * 256) 256 0, z) in
+      let all : length (picked (used ws) 0 ((a * 4 + j) * 64)) ≡ length (picked (used ws) 0 (a * 256)) + length (picked (used ws) (a * 256) 256) =
+      rw (e, count-add (used ws) (a * 256) 256 0, z) in
       sym (rank-row ws a ∙ omega (arith, v .same))
 
 -- ---- without circles the rank falls with every step

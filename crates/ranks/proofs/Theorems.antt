@@ -8,7 +8,7 @@ use borrow.Author.Tests.{ltb-true, ltb-false}
 use lib.Dec.{ltb}
 use lib.ListN.{length, getD, List·getD-eq-default}
 use Rattle.circles.specs.Circles.{Step, leads, NoCircle, Within, Maps, last, Closed}
-use Rattle.ranks.specs.Ranks.{rank, byRank, rankIn, padded, orderIn}
+use Rattle.ranks.specs.Ranks.{rank, byRank, rankIn, orderIn}
 use Rattle.ranks.proofs.Ranks.{rank-falls, rank-low, closed-rank}
 use Rattle.ranks.proofs.Places.{padded-at, padded-size}
 use Rattle.ranks.proofs.Ordering.{order-length, order-rule, order-place, order-once, order-lower}

@@ -1,6 +1,6 @@
 -- The ranks of rules, and an order in which every rule comes after those that it refers to (W-202).
 use mathlib.Core.Path.{_≡_}
-use mathlib.Core.List.{List, [], _∷_, _++_}
+use mathlib.Core.List.{List, [], _++_}
 use Prim.Native.Nat.{ℕ, zero, suc, _<_, min}
 use lib.Dec.{eqb}
 use lib.ListN.{length, getD, take, replicate}
@@ -40,11 +40,11 @@ orderIn words n = padded (byRank (rankIn words) (last n) (last n))
 -- ---- filling an order, place by place
 
 -- the places hold the list and are 0 past it; i is the next place
-pub record Lays (l places : List ℕ) (i : ℕ) : Type 0 where
+pub record Filled (l places : List ℕ) (i : ℕ) : Type 0 where
   pub size : length places ≡ 256
   pub next : i ≡ min (length l) 256
   pub same : (j : ℕ) → j < 256 → getD places j 0 ≡ getD l j 0
 
 -- whatever list the places held, they now hold that list and more
 pub record Appends (before : List ℕ) (i : ℕ) (more after : List ℕ) (j : ℕ) : Type 0 where
-  pub behind : (l : List ℕ) → Lays l before i → Lays (l ++ more) after j
+  pub behind : (l : List ℕ) → Filled l before i → Filled (l ++ more) after j

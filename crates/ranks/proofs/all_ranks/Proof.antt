@@ -1,5 +1,4 @@
 -- `ranks::all_ranks` meets its contract.
-use native.Mathlib.Omega.{arith}
 use Prim.Native.Nat.{_-_}
 use borrow.Author.Needs.{needs}
 use Rattle.ranks.proofs.Places.{Knowing, knowing-start, knowing-next, knowing-end}

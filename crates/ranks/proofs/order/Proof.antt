@@ -1,5 +1,4 @@
 -- `ranks::order` meets its contract.
-use native.Mathlib.Omega.{arith}
 use Prim.Native.Nat.{_-_}
 use borrow.Author.Needs.{needs}
 use Rattle.ranks.proofs.Places.{Ordering, ordering-start, ordering-next, ordering-end}

@@ -1,5 +1,4 @@
 -- `ranks::put_rank` meets its contract.
-use native.Mathlib.Omega.{arith}
 use Prim.Native.Nat.{_+_, _-_}
 use borrow.Author.Needs.{needs}
 use lib.Dec.{eqb}

@@ -2,16 +2,19 @@
 use mathlib.Core.Path.{_≡_, refl, sym, ap, _∙_}
 use mathlib.Core.Bool.{Bool, true, false, not, cond}
 use mathlib.Core.List.{List, [], _∷_, _++_, append-nil, append-assoc}
-use Prim.Native.Nat.{ℕ, zero, suc, _+_, _-_, _≤_, _<_, min}
+use Prim.Native.Nat.{ℕ, zero, suc, _+_, _-_, _≤_, _<_}
 use native.Mathlib.Omega.{arith}
 use native.Mathlib.Numerals.{add-one}
 use borrow.Author.Tests.{eqb-true, eqb-false, ltb-true, ltb-false, not-true, not-false}
 use lib.Dec.{ltb, eqb}
-use lib.ListN.{length, getD, set, take, replicate, length-append, length-take, length-set, length-replicate, getD-replicate, List·getD-append, List·getD-eq-default}
+use lib.ListN.{length, getD, set, replicate, length-append, length-take, length-set, length-replicate}
+use lib.ListN.{getD-replicate, List·getD-append, List·getD-eq-default}
 use lib.Seq.{getD-append-seam, getD-append-add, getD-set-same, getD-set-other, getD-take, ext-getD}
 use Rattle.numbers.specs.Numbers.{picked}
-use Rattle.numbers.proofs.Ranges.{pick-yes, pick-no, pick-same}
-use Rattle.circles.specs.Circles.{rankIn, RanksOf, byRank, last, padded, orderIn, Lays, Appends}
+use Rattle.numbers.proofs.Ranges.{pick-same}
+use Rattle.circles.specs.Circles.{last}
+use Rattle.ranks.specs.Ranks.{rankIn, RanksOf, byRank, padded, orderIn, Filled, Appends}
+use Rattle.ranks.proofs.Lists.{pick-last}
 
 -- ---- a list in 256 places
 
@@ -35,21 +38,23 @@ unfolding padded
 padded-size l =
     omega (arith, length-take 256 (l ++ replicate 256 0), length-append l (replicate 256 0), length-replicate {A = ℕ} 256 0)
 
-pub lays-none : Lays [] (replicate 256 0) 0
-lays-none = record { size = length-replicate {A = ℕ} 256 0; next = omega arith; same = λ j h. getD-replicate 256 j 0 0 h }
+filled-none : Filled [] (replicate 256 0) 0
+filled-none = record { size = length-replicate {A = ℕ} 256 0; next = omega arith; same = λ j h. getD-replicate 256 j 0 0 h }
 
-pub lays-padded : {l places : List ℕ} {i : ℕ} → Lays l places i → places ≡ padded l
-lays-padded {l} {places} v =
+filled-padded : {l places : List ℕ} {i : ℕ} → Filled l places i → places ≡ padded l
+filled-padded {l} {places} v =
     ext-getD 0 places (padded l) (v .size ∙ sym (padded-size l))
     (λ i h. let low : i < 256 = omega (arith, v .size) in v .same i low ∙ sym (padded-at l i low))
 
 -- ---- putting a rule behind a list
 
-pub appends-none : (before : List ℕ) (i : ℕ) → Appends before i [] before i
+appends-none : (before : List ℕ) (i : ℕ) → Appends before i [] before i
 appends-none before i = record { behind = λ l v. rw (append-nil l) v }
 
-pub appends-both : {before mid after more more′ : List ℕ} {i j k : ℕ} → Appends before i more mid j → Appends mid j more′ after k → Appends before i (more ++ more′) after k
-appends-both {more = more} {more′ = more′} p q = record { behind = λ l v. rw (append-assoc l more more′) at (q .behind (l ++ more) (p .behind l v)) }
+appends-both : {before mid after more more′ : List ℕ} {i j k : ℕ}
+    → Appends before i more mid j → Appends mid j more′ after k → Appends before i (more ++ more′) after k
+appends-both {more = more} {more′ = more′} p q =
+    record { behind = λ l v. rw (append-assoc l more more′) at (q .behind (l ++ more) (p .behind l v)) }
 
 module _ (before : List ℕ) (i a : ℕ) where
   -- there is no place left
@@ -68,7 +73,7 @@ module _ (before : List ℕ) (i a : ℕ) where
   stored : i < 256 → Appends before i (a ∷ []) (set before i a) (i + 1)
   stored h = record { behind = behind }
     where
-      behind : (l : List ℕ) → Lays l before i → Lays (l ++ a ∷ []) (set before i a) (i + 1)
+      behind : (l : List ℕ) → Filled l before i → Filled (l ++ a ∷ []) (set before i a) (i + 1)
       behind l v =
           record {
             size = length-set before i a ∙ v .size;
@@ -105,17 +110,6 @@ module _ (before : List ℕ) (i a : ℕ) where
 
 -- ---- the loop of `put_rank`: the rules below a of one rank are put
 
--- one number more
-pick-last : (p : ℕ → Bool) (m n : ℕ) → picked p n (suc m) ≡ picked p n m ++ cond (p (n + m)) ((n + m) ∷ []) []
-unfolding picked
-pick-last p zero n = let e : n + 0 ≡ n = omega arith in rw e
-pick-last p (suc m) n = go (p n) refl (pick-last p m (n + 1))
-  where
-    go : (b : Bool) → p n ≡ b → picked p (n + 1) (suc m) ≡ picked p (n + 1) m ++ cond (p (n + 1 + m)) ((n + 1 + m) ∷ []) []
-        → picked p n (suc (suc m)) ≡ picked p n (suc m) ++ cond (p (n + suc m)) ((n + suc m) ∷ []) []
-    go true e ih = let f : n + suc m ≡ n + 1 + m = omega arith in rw (e, f) (ap (λ (l : List ℕ). n ∷ l) ih)
-    go false e ih = let f : n + suc m ≡ n + 1 + m = omega arith in rw (e, f) ih
-
 pub record Putting (p : ℕ → Bool) (n : ℕ) (before : List ℕ) (i a : ℕ) (places : List ℕ) (next : ℕ) : Type 0 where
   pub some : 1 ≤ a
   pub few : a ≤ n + 1
@@ -126,7 +120,8 @@ unfolding picked
 putting-start p n before i = record { some = omega arith; few = omega arith; put = appends-none before i }
 
 module _ {p : ℕ → Bool} {n : ℕ} {before : List ℕ} {i a : ℕ} {places : List ℕ} {next : ℕ} (v : Putting p n before i a places next) where
-  pub putting-next : {places′ : List ℕ} {next′ : ℕ} → a ≤ n → Appends places next (cond (p a) (a ∷ []) []) places′ next′ → Putting p n before i (a + 1) places′ next′
+  pub putting-next : {places′ : List ℕ} {next′ : ℕ} → a ≤ n
+      → Appends places next (cond (p a) (a ∷ []) []) places′ next′ → Putting p n before i (a + 1) places′ next′
   putting-next h w =
       let e : a + 1 - 1 ≡ suc (a - 1) = omega (arith, v .some) in
       let f : 1 + (a - 1) ≡ a = omega (arith, v .some) in
@@ -175,13 +170,14 @@ by-rank-same f g n h (suc k) =
 module _ (all : List ℕ) (n : ℕ) where
   pub record Ordering (r : ℕ) (places : List ℕ) (next : ℕ) : Type 0 where
     pub few : r ≤ n
-    pub put : Lays (byRank (λ a. getD all a 0) n r) places next
+    pub put : Filled (byRank (λ a. getD all a 0) n r) places next
 
   pub ordering-start : {places : List ℕ} → places ≡ replicate 256 0 → Ordering 0 places 0
-  ordering-start e = record { few = omega arith; put = rw (by-rank-none (λ a. getD all a 0) n, e) lays-none }
+  ordering-start e = record { few = omega arith; put = rw (by-rank-none (λ a. getD all a 0) n, e) filled-none }
 
   module _ {r : ℕ} {places : List ℕ} {next : ℕ} (v : Ordering r places next) where
-    pub ordering-next : {places′ : List ℕ} {next′ : ℕ} → r < n → Appends places next (picked (λ a. eqb (getD all a 0) r) 1 n) places′ next′ → Ordering (r + 1) places′ next′
+    pub ordering-next : {places′ : List ℕ} {next′ : ℕ} → r < n
+        → Appends places next (picked (λ a. eqb (getD all a 0) r) 1 n) places′ next′ → Ordering (r + 1) places′ next′
     ordering-next h w =
         record { few = omega arith; put = rw (add-one r, by-rank-next (λ a. getD all a 0) n r) (w .behind _ (v .put)) }
 
@@ -189,5 +185,5 @@ module _ (all : List ℕ) (n : ℕ) where
     unfolding orderIn
     ordering-end ws m k e h =
         let f : r ≡ n = omega (arith, v .few) in
-        lays-padded (v .put)
+        filled-padded (v .put)
         ∙ rw (f, ← e) (ap padded (by-rank-same (λ a. getD all a 0) (rankIn ws) n (λ a l g. k .same a (omega arith)) n))

@@ -1,15 +1,11 @@
--- `circles::put_rank` meets its contract.
-use native.Mathlib.Omega.{arith}
+-- `ranks::put_rank` meets its contract.
 use Prim.Native.Nat.{_+_, _-_}
 use borrow.Author.Needs.{needs}
 use lib.Dec.{eqb}
 use lib.ListN.{getD}
-use Rattle.circles.proofs.Places.{Putting, putting-start, putting-next, putting-end}
-use Rattle.circles.proofs.put_rank.Statement.{statement}
-use Rattle.circles.proofs.put_rank.Tie as tie
-use Rattle.circles.proofs.put_rank.Reads as reads
-use Rattle.circles.proofs.put_rank.Lts as lts
-use Rattle.circles.proofs.put_if.Reads as put-if-reads
+use Rattle.ranks.proofs.Places.{Putting, putting-start, putting-next, putting-end}
+use Rattle.ranks.proofs.put_rank.Statement.{statement}
+use Rattle.ranks.proofs.put_rank.Tie as tie
 
 abbrev Inv-loop : tie.InvT-loop
 Inv-loop order₀ i ranks r n of next₀ a₀ order next a = Putting (λ x. eqb (getD ranks x 0) r) n order₀ i a order next

@@ -1,16 +1,9 @@
--- `circles::order` meets its contract.
-use native.Mathlib.Omega.{arith}
+-- `ranks::order` meets its contract.
 use Prim.Native.Nat.{_-_}
 use borrow.Author.Needs.{needs}
-use Rattle.circles.proofs.Places.{Ordering, ordering-start, ordering-next, ordering-end}
-use Rattle.circles.proofs.order.Statement.{statement}
-use Rattle.circles.proofs.order.Tie as tie
-use Rattle.circles.proofs.order.Reads as reads
-use Rattle.circles.proofs.order.Lts as lts
-use Rattle.circles.proofs.all_ranks.Reads as all-ranks-reads
-use Rattle.circles.proofs.last_rule.Reads as last-rule-reads
-use Rattle.circles.proofs.put_rank.Reads as put-rank-reads
-use Rattle.circles.proofs.zeros.Reads as zeros-reads
+use Rattle.ranks.proofs.Places.{Ordering, ordering-start, ordering-next, ordering-end}
+use Rattle.ranks.proofs.order.Statement.{statement}
+use Rattle.ranks.proofs.order.Tie as tie
 
 abbrev Inv-loop : tie.InvT-loop
 Inv-loop map n end all order₀ next₀ r₀ order next r = Ordering all end r order next

@@ -1,14 +1,9 @@
--- `circles::all_ranks` meets its contract.
-use native.Mathlib.Omega.{arith}
+-- `ranks::all_ranks` meets its contract.
 use Prim.Native.Nat.{_-_}
 use borrow.Author.Needs.{needs}
-use Rattle.circles.proofs.Places.{Knowing, knowing-start, knowing-next, knowing-end}
-use Rattle.circles.proofs.all_ranks.Statement.{statement}
-use Rattle.circles.proofs.all_ranks.Tie as tie
-use Rattle.circles.proofs.all_ranks.Reads as reads
-use Rattle.circles.proofs.all_ranks.Lts as lts
-use Rattle.circles.proofs.rank.Reads as rank-reads
-use Rattle.circles.proofs.zeros.Reads as zeros-reads
+use Rattle.ranks.proofs.Places.{Knowing, knowing-start, knowing-next, knowing-end}
+use Rattle.ranks.proofs.all_ranks.Statement.{statement}
+use Rattle.ranks.proofs.all_ranks.Tie as tie
 
 abbrev Inv-loop : tie.InvT-loop
 Inv-loop map all₀ a₀ all a = Knowing map a all

@@ -1,11 +1,9 @@
--- `circles::put_if` meets its contract.
+-- `ranks::put_if` meets its contract.
 use native.Mathlib.Omega.{arith}
-use Rattle.circles.proofs.Places.{put-unwanted, put-full, put-stored}
+use Rattle.ranks.proofs.Places.{put-unwanted, put-full, put-stored}
 use borrow.Author.Needs.{needs}
-use Rattle.circles.proofs.put_if.Statement.{statement}
-use Rattle.circles.proofs.put_if.Tie as tie
-use Rattle.circles.proofs.put_if.Reads as reads
-use Rattle.circles.proofs.put_if.Lts as lts
+use Rattle.ranks.proofs.put_if.Statement.{statement}
+use Rattle.ranks.proofs.put_if.Tie as tie
 
 returns : tie.Need-returns
 returns c = put-unwanted _ _ _ (c .before .args .wanted) (c .if1 .taken)

@@ -1,5 +1,4 @@
 -- `stored::scalar_of` meets its contract.
-use borrow.Author.Needs.{needs}
 use borrow.Author.Tests.{eq-eqb, ne-eqb}
 use Rattle.stored.specs.Stored.{NUMBER, FALSE, TRUE, scalarOf}
 use Rattle.stored.proofs.scalar_of.Statement.{statement}

@@ -27,7 +27,7 @@ returns-2 : tie.Need-returns-2
 returns-2 c =
     let a = c .before .before .before .before .before .args in
     let k = c .before .before .before .lowest-answer in
-    missing (a .checkbox) _ (searched-other (a .answers .now) (a .n) (k .result) (k .ensures .0) (c .if2 .taken))
+    missing (a .checkbox) _ (searched-other (a .answers .now) (a .n) (k .result) (k .ensures .0) (λ e. omega arith))
 
 mul-value : tie.Need-mul-value
 mul-value c = search needs
@@ -45,13 +45,13 @@ returns-3 : tie.Need-returns-3
 returns-3 c =
     let a = c .before .before .before .before .before .before .before .args in
     let k = c .before .before .before .before .before .lowest-answer in
-    truth (a .checkbox) _ _ (searched-own (a .answers .now) (a .n) (k .result) (k .ensures .0) (omega arith) (c .before .before .if2 .left)) (c .if3 .taken)
+    truth (a .checkbox) _ _ (searched-own (a .answers .now) (a .n) (k .result) (k .ensures .0) (omega arith) (omega arith)) (c .if3 .taken)
 
 returns-4 : tie.Need-returns-4
 returns-4 c =
     let a = c .before .before .before .before .before .before .before .args in
     let k = c .before .before .before .before .before .lowest-answer in
-    number (a .checkbox) _ _ (searched-own (a .answers .now) (a .n) (k .result) (k .ensures .0) (omega arith) (c .before .before .if2 .left)) (c .if3 .left)
+    number (a .checkbox) _ _ (searched-own (a .answers .now) (a .n) (k .result) (k .ensures .0) (omega arith) (omega arith)) (c .if3 .left)
 
 pub answer-value-spec : {M : Type 1} → statement M
 answer-value-spec =

@@ -2,7 +2,7 @@
 use Prim.Native.Nat.{ℕ, zero, suc, _+_, _-_, _*_, _≤_, _<_}
 use native.Mathlib.Omega.{arith}
 use native.Mathlib.Decide.{ℕ-discrete, decLt}
-use mathlib.Core.Path.{_≡_, refl, sym, ap, _∙_}
+use mathlib.Core.Path.{_≡_, refl, sym, ap, fun-ext, _∙_}
 use mathlib.Core.List.{List, [], _∷_}
 use mathlib.Core.Option.{none, some}
 use borrow.Author.Tests.{eq-eqb, ne-eqb}
@@ -106,6 +106,6 @@ module _ (answers : List ℕ) (ascending : Ascending answers) where
       go k e (yes h) (yes d) = searched-own answers n k e h d ∙ sym (saved-first answers n k h (λ j l x. omega (arith, own k j e (omega arith) x)) d)
 
   -- THE THEOREM: for ascending answers the code's questions answer what W-202 says
-  pub value-answered : (gotos checkboxes : List ℕ) (n : ℕ) → questionValue answers gotos checkboxes n ≡ answered answers gotos checkboxes n
+  pub value-answered : (gotos checkboxes : List ℕ) → questionValue answers gotos checkboxes ≡ answered answers gotos checkboxes
   unfolding questionValue answered
-  value-answered gotos checkboxes n = ap (byKind (used gotos n) (used checkboxes n)) (searched-saved n)
+  value-answered gotos checkboxes = fun-ext (λ n. ap (byKind (used gotos n) (used checkboxes n)) (searched-saved n))

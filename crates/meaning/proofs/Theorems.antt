@@ -9,9 +9,9 @@ use borrow.Author.Tests.{eqb-true}
 use lib.Dec.{eqb}
 use lib.ListN.{length}
 use Rattle.numbers.specs.Numbers.{mem}
-use Rattle.circles.specs.Circles.{rank}
-use Rattle.circles.proofs.Ranks.{NoCircle}
-use Rattle.circles.proofs.Ranks.{rank-falls}
+use Rattle.circles.specs.Circles.{NoCircle}
+use Rattle.ranks.specs.Ranks.{rank}
+use Rattle.ranks.proofs.Ranks.{rank-falls}
 use Rattle.operators.specs.declared.Scalar.{Scalar}
 use Rattle.operators.specs.declared.Scalar.the-variants.{Boolean, Number, Undefined}
 use Rattle.operators.specs.Values.{negated, found, constants}

@@ -1,7 +1,6 @@
 -- A map of steps: adding a step, and what the closed map says of the steps.
 use mathlib.Core.Path.{_≡_, refl, sym, ap, _∙_}
 use mathlib.Core.Bool.{Bool, true, false, _&&_, _||_, or-false, or-comm, or-assoc, and-true}
-use mathlib.Core.Logic.{_↔_}
 use mathlib.Core.List.{List, [], _∷_, _++_}
 use Prim.Native.Nat.{ℕ, zero, suc, _+_, _*_, _≤_, _<_}
 use native.Mathlib.Omega.{arith}
@@ -10,27 +9,20 @@ use lib.Dec.{ltb, eqb}
 use lib.ListN.{length}
 use Rattle.numbers.specs.Numbers.{emptyMap, used, withUsed, isNumber}
 use Rattle.numbers.proofs.Maps.{used-empty, used-marked, length-marked, holds-empty}
+use Rattle.numbers.proofs.Ranges.{and-yes}
 use Rattle.numbers.proofs.FreeNumbers.{is-number}
-use Rattle.circles.specs.Circles.{isRule, Step, leads, Circular, Within, closure, circular, hasStep, added, Maps, last, Closed, circularIn}
-use Rattle.circles.proofs.Reaching.{and-yes, circle-path, path-circle}
+use Rattle.circles.specs.Circles.{isRule, Step, leads, Within, closure, circular, hasStep, added, Maps, last, Closed, circularIn}
 
 -- ---- rule numbers
 
-pub is-rule : (n : ℕ) → 0 < n → n < 256 → isRule n ≡ true
+is-rule : (n : ℕ) → 0 < n → n < 256 → isRule n ≡ true
 is-rule n h l = rw (lt-ltb 0 n h, lt-ltb n 256 l)
 
 pub rule-range : (n : ℕ) → isRule n ≡ true → (0 < n) × (n < 256)
 rule-range n e = let z = and-yes (ltb 0 n) (ltb n 256) e in (ltb-true 0 n (z .0), ltb-true n 256 (z .1))
 
--- the tests of `add` and `circular`
-module _ (a b : ℕ) {p q : Bool} where
-  pub both : {t : Bool} → p ≡ isRule a → q ≡ isRule b → (p && q) ≡ t → (isRule a && isRule b) ≡ t
-  both e f g = rw (← e, ← f) g
-
-  pub both-low : p ≡ isRule a → q ≡ isRule b → (p && q) ≡ true → (a < 256) × (b < 256)
-  both-low e f g =
-      let z = and-yes (isRule a) (isRule b) (rw (← e, ← f) g) in
-      (rule-range a (z .0) .1, rule-range b (z .1) .1)
+pub rules-low : (a b : ℕ) → (isRule a && isRule b) ≡ true → (a < 256) × (b < 256)
+rules-low a b e = let z = and-yes (isRule a) (isRule b) e in (rule-range a (z .0) .1, rule-range b (z .1) .1)
 
 -- ---- adding a step
 
@@ -77,7 +69,7 @@ module _ {ws : List ℕ} {l : List Step} (v : Maps ws l) (a b : ℕ) {now : List
   maps-kept f = rw (e ∙ sym (added-none ws a b f)) v
 
   -- a step between rules, in front of the others or behind them
-  pub maps-front : (isRule a && isRule b) ≡ true → Maps now (record { from = a; to = b } ∷ l)
+  maps-front : (isRule a && isRule b) ≡ true → Maps now (record { from = a; to = b } ∷ l)
   unfolding hasStep leads added
   maps-front f = record { size = ap length now-is ∙ length-marked ws (a * 256 + b) ∙ v .size; same = same }
     where
@@ -103,7 +95,8 @@ module _ {ws : List ℕ} {l : List Step} (v : Maps ws l) (a b : ℕ) {now : List
       let w = maps-front f in
       record {
         size = w .size;
-        same = λ x y h g. w .same x y h g ∙ rw (leads-append l (record { from = a; to = b } ∷ []) x y, or-false (eqb a x && eqb b y)) (or-comm (eqb a x && eqb b y) (leads l x y));
+        same = λ x y h g. w .same x y h g
+        ∙ rw (leads-append l (record { from = a; to = b } ∷ []) x y, or-false (eqb a x && eqb b y)) (or-comm (eqb a x && eqb b y) (leads l x y));
       }
 
 -- ---- the closed map
@@ -130,7 +123,3 @@ module _ {ws : List ℕ} {l : List Step} {n : ℕ} {after : List ℕ} (v : Maps 
       let f = w .from a b e in
       let g = w .to a b e in
       rw (is-rule a (f .0) (omega (arith, w .few)), is-rule b (g .0) (omega (arith, w .few)), closed-steps b a (g .1) (omega (arith, w .few)))
-
-  pub circle-found : (a b : ℕ) → leads l a b ≡ true → (circularIn after a b ≡ true) ↔ Circular l a b
-  circle-found a b e =
-      (λ t. circle-path l n w a b (sym (closed-circular a b e) ∙ t), λ p. closed-circular a b e ∙ path-circle l n w p)

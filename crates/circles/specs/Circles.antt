@@ -1,11 +1,11 @@
--- Steps between rules, which of them stand on a circle (W-202, refusal 14), and an order of the rules without circles.
+-- Steps between rules, and which of them stand on a circle (W-202, refusal 14).
 use mathlib.Core.Path.{_≡_}
 use mathlib.Core.Bool.{Bool, true, false, cond, _&&_, _||_}
-use mathlib.Core.List.{List, [], _∷_, _++_}
+use mathlib.Core.List.{List, [], _∷_}
 use Prim.Native.Nat.{ℕ, zero, suc, _+_, _*_, _≤_, _<_, min}
 use lib.Dec.{ltb, eqb}
-use lib.ListN.{length, getD, take, replicate}
-use Rattle.numbers.specs.Numbers.{used, withUsed, picked}
+use lib.ListN.{length}
+use Rattle.numbers.specs.Numbers.{used, withUsed}
 
 -- ---- what is believed: steps, paths and circles
 
@@ -57,15 +57,6 @@ closure r (suc k) a b = closure r k a b || closure r k a k && closure r k k b
 unfoldable pub circular : List Step → ℕ → ℕ → ℕ → Bool
 circular l n a b = eqb a b || closure (leads l) (suc n) b a
 
--- how many rules the rule a reaches by one or more steps between rules up to n
-unfoldable pub rank : List Step → ℕ → ℕ → ℕ
-rank l n a = length (picked (closure (leads l) (suc n) a) 0 256)
-
--- the rules 1 to n of rank below k, by rising rank, those of one rank by number
-unfoldable pub byRank : (ℕ → ℕ) → ℕ → ℕ → List ℕ
-byRank ranks n zero = []
-byRank ranks n (suc k) = byRank ranks n k ++ picked (λ a. eqb (ranks a) k) 1 n
-
 -- ---- the map of steps: row a is the numbers 256 a to 256 a + 255 of a map of `numbers`
 
 -- the map has a step from a to b
@@ -109,32 +100,3 @@ pub record Closed (words : List ℕ) (n : ℕ) (after : List ℕ) : Type 0 where
 -- the step from a to b stands on a circle; what is no rule number stands on none
 unfoldable pub circularIn : List ℕ → ℕ → ℕ → Bool
 circularIn words a b = isRule a && isRule b && (eqb a b || hasStep words b a)
-
--- how many rules the rule a reaches; what is above 255 reaches none
-unfoldable pub rankIn : List ℕ → ℕ → ℕ
-rankIn words a = length (picked (hasStep words a) 0 256)
-
--- the ranks of the rule numbers 0 to 255
-pub record RanksOf (words ranks : List ℕ) : Type 0 where
-  pub size : length ranks ≡ 256
-  pub same : (a : ℕ) → a < 256 → getD ranks a 0 ≡ rankIn words a
-
--- the 256 numbers that begin with the list, and are 0 past it
-unfoldable pub padded : List ℕ → List ℕ
-padded l = take 256 (l ++ replicate 256 0)
-
--- the order of the rules 1 to n, and then 0
-unfoldable pub orderIn : List ℕ → ℕ → List ℕ
-orderIn words n = padded (byRank (rankIn words) (last n) (last n))
-
--- ---- filling an order, place by place
-
--- the places hold the list and are 0 past it; i is the next place
-pub record Lays (l places : List ℕ) (i : ℕ) : Type 0 where
-  pub size : length places ≡ 256
-  pub next : i ≡ min (length l) 256
-  pub same : (j : ℕ) → j < 256 → getD places j 0 ≡ getD l j 0
-
--- whatever list the places held, they now hold that list and more
-pub record Appends (before : List ℕ) (i : ℕ) (more after : List ℕ) (j : ℕ) : Type 0 where
-  pub behind : (l : List ℕ) → Lays l before i → Lays (l ++ more) after j

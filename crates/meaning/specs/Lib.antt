@@ -1,3 +1,4 @@
--- What an expression is worth.
+-- What an expression means, what it refers to, and what a form set's rules are worth.
 pub mod Meaning
-pub mod RuleValues
+pub mod References
+pub mod Rules

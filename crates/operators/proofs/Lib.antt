@@ -1,6 +1,7 @@
--- The laws of `worth`. The layers above use Ranges: values stay within 64 bits.
-pub mod Products
-pub mod Divisions
-pub mod Tables
+-- W-202's sentences about operators and constants.
+pub mod Theorems
+-- Values stay within 64 bits: for the layers above.
 pub mod Ranges
-pub mod Examples
+-- What these and the functions rest on; it serves here alone.
+mod Tables
+mod Arithmetic

@@ -1,13 +1,15 @@
 -- Operators make numbers of 64 bits of such, and constants are such.
 use mathlib.Core.Bool.{Bool, true, false, not, cond}
 use mathlib.Core.List.{List, [], _∷_}
-use Prim.Native.Nat.{ℕ, _+_, _-_, _*_, _%_, _^_, _≤_, _<_}
+use Prim.Native.Nat.{ℕ, _+_, _-_, _*_, _^_, _≤_, _<_}
 use native.Mathlib.Nat.{mod-lt, mod-le, div-le-self, lt-of-le-of-lt}
 use native.Mathlib.Omega.{arith}
 use lib.Dec.{eqb, ltb}
 use lib.Pow.{pow-pos, ones-lt, shr-le}
 use lib.Bits.{or-lt, and-lt}
-use Rattle.operators.specs.Values.{Operation, nothing, operations, operationOf, found, applied, combined, negated, logic, equality, order, arithmetic, division, constants, constantOf, sum, difference, product, shiftedLeft, shiftedRight, divided}
+use Rattle.operators.specs.Values.{Operation, logic, numeric, order, equality, noOperation, operations, operationOf, found}
+use Rattle.operators.specs.Values.{applied, combined, negated, constants, constantOf}
+use Rattle.operators.specs.Values.{low, sum, difference, product, shiftedLeft, shiftedRight, divided}
 use Rattle.operators.specs.Range.{InRange}
 use Rattle.operators.specs.declared.Scalar.{Scalar}
 use Rattle.operators.specs.declared.Scalar.the-variants.{Boolean, Number, Undefined}
@@ -41,55 +43,54 @@ logic-keeps = record { of-booleans = λ a b. tt; of-numbers = λ a b h k. tt }
 equality-keeps : (f : Bool → Bool) → Keeps (equality f)
 equality-keeps f = record { of-booleans = λ a b. tt; of-numbers = λ a b h k. tt }
 
+numeric-keeps : {f : ℕ → ℕ → Scalar} → ((a b : ℕ) → a < 2 ^ 64 → b < 2 ^ 64 → InRange (f a b)) → Keeps (numeric f)
+numeric-keeps g = record { of-booleans = λ a b. tt; of-numbers = g }
+
 order-keeps : {f : ℕ → ℕ → Bool} → Keeps (order f)
-order-keeps = record { of-booleans = λ a b. tt; of-numbers = λ a b h k. tt }
+order-keeps = numeric-keeps (λ a b h k. tt)
 
-arithmetic-keeps : {f : ℕ → ℕ → ℕ} → ((a b : ℕ) → a < 2 ^ 64 → b < 2 ^ 64 → f a b < 2 ^ 64) → Keeps (arithmetic f)
-arithmetic-keeps g = record { of-booleans = λ a b. tt; of-numbers = g }
-
-division-keeps : {f : ℕ → ℕ → ℕ} → ((a b : ℕ) → f a b ≤ a) → Keeps (division f)
+division-keeps : {f : ℕ → ℕ → ℕ} → ((a b : ℕ) → f a b ≤ a) → Keeps (numeric (divided f))
 unfolding divided
-division-keeps g =
-    record {
-      of-booleans = λ a b. tt;
-      of-numbers = λ a b h k. cond-holds InRange (eqb b 0) tt (lt-of-le-of-lt (g a b) h);
-    }
+division-keeps g = numeric-keeps (λ a b h k. cond-holds InRange (eqb b 0) tt (lt-of-le-of-lt (g a b) h))
 
-low : (n : ℕ) → n % 2 ^ 64 < 2 ^ 64
-low n = mod-lt n (pow-pos 64)
+low-fits : (n : ℕ) → low n < 2 ^ 64
+low-fits n = mod-lt n (pow-pos 64)
 
-left-keeps : (a n : ℕ) → a < 2 ^ 64 → n < 2 ^ 64 → shiftedLeft a n < 2 ^ 64
+left-fits : (a n : ℕ) → shiftedLeft a n < 2 ^ 64
 unfolding shiftedLeft
-left-keeps a n h k = cond-holds (λ (r : ℕ). r < 2 ^ 64) (ltb n 64) (low (a * 2 ^ n)) (pow-pos 64)
+left-fits a n = cond-holds (λ (r : ℕ). r < 2 ^ 64) (ltb n 64) (low-fits (a * 2 ^ n)) (pow-pos 64)
 
-right-keeps : (a n : ℕ) → a < 2 ^ 64 → n < 2 ^ 64 → shiftedRight a n < 2 ^ 64
+right-fits : (a n : ℕ) → a < 2 ^ 64 → shiftedRight a n < 2 ^ 64
 unfolding shiftedRight
-right-keeps a n h k = cond-holds (λ (r : ℕ). r < 2 ^ 64) (ltb n 64) (lt-of-le-of-lt (shr-le a n) h) (pow-pos 64)
+right-fits a n h = cond-holds (λ (r : ℕ). r < 2 ^ 64) (ltb n 64) (lt-of-le-of-lt (shr-le a n) h) (pow-pos 64)
 
 operations-keep : Each Keeps operations
 unfolding operations sum difference product
 operations-keep =
     logic-keeps
     & logic-keeps
-    & arithmetic-keeps (or-lt 64)
-    & arithmetic-keeps (and-lt 64)
+    & numeric-keeps (or-lt 64)
+    & numeric-keeps (and-lt 64)
     & equality-keeps (λ same. same)
     & equality-keeps not
     & order-keeps
     & order-keeps
     & order-keeps
     & order-keeps
-    & arithmetic-keeps left-keeps
-    & arithmetic-keeps right-keeps
-    & arithmetic-keeps (λ a b h k. low (a + b))
-    & arithmetic-keeps (λ a b h k. low (a + 2 ^ 64 - b))
-    & arithmetic-keeps (λ a b h k. low (a * b))
+    & numeric-keeps (λ a n h k. left-fits a n)
+    & numeric-keeps (λ a n h k. right-fits a n h)
+    & numeric-keeps (λ a b h k. low-fits (a + b))
+    & numeric-keeps (λ a b h k. low-fits (a + 2 ^ 64 - b))
+    & numeric-keeps (λ a b h k. low-fits (a * b))
     & division-keeps div-le-self
     & division-keeps mod-le
     & end
 
+none-keeps : Keeps noOperation
+none-keeps = record { of-booleans = λ a b. tt; of-numbers = λ a b h k. tt }
+
 operation-keeps : (c : ℕ) → Keeps (operationOf c)
-operation-keeps c = found-holds Keeps nothing operations c (record { of-booleans = λ a b. tt; of-numbers = λ a b h k. tt }) operations-keep
+operation-keeps c = found-holds Keeps noOperation operations c none-keeps operations-keep
 
 applied-in-range : (o : Operation) → Keeps o → (l r : Scalar) → InRange l → InRange r → InRange (applied o l r)
 unfolding applied

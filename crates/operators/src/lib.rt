@@ -16,11 +16,12 @@ pub enum Scalar {
 // 2^32: a number of 64 bits has a lower and an upper half below it.
 const HALF: u64 = 4294967296;
 
-// How many bits a number has.
+// How many bits a number has: a shift by so many or more leaves none.
 const BITS: u64 = 64;
 
-// The low 64 bits of a * b, by halves of 32 bits: the product of the upper halves counts 2^64 times, and of the
-// products of an upper and a lower half, which count 2^32 times, only the low 32 bits are left.
+// The program's own wrapping multiply (document 01, "The shape of some places"): the low 64 bits of a * b.
+// By halves of 32 bits: the product of the upper halves counts 2^64 times, so nothing of it is left; of the products of
+// an upper and a lower half, which count 2^32 times, the low 32 bits are.
 pub fn wrapping_mul(a: u64, b: u64) -> u64
     ensures { λ r. ⌜ r ≡ a * b % 2 ^ 64 ⌝ }
 {
@@ -51,7 +52,7 @@ fn quotient(a: u64, b: u64) -> Scalar
     ensures { λ w. ⌜ w ≡ divided _/_ a b ⌝ }
 {
     if b == 0 {
-        return Scalar::Undefined;
+        return Scalar::Undefined; // a / 0
     }
     let q = a / b;
     Scalar::Number(q)
@@ -62,7 +63,7 @@ fn remainder(a: u64, b: u64) -> Scalar
     ensures { λ w. ⌜ w ≡ divided _%_ a b ⌝ }
 {
     if b == 0 {
-        return Scalar::Undefined;
+        return Scalar::Undefined; // a % 0
     }
     let m = a % b;
     Scalar::Number(m)
@@ -81,7 +82,7 @@ fn of_booleans(code: u64, a: bool, b: bool) -> Scalar
     }
 }
 
-// What an operator makes of two numbers: bits, equality, order, shifts and arithmetic.
+// What an operator makes of two numbers: bits, equality, order, shifts and arithmetic, with wrapping add, subtract and multiply.
 fn of_numbers(code: u64, a: u64, b: u64) -> Scalar
     ensures { λ w. ⌜ w ≡ operationOf code .numbers a b ⌝ }
 {
@@ -113,7 +114,7 @@ pub fn combine(code: u64, l: Scalar, r: Scalar) -> Scalar
         Scalar::Boolean(a) => match r {
             Scalar::Boolean(b) => of_booleans(code, a, b),
             Scalar::Number(_) => Scalar::Undefined,
-            Scalar::Undefined => Scalar::Undefined,
+            Scalar::Undefined => Scalar::Undefined, // `TRUE OR UNDEFINED` too
         },
         Scalar::Number(a) => match r {
             Scalar::Boolean(_) => Scalar::Undefined,

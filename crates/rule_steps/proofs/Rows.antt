@@ -4,7 +4,7 @@ use mathlib.Core.Path.{_≡_, refl, sym, _∙_}
 use mathlib.Core.Bool.{Bool, true, false, cond, not, _&&_}
 use mathlib.Core.List.{List, [], _∷_}
 use native.Mathlib.Omega.{arith}
-use borrow.Author.Tests.{ne-eqb}
+use borrow.Author.Tests.{ne-eqb, not-true, not-false}
 use lib.ListN.{getD}
 use Rattle.rows.specs.Codes as code
 use Rattle.rows.specs.Columns as column
@@ -53,21 +53,13 @@ module _ (t : List ℕ) (n : ℕ) (r : List ℕ) {k : ℕ} (e : k ≡ getD r col
 
 -- ---- its step
 
--- the greater of two rule numbers, by the tests of the code
-module _ (a b : ℕ) {p q : Bool} (e : p ≡ isRule a) (f : q ≡ isRule b) where
-  pub greater-none : not (p && q) ≡ true → 0 ≡ cond (isRule a && isRule b) (max a b) 0
-  greater-none h = rw (← e, ← f) (go (p && q) h)
-    where
-      go : (t : Bool) → not t ≡ true → 0 ≡ cond t (max a b) 0
-      go true i = absurd (let z : _≡_ {A = ℕ} 0 1 = cc in omega arith)
-      go false i = refl
+-- the greater of two rule numbers, by the test of the code
+module _ (a b : ℕ) {t : Bool} (e : t ≡ (isRule a && isRule b)) where
+  pub greater-none : not t ≡ true → 0 ≡ cond (isRule a && isRule b) (max a b) 0
+  greater-none h = rw (← e, not-true t h)
 
-  pub greater-both : not (p && q) ≡ false → max a b ≡ cond (isRule a && isRule b) (max a b) 0
-  greater-both h = rw (← e, ← f) (go (p && q) h)
-    where
-      go : (t : Bool) → not t ≡ false → max a b ≡ cond t (max a b) 0
-      go true i = refl
-      go false i = absurd (let z : _≡_ {A = ℕ} 0 1 = cc in omega arith)
+  pub greater-both : not t ≡ false → max a b ≡ cond (isRule a && isRule b) (max a b) 0
+  greater-both h = rw (← e, not-false t h)
 
 module _ (rows : List (List ℕ)) (r : List ℕ) {a b : ℕ} (e : a ≡ ruleRound rows r) (f : b ≡ ruleFound rows r) where
   pub step-added : (words : List ℕ) {now : List ℕ} → now ≡ added words a b → now ≡ allAdded words (stepIn rows r)

@@ -9,7 +9,8 @@ use borrow.Author.Tests.{eqb-true}
 use lib.Dec.{eqb}
 use Rattle.numbers.specs.Numbers.{emptyMap}
 use Rattle.circles.specs.Circles.{isRule, Step, leads, Within, Maps}
-use Rattle.circles.proofs.Reaching.{and-yes, or-yes}
+use Rattle.numbers.proofs.Ranges.{and-yes}
+use Rattle.circles.proofs.Reaching.{or-yes}
 use Rattle.circles.proofs.Steps.{rule-range, maps-empty, maps-behind}
 use Rattle.rule_steps.specs.Steps.{ruleRound, ruleFound, isStep, stepIn, stepsAmong, ruleSteps, greatest, allAdded}
 

@@ -6,7 +6,7 @@ ghost use Rattle.rows.specs.Table.{rowAt};
 ghost use Rattle.rows.specs.Rows.{rowsFrom};
 ghost use Rattle.circles.specs.Circles.{isRule};
 ghost use Rattle.rule_steps.specs.Steps.{ruleRound, stepAt, tableSteps, allAdded, greatest};
-use circles::is_rule;
+use circles::are_rules;
 use numbers::Map;
 use rows::cell;
 use rows::codes;
@@ -43,7 +43,7 @@ fn greater(a: u64, b: u64) -> u64
 fn greater_rule(a: u64, b: u64) -> u64
     ensures { λ r. ⌜ r ≡ cond (isRule a && isRule b) (max a b) 0 ⌝ }
 {
-    if !(is_rule(a) & is_rule(b)) {
+    if !are_rules(a, b) {
         return 0;
     }
     greater(a, b)

@@ -1,8 +1,8 @@
 -- `combine` meets its contract, sort by sort.
-use mathlib.Core.Path.{sym, ap, ap₂, _∙_}
+use mathlib.Core.Path.{refl, _∙_}
 use borrow.Author.Needs.{needs}
-use Rattle.operators.specs.Values.{applied, combined}
-use Rattle.operators.specs.declared.Scalar.{Scalar}
+use Rattle.operators.specs.Values.{applied}
+use Rattle.operators.proofs.Tables.{combined-of}
 use Rattle.operators.proofs.combine.Statement.{statement}
 use Rattle.operators.proofs.combine.Tie as tie
 
@@ -42,44 +42,44 @@ enum-told-5 c = search needs
 returns : tie.Need-returns
 unfolding applied
 returns c =
-    let s = c .before .before .before .before .before .before .before in
-    c .of-booleans .ensures ∙ sym (ap₂ (combined (s .args .code)) (c .before .before .before .before .before .l .given .1) (c .before .before .r .given .1))
+    let right = c .before .before in
+    let left = right .before .before .before in
+    c .of-booleans .ensures ∙ combined-of (left .before .before .args .code) (left .l .given .1) (right .r .given .1)
 
 returns-2 : tie.Need-returns-2
 unfolding applied
 returns-2 c =
-    let s = c .before .before .before .before .before in
-    sym (ap₂ (combined (s .args .code)) (c .before .before .before .l .given .1) (c .enum-told .given .1))
+    let left = c .before .before .before in
+    combined-of (left .before .before .args .code) (left .l .given .1) (c .enum-told .given .1)
 
 returns-3 : tie.Need-returns-3
 unfolding applied
 returns-3 c =
-    let s = c .before .before .before .before .before in
-    sym (ap₂ (combined (s .args .code)) (c .before .before .before .l .given .1) (c .enum-told2 .given .1))
+    let left = c .before .before .before in
+    combined-of (left .before .before .args .code) (left .l .given .1) (c .enum-told2 .given .1)
 
 returns-4 : tie.Need-returns-4
 unfolding applied
 returns-4 c =
-    let s = c .before .before .before .before .before in
-    sym (ap₂ (combined (s .args .code)) (c .before .before .before .l2 .given .1) (c .enum-told3 .given .1))
+    let left = c .before .before .before in
+    combined-of (left .before .before .args .code) (left .l2 .given .1) (c .enum-told3 .given .1)
 
 returns-5 : tie.Need-returns-5
 unfolding applied
 returns-5 c =
-    let s = c .before .before .before .before .before .before .before in
-    c .of-numbers .ensures ∙ sym (ap₂ (combined (s .args .code)) (c .before .before .before .before .before .l2 .given .1) (c .before .before .r2 .given .1))
+    let right = c .before .before in
+    let left = right .before .before .before in
+    c .of-numbers .ensures ∙ combined-of (left .before .before .args .code) (left .l2 .given .1) (right .r2 .given .1)
 
 returns-6 : tie.Need-returns-6
 unfolding applied
 returns-6 c =
-    let s = c .before .before .before .before .before in
-    sym (ap₂ (combined (s .args .code)) (c .before .before .before .l2 .given .1) (c .enum-told4 .given .1))
+    let left = c .before .before .before in
+    combined-of (left .before .before .args .code) (left .l2 .given .1) (c .enum-told4 .given .1)
 
 returns-7 : tie.Need-returns-7
 unfolding applied
-returns-7 c =
-    let s = c .before .before in
-    ap (λ (w : Scalar). combined (s .args .code) w (s .args .r)) (sym (c .enum-told5 .given .1))
+returns-7 c = let s = c .before .before .args in combined-of (s .code) (c .enum-told5 .given .1) refl
 
 pub combine-spec : {M : Type 1} → statement M
 combine-spec =

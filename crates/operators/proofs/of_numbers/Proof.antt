@@ -4,7 +4,7 @@ use native.Mathlib.Omega.{arith}
 use borrow.Author.Needs.{needs}
 use Rattle.operators.specs.Values.{found, operations, sum, product}
 use Rattle.operators.specs.declared.Scalar.the-variants.{Number}
-use Rattle.operators.proofs.Divisions.{difference-is}
+use Rattle.operators.proofs.Arithmetic.{difference-is}
 use Rattle.operators.proofs.Tables.{numbers-at, no-numbers}
 use Rattle.operators.proofs.of_numbers.Statement.{statement}
 use Rattle.operators.proofs.of_numbers.Tie as tie
@@ -32,80 +32,82 @@ remainder-requires c κs = search needs
 
 returns : tie.Need-returns
 unfolding found operations
-returns c = numbers-at (c .match .keys1) (c .before .args .a) (c .before .args .b)
+returns c = let s = c .before .args in numbers-at (c .match .keys1) (s .a) (s .b)
 
 returns-2 : tie.Need-returns-2
 unfolding found operations
-returns-2 c = numbers-at (c .match .keys2) (c .before .args .a) (c .before .args .b)
+returns-2 c = let s = c .before .args in numbers-at (c .match .keys2) (s .a) (s .b)
 
 returns-3 : tie.Need-returns-3
 unfolding found operations
-returns-3 c = numbers-at (c .match .keys3) (c .before .args .a) (c .before .args .b)
+returns-3 c = let s = c .before .args in numbers-at (c .match .keys3) (s .a) (s .b)
 
 returns-4 : tie.Need-returns-4
 unfolding found operations
-returns-4 c = numbers-at (c .match .keys4) (c .before .args .a) (c .before .args .b)
+returns-4 c = let s = c .before .args in numbers-at (c .match .keys4) (s .a) (s .b)
 
 returns-5 : tie.Need-returns-5
 unfolding found operations
-returns-5 c = numbers-at (c .match .keys5) (c .before .args .a) (c .before .args .b)
+returns-5 c = let s = c .before .args in numbers-at (c .match .keys5) (s .a) (s .b)
 
 returns-6 : tie.Need-returns-6
 unfolding found operations
-returns-6 c = numbers-at (c .match .keys6) (c .before .args .a) (c .before .args .b)
+returns-6 c = let s = c .before .args in numbers-at (c .match .keys6) (s .a) (s .b)
 
 returns-7 : tie.Need-returns-7
 unfolding found operations
-returns-7 c = numbers-at (c .match .keys7) (c .before .args .a) (c .before .args .b)
+returns-7 c = let s = c .before .args in numbers-at (c .match .keys7) (s .a) (s .b)
 
 returns-8 : tie.Need-returns-8
 unfolding found operations
-returns-8 c = numbers-at (c .match .keys8) (c .before .args .a) (c .before .args .b)
+returns-8 c = let s = c .before .args in numbers-at (c .match .keys8) (s .a) (s .b)
 
 returns-9 : tie.Need-returns-9
 unfolding found operations
 returns-9 c =
-    let s = c .before .before in
-    ap Number (c .shift-left .ensures) ∙ numbers-at (c .before .match .keys9) (s .args .a) (s .args .b)
+    let s = c .before .before .args in
+    ap Number (c .shift-left .ensures) ∙ numbers-at (c .before .match .keys9) (s .a) (s .b)
 
 returns-10 : tie.Need-returns-10
 unfolding found operations
 returns-10 c =
-    let s = c .before .before in
-    ap Number (c .shift-right .ensures) ∙ numbers-at (c .before .match .keys10) (s .args .a) (s .args .b)
+    let s = c .before .before .args in
+    ap Number (c .shift-right .ensures) ∙ numbers-at (c .before .match .keys10) (s .a) (s .b)
 
 returns-11 : tie.Need-returns-11
 unfolding found operations sum
 returns-11 c =
-    let s = c .before .before in
-    ap Number (c .wrapping-add-u64 .ensures) ∙ numbers-at (c .before .match .keys11) (s .args .a) (s .args .b)
+    let s = c .before .before .args in
+    ap Number (c .wrapping-add-u64 .ensures) ∙ numbers-at (c .before .match .keys11) (s .a) (s .b)
 
 returns-12 : tie.Need-returns-12
 unfolding found operations
 returns-12 c =
-    let s = c .before .before in
-    ap Number (difference-is (s .args .a) (s .args .b) (c .wrapping-sub-u64 .result) (omega arith) (omega arith) (c .wrapping-sub-u64 .ensures)) ∙ numbers-at (c .before .match .keys12) (s .args .a) (s .args .b)
+    let s = c .before .before .args in
+    let d = c .wrapping-sub-u64 in
+    ap Number (difference-is (s .a) (s .b) (d .result) (omega arith) (omega arith) (d .ensures))
+    ∙ numbers-at (c .before .match .keys12) (s .a) (s .b)
 
 returns-13 : tie.Need-returns-13
 unfolding found operations product
 returns-13 c =
-    let s = c .before .before in
-    ap Number (c .wrapping-mul .ensures) ∙ numbers-at (c .before .match .keys13) (s .args .a) (s .args .b)
+    let s = c .before .before .args in
+    ap Number (c .wrapping-mul .ensures) ∙ numbers-at (c .before .match .keys13) (s .a) (s .b)
 
 returns-14 : tie.Need-returns-14
 unfolding found operations
 returns-14 c =
-    let s = c .before .before in
-    c .quotient .ensures ∙ numbers-at (c .before .match .keys14) (s .args .a) (s .args .b)
+    let s = c .before .before .args in
+    c .quotient .ensures ∙ numbers-at (c .before .match .keys14) (s .a) (s .b)
 
 returns-15 : tie.Need-returns-15
 unfolding found operations
 returns-15 c =
-    let s = c .before .before in
-    c .remainder .ensures ∙ numbers-at (c .before .match .keys15) (s .args .a) (s .args .b)
+    let s = c .before .before .args in
+    c .remainder .ensures ∙ numbers-at (c .before .match .keys15) (s .a) (s .b)
 
 returns-16 : tie.Need-returns-16
-returns-16 c = sym (no-numbers (c .before .args .code) (c .before .args .a) (c .before .args .b) (c .match .rest))
+returns-16 c = let s = c .before .args in sym (no-numbers (s .code) (s .a) (s .b) (c .match .rest))
 
 pub of-numbers-spec : {M : Type 1} → statement M
 of-numbers-spec =

@@ -1,7 +1,7 @@
 -- `wrapping_mul` meets its contract.
 use native.Mathlib.Omega.{arith}
 use borrow.Author.Needs.{needs}
-use Rattle.operators.proofs.Products.{halves-fit, low-product}
+use Rattle.operators.proofs.Arithmetic.{halves-fit, product-by-halves}
 use Rattle.operators.proofs.wrapping_mul.Statement.{statement}
 use Rattle.operators.proofs.wrapping_mul.Tie as tie
 
@@ -25,9 +25,10 @@ wrapping-add-u64-requires-2 c κs = search needs
 
 returns : tie.Need-returns
 returns c =
-    let s = c .before .before .args in
-    low-product (s .a) (s .b) (c .before .wrapping-add-u64 .result) (c .wrapping-add-u642 .result)
-    (c .before .wrapping-add-u64 .ensures) (c .wrapping-add-u642 .ensures)
+    let args = c .before .before .args in
+    let cross = c .before .wrapping-add-u64 in
+    let all = c .wrapping-add-u642 in
+    product-by-halves (args .a) (args .b) (cross .result) (all .result) (cross .ensures) (all .ensures)
 
 pub wrapping-mul-spec : {M : Type 1} → statement M
 wrapping-mul-spec =

@@ -1,0 +1,70 @@
+-- What is believed of ranks and the order (W-202): without circles every rule comes after those that it refers to.
+use mathlib.Core.Path.{_≡_, refl, sym, ap, _∙_}
+use mathlib.Core.Bool.{Bool, true, false}
+use mathlib.Core.List.{List}
+use Prim.Native.Nat.{ℕ, _≤_, _<_}
+use native.Mathlib.Omega.{arith}
+use borrow.Author.Tests.{ltb-true, ltb-false}
+use lib.Dec.{ltb}
+use lib.ListN.{length, getD, List·getD-eq-default}
+use Rattle.circles.specs.Circles.{Step, leads, NoCircle, Within, Maps, last, Closed}
+use Rattle.ranks.specs.Ranks.{rank, byRank, rankIn, orderIn}
+use Rattle.ranks.proofs.Ranks.{rank-falls, rank-low, closed-rank}
+use Rattle.ranks.proofs.Places.{padded-at, padded-size}
+use Rattle.ranks.proofs.Ordering.{order-length, order-rule, order-place, order-once, order-lower}
+
+-- a list of steps without circles, and the closed map of its steps
+module _ {ws : List ℕ} {l : List Step} {n : ℕ} {after : List ℕ} (v : Maps ws l) (w : Within l n) (c : Closed ws n after) (free : NoCircle l) where
+  -- the rank falls with every reference
+  pub ranks-fall : (a b : ℕ) → leads l a b ≡ true → rankIn after b < rankIn after a
+  ranks-fall a b e = rw (closed-rank v w c a (w .from a b e .1), closed-rank v w c b (w .to a b e .1)) (rank-falls l n w free a b e)
+
+  -- n rules have ranks below n
+  pub ranks-low : (a : ℕ) → 0 < a → a ≤ n → rankIn after a < n
+  ranks-low a z h = rw (closed-rank v w c a h) (rank-low l n w free a z h)
+
+  -- ---- the order: 256 places
+
+  pub order-size : length (orderIn after n) ≡ 256
+  unfolding orderIn
+  order-size = padded-size _
+
+  in-order : (i : ℕ) → i < 256 → getD (orderIn after n) i 0 ≡ getD (byRank (rankIn after) n n) i 0
+  unfolding orderIn
+  in-order i h =
+      let e : last n ≡ n = omega (arith, w .few) in
+      padded-at (byRank (rankIn after) (last n) (last n)) i h ∙ rw e
+
+  -- at the first n places stand rules
+  pub rule-at : (i : ℕ) → i < n → (0 < getD (orderIn after n) i 0) × (getD (orderIn after n) i 0 ≤ n)
+  rule-at i h = rw (in-order i (omega (arith, w .few))) (order-rule (rankIn after) n ranks-low i h)
+
+  -- every rule at one of them
+  pub place-at : (a : ℕ) → 0 < a → a ≤ n → (i : ℕ) × (i < n) × (getD (orderIn after n) i 0 ≡ a)
+  place-at a z h =
+      let u = order-place (rankIn after) n ranks-low a z h in
+      (u .0, u .1, in-order (u .0) (omega (arith, w .few, u .1)) ∙ u .2)
+
+  -- and no rule at two
+  pub once-only : (i j : ℕ) → i < j → j < n → getD (orderIn after n) i 0 ≡ getD (orderIn after n) j 0 → ⊥
+  once-only i j h g e =
+      order-once (rankIn after) n ranks-low i j h g
+      (sym (in-order i (omega (arith, w .few))) ∙ e ∙ in-order j (omega (arith, w .few)))
+
+  -- past them stands 0
+  pub zero-past : (i : ℕ) → n ≤ i → getD (orderIn after n) i 0 ≡ 0
+  zero-past i h = go (ltb i 256) refl
+    where
+      go : (t : Bool) → ltb i 256 ≡ t → getD (orderIn after n) i 0 ≡ 0
+      go true t =
+          in-order i (ltb-true i 256 t)
+          ∙ List·getD-eq-default (byRank (rankIn after) n n) 0 (omega (arith, order-length (rankIn after) n ranks-low))
+      go false t = List·getD-eq-default (orderIn after n) 0 (omega (arith, order-size, ltb-false i 256 t))
+
+  -- what a rule refers to stands before it
+  pub referred-before : (i b : ℕ) → i < n → leads l (getD (orderIn after n) i 0) b ≡ true → (j : ℕ) × (j < i) × (getD (orderIn after n) j 0 ≡ b)
+  referred-before i b h e =
+      let f = in-order i (omega (arith, w .few)) in
+      let g : leads l (getD (byRank (rankIn after) n n) i 0) b ≡ true = ap (λ (a : ℕ). leads l a b) (sym f) ∙ e in
+      let u = order-lower (rankIn after) n ranks-low i b h (w .to _ b g .0) (w .to _ b g .1) (ranks-fall _ b g) in
+      (u .0, u .1, in-order (u .0) (omega (arith, w .few, u .1)) ∙ u .2)

@@ -1,0 +1,4 @@
+-- What questions answer.
+pub mod Answers
+-- The same for answers that are searched by halves.
+pub mod Search

@@ -1,0 +1,2 @@
+-- Values kept in numbers.
+pub mod Stored

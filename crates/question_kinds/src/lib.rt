@@ -35,7 +35,13 @@ fn mark_row(table: &[u64], row: usize, gotos: &mut Map, checkboxes: &mut Map, qu
 }
 
 // Marks the numbers of the questions in the first `count` rows.
-pub fn mark_rows(table: &[u64], count: usize, gotos: &mut Map, checkboxes: &mut Map, questions: &mut Map)
+pub fn mark_rows(
+    table: &[u64],
+    count: usize,
+    gotos: &mut Map,
+    checkboxes: &mut Map,
+    questions: &mut Map,
+)
     ensures { λ _. ⌜ now (gotos .exit) ≡ withAllUsed (now (gotos .entry)) (tableOwns isGoto (now (table .entry)) count) ⌝ }
     ensures { λ _. ⌜ now (checkboxes .exit) ≡ withAllUsed (now (checkboxes .entry)) (tableOwns isCheckbox (now (table .entry)) count) ⌝ }
     ensures { λ _. ⌜ now (questions .exit) ≡ withAllUsed (now (questions .entry)) (tableOwns isQuestion (now (table .entry)) count) ⌝ }

@@ -7,8 +7,8 @@ ghost use lib.Dec.{eqb};
 ghost use lib.ListN.{getD, replicate};
 ghost use Rattle.numbers.specs.Numbers.{picked};
 ghost use Rattle.ranks.specs.Ranks.{rankIn, RanksOf, Appends, orderIn};
-use circles::RULES;
 use circles::ROW_WORDS;
+use circles::RULES;
 use numbers::Map;
 
 // How many rules, by a closed map, rule a reaches. Without circles a rule's operands have lower ranks than itself.

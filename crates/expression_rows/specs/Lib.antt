@@ -1,0 +1,2 @@
+-- The definitions that the contracts of `expression_rows` cite.
+pub mod Ends

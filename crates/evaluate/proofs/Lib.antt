@@ -5,3 +5,5 @@ mod MachineLaws
 mod StackLaws
 mod StepLaws
 mod CodeLaws
+-- Small expressions, computed.
+mod Examples

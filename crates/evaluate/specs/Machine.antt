@@ -33,11 +33,11 @@ pushed room v σ = cond (ltb (length σ) room) v Undefined ∷ σ
 
 -- ---- a row
 
--- whether it is an operator of two operands
+-- whether k is the code of an operator of two operands: it stands in the table of what they make of them
 unfoldable pub isBinary : ℕ → Bool
 isBinary k = code.member k (map (λ o. o .0) operations)
 
--- the stack after a row of code k: v is its value as an operand
+-- the stack after a row of code k, with v for its value if it is an operand
 unfoldable pub stepped : ℕ → ℕ → Scalar → List Scalar → List Scalar
 stepped room k v σ =
     cond (eqb k code.NOT) (pushed room (negated (top σ)) (under σ))

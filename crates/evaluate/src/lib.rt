@@ -21,7 +21,7 @@ use stored::value_at;
 
 // How many numbers the stack takes: two to a value, and room for 320 values. No expression of an accepted source
 // needs more than 298.
-pub const STACK: usize = 640;
+const STACK: usize = 640;
 
 // Whether a row of this code is an operator of two operands. Their codes are three runs of numbers.
 fn is_binary(code: u64) -> bool

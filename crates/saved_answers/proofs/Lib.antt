@@ -1,7 +1,9 @@
 -- What ascending answers say is found by halves.
 pub mod Theorems
--- How the search goes on, and how the code's tests come to what is answered.
+-- The walk over the answers; how the search goes on, and where it comes to among ascending answers; what is answered, by the code's tests.
+mod WalkLaws
 mod SearchLaws
+mod AscendingLaws
 mod KindLaws
 -- Small lists of answers, computed.
 mod Examples

@@ -1,5 +1,4 @@
--- What questions answer, by "a list of answers (two 64-bit words each, question number then value, ascending by number; an odd last word is an answer
--- out of order)" (document 02, W-202).
+-- What questions answer, by a list of saved answers (document 02, W-202).
 use Prim.Native.Nat.{ℕ, _+_, _*_, _/_, _<_}
 use mathlib.Core.Bool.{Bool, true, false, not, cond}
 use mathlib.Core.List.{List, [], _∷_}
@@ -10,7 +9,8 @@ use Rattle.numbers.specs.Numbers.{used}
 use Rattle.operators.specs.declared.Scalar.{Scalar}
 use Rattle.operators.specs.declared.Scalar.the-variants.{Boolean, Number, Undefined}
 
--- the value of the first answer for question n; none where no answer is for it
+-- "two 64-bit words each, question number then value": the value of the first answer for question n, none where no answer is for it; an odd last word
+-- is no answer
 unfoldable pub savedFor : ℕ → List ℕ → Option ℕ
 savedFor n (question ∷ value ∷ more) = cond (eqb question n) (some value) (savedFor n more)
 savedFor n (question ∷ []) = none

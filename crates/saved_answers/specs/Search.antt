@@ -12,8 +12,7 @@ use Rattle.saved_answers.specs.Answers.{byKind, count, questionOf, value
 abbrev pub middle : ℕ → ℕ → ℕ
 middle low high = low + (high - low) / 2
 
--- the first of the answers from low to before high that is for a number of n or more, high where there is none; fuel is enough
--- where high ≤ low + fuel
+-- of ascending answers from low to before high the first for a number of n or more, high where there is none; fuel is enough where high ≤ low + fuel
 unfoldable pub halved : List ℕ → ℕ → ℕ → ℕ → ℕ → ℕ
 halved answers n zero low high = low
 halved answers n (suc fuel) low high =

@@ -6,13 +6,13 @@ use operators::Scalar;
 
 // ---- the sorts
 
-pub const UNDEFINED: u64 = 0;
+const UNDEFINED: u64 = 0;
 
-pub const NUMBER: u64 = 1;
+const NUMBER: u64 = 1;
 
-pub const FALSE: u64 = 2;
+const FALSE: u64 = 2;
 
-pub const TRUE: u64 = 3;
+const TRUE: u64 = 3;
 
 // The sort of a value.
 fn sort_of(v: Scalar) -> u64

@@ -62,12 +62,12 @@ returns-2 c =
     let a = s .before .before .before .before .args in
     let pushed = c .before .before .push2 .ensures in
     let height = c .before .before .before .before .lowered3 .ensures in
-    let left = c .before .before .before .before .before .before .top-of3 .ensures in
-    let right = c .before .before .before .before .before .before .before .before .before .top-of2 .ensures in
+    let left = c .before .before .before .before .before .before .top-of3 in
+    let right = c .before .before .before .before .before .before .before .before .before .top-of2 in
     let under = c .before .before .before .before .before .before .before .lowered2 .ensures in (
       pushed .0
-          ∙ code-binary (a .stack .now) (a .height) (a .code) (a .v) _ _ _ _ _ _ (s .before .before .if1 .left) (s .if2 .taken) (s .before .is-binary .ensures)
-          (c .before .before .before .combine .ensures) left right under height,
+          ∙ code-binary (a .stack .now) (a .height) (a .code) (a .v) _ _ (left .result) (right .result) _ _ (s .before .before .if1 .left) (s .if2 .taken)
+          (s .before .is-binary .ensures) (c .before .before .before .combine .ensures) (left .ensures) (right .ensures) under height,
       (omega (arith, pushed .1 .0, height), pushed .1 .1),
     )
 

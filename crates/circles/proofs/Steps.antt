@@ -96,7 +96,7 @@ module _ {ws : List ℕ} {l : List Step} (v : Maps ws l) (a b : ℕ) {now : List
       record {
         size = w .size;
         same = λ x y h g. w .same x y h g
-        ∙ rw (leads-append l (record { from = a; to = b } ∷ []) x y, or-false (eqb a x && eqb b y)) (or-comm (eqb a x && eqb b y) (leads l x y));
+            ∙ rw (leads-append l (record { from = a; to = b } ∷ []) x y, or-false (eqb a x && eqb b y)) (or-comm (eqb a x && eqb b y) (leads l x y));
       }
 
 -- ---- the closed map

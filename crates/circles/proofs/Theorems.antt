@@ -37,9 +37,10 @@ module _ {ws : List ℕ} {l : List Step} {n : ℕ} {after : List ℕ} (v : Maps 
 
   -- no step is found exactly where no rule reaches itself
   pub none-found : ((a b : ℕ) → leads l a b ≡ true → circularIn after a b ≡ false) ↔ ((a : ℕ) → ReachesItself l a → ⊥)
-  none-found =
-      (λ none a u. false≢true (sym (none a (u .0) (u .1)) ∙ circle-found a (u .0) (u .1) .1 (u .2)),
-      λ none a b e. not-yes _ (λ t. none a (b, e, circle-found a b e .0 t)))
+  none-found = (
+    λ none a u. false≢true (sym (none a (u .0) (u .1)) ∙ circle-found a (u .0) (u .1) .1 (u .2)),
+    λ none a b e. not-yes _ (λ t. none a (b, e, circle-found a b e .0 t)),
+  )
 
   module _ (a b : ℕ) (e : leads l a b ≡ true) where
     -- a step without a way back, though it leads from one circle to another, is not found

@@ -62,11 +62,11 @@ module _ (before : List ℕ) (i a : ℕ) where
   full h =
       record {
         behind = λ l v. let far : 256 ≤ length l = omega (arith, v .next) in
-        record {
-          size = v .size;
-          next = omega (arith, v .next, length-append l (a ∷ []));
-          same = λ j g. v .same j g ∙ sym (List·getD-append l (a ∷ []) 0 j (omega arith));
-        };
+            record {
+              size = v .size;
+              next = omega (arith, v .next, length-append l (a ∷ []));
+              same = λ j g. v .same j g ∙ sym (List·getD-append l (a ∷ []) 0 j (omega arith));
+            };
       }
 
   -- there is one

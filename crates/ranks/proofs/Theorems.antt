@@ -13,6 +13,11 @@ use Rattle.ranks.proofs.Ranks.{rank-falls, rank-low, closed-rank}
 use Rattle.ranks.proofs.Places.{padded-at, padded-size}
 use Rattle.ranks.proofs.Ordering.{order-length, order-rule, order-place, order-once, order-lower}
 
+-- an order has 256 places, whatever the map
+pub order-size : (words : List ℕ) (n : ℕ) → length (orderIn words n) ≡ 256
+unfolding orderIn
+order-size words n = padded-size _
+
 -- a list of steps without circles, and the closed map of its steps
 module _ {ws : List ℕ} {l : List Step} {n : ℕ} {after : List ℕ} (v : Maps ws l) (w : Within l n) (c : Closed ws n after) (free : NoCircle l) where
   -- the rank falls with every reference
@@ -23,11 +28,7 @@ module _ {ws : List ℕ} {l : List Step} {n : ℕ} {after : List ℕ} (v : Maps 
   pub ranks-low : (a : ℕ) → 0 < a → a ≤ n → rankIn after a < n
   ranks-low a z h = rw (closed-rank v w c a h) (rank-low l n w free a z h)
 
-  -- ---- the order: 256 places
-
-  pub order-size : length (orderIn after n) ≡ 256
-  unfolding orderIn
-  order-size = padded-size _
+  -- ---- the order
 
   in-order : (i : ℕ) → i < 256 → getD (orderIn after n) i 0 ≡ getD (byRank (rankIn after) n n) i 0
   unfolding orderIn
@@ -63,4 +64,4 @@ module _ {ws : List ℕ} {l : List Step} {n : ℕ} {after : List ℕ} (v : Maps 
       past i h true t =
           in-order i (ltb-true i 256 t)
           ∙ List·getD-eq-default (byRank (rankIn after) n n) 0 (omega (arith, order-length (rankIn after) n ranks-low))
-      past i h false t = List·getD-eq-default (orderIn after n) 0 (omega (arith, order-size, ltb-false i 256 t))
+      past i h false t = List·getD-eq-default (orderIn after n) 0 (omega (arith, order-size after n, ltb-false i 256 t))

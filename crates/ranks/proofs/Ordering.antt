@@ -19,6 +19,7 @@ use Rattle.ranks.specs.Ranks.{byRank}
 use Rattle.ranks.proofs.Lists.{place-of, distinct-at, distinct-append, count-all}
 
 module _ (ranks : ℕ → ℕ) (n : ℕ) where
+  -- the rules of rank k, by number
   abbrev ofRank : ℕ → List ℕ
   ofRank k = picked (λ a. eqb (ranks a) k) 1 n
 
@@ -33,15 +34,16 @@ module _ (ranks : ℕ → ℕ) (n : ℕ) where
       go true s true t = absurd (false≢true (sym (pick-outside (λ x. eqb (ranks x) k) a n 1 (λ h. omega (arith, ltb-true n a t))) ∙ e))
       go false s t u = absurd (false≢true (sym (pick-outside (λ x. eqb (ranks x) k) a n 1 (λ h. absurd (omega (arith, ltb-false 0 a s)))) ∙ e))
 
-  -- what stands in it
+  -- what stands among the rules of rank below k: each rule of 1 to n that has such a rank
   ranked-rule : (k a : ℕ) → mem a (byRank ranks n k) ≡ true → (0 < a) × (a ≤ n) × (ranks a < k)
   unfolding byRank mem
   ranked-rule zero a e = absurd (false≢true e)
   ranked-rule (suc k) a e =
+      let f : mem a (byRank ranks n k ++ ofRank k) ≡ true = e in
       ⊎-elim
-      (λ f. let u = ranked-rule k a f in (u .0, u .1, omega (arith, u .2)))
-      (λ f. let u = of-rank k a f in (u .0, u .1, omega (arith, u .2)))
-      (or-yes (mem a (byRank ranks n k)) (mem a (ofRank k)) (sym (mem-append a (byRank ranks n k) (ofRank k)) ∙ e))
+      (λ g. let u = ranked-rule k a g in (u .0, u .1, omega (arith, u .2)))
+      (λ g. let u = of-rank k a g in (u .0, u .1, omega (arith, u .2)))
+      (or-yes (mem a (byRank ranks n k)) (mem a (ofRank k)) (sym (mem-append a (byRank ranks n k) (ofRank k)) ∙ f))
 
   rule-ranked : (k a : ℕ) → 0 < a → a ≤ n → ranks a < k → mem a (byRank ranks n k) ≡ true
   unfolding byRank
@@ -62,7 +64,7 @@ module _ (ranks : ℕ → ℕ) (n : ℕ) where
       distinct-append (byRank ranks n k) (ofRank k) (ranked-distinct k) (pick-distinct (λ a. eqb (ranks a) k) n 1)
       (λ a e. not-yes _ (λ f. omega (arith, ranked-rule k a e .2, of-rank k a f .2)))
 
-  -- how many
+  -- how many they are
   ranked-count : (k : ℕ) → length (byRank ranks n k) ≡ length (picked (λ a. ltb (ranks a) k) 1 n)
   unfolding byRank
   ranked-count zero = sym (ap length (pick-none (λ a. ltb (ranks a) 0) n 1 (λ a l h. le-ltb (ranks a) 0 (omega arith))))

@@ -1,13 +1,29 @@
 -- The ranks of rules, and an order in which every rule comes after those that it refers to (W-202).
 use mathlib.Core.Path.{_≡_}
+use mathlib.Core.Bool.{true}
 use mathlib.Core.List.{List, [], _++_}
-use Prim.Native.Nat.{ℕ, zero, suc, _<_, min}
+use Prim.Native.Nat.{ℕ, zero, suc, _≤_, _<_, min}
 use lib.Dec.{eqb}
 use lib.ListN.{length, getD, take, replicate}
 use Rattle.numbers.specs.Numbers.{picked}
 use Rattle.circles.specs.Circles.{Step, leads, closure, hasStep, last}
 
--- ---- ranks and order of a list of steps
+-- ---- what is believed of an order
+
+-- the rules 1 to n, each once and after those that it refers to by a step of the list, and then 0
+pub record InOrder (l : List Step) (n : ℕ) (order : List ℕ) : Type 0 where
+  -- at the first n places stand rules
+  pub rule : (i : ℕ) → i < n → (0 < getD order i 0) × (getD order i 0 ≤ n)
+  -- every rule at one of them
+  pub place : (a : ℕ) → 0 < a → a ≤ n → (i : ℕ) × (i < n) × (getD order i 0 ≡ a)
+  -- and no rule at two
+  pub once : (i j : ℕ) → i < j → j < n → getD order i 0 ≡ getD order j 0 → ⊥
+  -- what a rule refers to stands before it
+  pub earlier : (i b : ℕ) → i < n → leads l (getD order i 0) b ≡ true → (j : ℕ) × (j < i) × (getD order j 0 ≡ b)
+  -- past the rules stands 0
+  pub past : (i : ℕ) → n ≤ i → getD order i 0 ≡ 0
+
+-- ---- ranks and order, computed
 
 -- how many rules the rule a reaches by one or more steps between rules up to n
 unfoldable pub rank : List Step → ℕ → ℕ → ℕ

@@ -33,7 +33,9 @@ pub fn value_after(
     checkboxes: &Map,
     rules: &[u64],
 ) -> Scalar
-    ensures { λ r. ⌜ r ≡ valueAfter (now (answers .entry)) (now (gotos .entry)) (now (checkboxes .entry)) (now (rules .entry)) (now (table .entry)) count row ⌝ }
+    ensures { λ r. ⌜
+        r ≡ valueAfter (now (answers .entry)) (now (gotos .entry)) (now (checkboxes .entry)) (now (rules .entry)) (now (table .entry)) count row
+        ⌝ }
 {
     if count <= row {
         return Scalar::Undefined;

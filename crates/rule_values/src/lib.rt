@@ -59,7 +59,11 @@ fn find_value(
     gotos: &Map,
     checkboxes: &Map,
 )
-    ensures { λ _. ⌜ now (values .exit) ≡ withRule (now (answers .entry)) (now (gotos .entry)) (now (checkboxes .entry)) (now (table .entry)) count (now (places .entry)) (now (values .entry)) k ⌝ }
+    ensures { λ _. ⌜
+        now (values .exit)
+        ≡ withRule (now (answers .entry)) (now (gotos .entry)) (now (checkboxes .entry)) (now (table .entry)) count (now (places .entry))
+        (now (values .entry)) k
+        ⌝ }
 {
     let row = place_of(places, k as usize);
     let v = value_after(table, count, row, answers, gotos, checkboxes, values);
@@ -77,7 +81,11 @@ pub fn find_values(
     gotos: &Map,
     checkboxes: &Map,
 )
-    ensures { λ _. ⌜ now (values .exit) ≡ withRules (now (answers .entry)) (now (gotos .entry)) (now (checkboxes .entry)) (now (table .entry)) count (now (places .entry)) (now (values .entry)) (now (order .entry)) ⌝ }
+    ensures { λ _. ⌜
+        now (values .exit)
+        ≡ withRules (now (answers .entry)) (now (gotos .entry)) (now (checkboxes .entry)) (now (table .entry)) count (now (places .entry))
+        (now (values .entry)) (now (order .entry))
+        ⌝ }
 {
     for i in 0..order.len() {
         find_value(

@@ -1,22 +1,19 @@
+-- `rule_values::place_of` meets its contract.
+use mathlib.Core.Path.{sym}
 use borrow.Author.Needs.{needs}
+use lib.ListN.{List·getD-eq-default}
 use Rattle.rule_values.proofs.place_of.Statement.{statement}
 use Rattle.rule_values.proofs.place_of.Tie as tie
-use Rattle.rule_values.proofs.place_of.Reads as reads
-use Rattle.rule_values.proofs.place_of.Lts as lts
 
--- src/lib.rt:44:9
 returns : tie.Need-returns
-returns c = ?
+returns c = sym (List·getD-eq-default (c .before .args .places .now) 0 (c .if1 .taken))
 
--- src/lib.rt:46:5
 mul-result : tie.Need-mul-result
 mul-result c = search needs
 
--- src/lib.rt:46:5
 shared-slice-read-result : tie.Need-shared-slice-read-result
 shared-slice-read-result c = search needs
 
--- src/lib.rt:40:1
 returns-2 : tie.Need-returns-2
 returns-2 c = search needs
 

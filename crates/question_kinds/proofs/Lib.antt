@@ -1,1 +1,2 @@
 -- The laws of `question_kinds`.
+pub mod Marks

@@ -1,19 +1,15 @@
+-- `question_kinds::mark_if` meets its contract.
+use mathlib.Core.Path.{_∙_}
 use borrow.Author.Needs.{needs}
 use Rattle.question_kinds.proofs.mark_if.Statement.{statement}
 use Rattle.question_kinds.proofs.mark_if.Tie as tie
-use Rattle.question_kinds.proofs.mark_if.Reads as reads
-use Rattle.question_kinds.proofs.mark_if.Lts as lts
-use Rattle.numbers.proofs.mark.Reads as mark-reads
 
--- src/lib.rt:20:9
 mark-requires : tie.Need-mark-requires
 mark-requires c κs = search needs
 
--- src/lib.rt:16:1
 returns : tie.Need-returns
-returns c = ?
+returns c = c .mark .ensures ∙ rw (c .before .before .if1 .taken)
 
--- src/lib.rt:16:1
 returns-2 : tie.Need-returns-2
 returns-2 c = search needs
 

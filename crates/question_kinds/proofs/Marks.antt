@@ -4,11 +4,10 @@ use mathlib.Core.Path.{_≡_, refl, sym, ap, _∙_}
 use mathlib.Core.Bool.{Bool, true, false, cond}
 use mathlib.Core.List.{List, [], _∷_, _++_}
 use native.Mathlib.Omega.{arith}
-use lib.ListN.{getD}
 use Rattle.numbers.specs.Numbers.{emptyMap, used, borne, withUsed, withAllUsed}
 use Rattle.numbers.proofs.Maps.{holds-empty, holds-all}
 use Rattle.rows.specs.Columns as column
-use Rattle.rows.specs.Table.{rowAt, cellAt}
+use Rattle.rows.specs.Table.{cellAt}
 use Rattle.rows.specs.Rows.{rowsFrom}
 use Rattle.question_kinds.specs.Kinds.{ownIn, ownsIn, ownAt, tableOwns}
 

@@ -9,7 +9,7 @@ use Rattle.saved_answers.specs.Answers.{savedFor, count, questionOf, val
 
 -- the answers past the first
 module _ (question value : ℕ) (more : List ℕ) (k : ℕ) where
-  next-question : questionOf (question ∷ value ∷ more) (suc k) ≡ questionOf more k
+  pub next-question : questionOf (question ∷ value ∷ more) (suc k) ≡ questionOf more k
   next-question = let e : 2 * suc k ≡ suc (suc (2 * k)) = omega arith in rw e
 
   next-value : valueOf (question ∷ value ∷ more) (suc k) ≡ valueOf more k

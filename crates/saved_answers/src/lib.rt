@@ -4,6 +4,8 @@ ghost use mathlib.Core.Path.{_≡_};
 ghost use mathlib.Core.Bool.{false};
 ghost use Prim.Native.Nat.{_≤_};
 ghost use Rattle.saved_answers.specs.Answers.{count, byKind};
+ghost use Rattle.numbers.specs.Numbers.{used};
+ghost use Rattle.saved_answers.specs.Good.{goodAnswers};
 ghost use Rattle.saved_answers.specs.Search.{lowest, searched, questionValue};
 use numbers::Map;
 use numbers::has;
@@ -53,4 +55,23 @@ pub fn question_value(answers: &[u64], gotos: &Map, checkboxes: &Map, n: u64) ->
         return Scalar::Undefined;
     }
     answer_value(answers, n, has(checkboxes, n))
+}
+
+// How many answers, from the first on, are each for a number that is above the one before and that a question bears:
+// the place of the first at fault, where there is one (refusal 15).
+pub fn good_answers(answers: &[u64], questions: &Map) -> usize
+    ensures { λ r. ⌜ r ≡ goodAnswers (used (now (questions .entry))) 0 (now (answers .entry)) ⌝ }
+{
+    let count = answers.len() / 2;
+    let mut last: u64 = 0;
+    let mut k: usize = 0;
+    while k < count {
+        let question = answers[2 * k];
+        if (question <= last) | !has(questions, question) {
+            return k;
+        }
+        last = question;
+        k += 1;
+    }
+    k
 }

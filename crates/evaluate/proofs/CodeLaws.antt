@@ -1,50 +1,19 @@
 -- The codes of operators of two operands are three runs of numbers; no other row of an expression has one.
-use Prim.Native.Nat.{ℕ, zero, suc, _≤_, _<_}
+use Prim.Native.Nat.{ℕ, suc}
 use native.Mathlib.Omega.{arith}
-use native.Mathlib.Decide.{ℕ-discrete, decLt}
 use mathlib.Core.Path.{_≡_, refl, sym, ap, _∙_}
-use mathlib.Core.Bool.{Bool, true, false, true≢false, Bool·beq, _&&_, _||_, and-false, and-eq-true-iff}
-use mathlib.Core.List.{List, [], _∷_, map}
-use lib.Dec.{leb, ltb}
-use borrow.Author.Tests.{lt-leb, ne-eqb, ltb-true}
+use mathlib.Core.Bool.{Bool, true, false, true≢false, _&&_, _||_, and-false}
+use mathlib.Core.List.{map}
+use lib.Dec.{leb}
+use borrow.Author.Tests.{lt-leb}
 use Rattle.rows.specs.Codes as code
+use Rattle.rows.proofs.ListedCodes.{agree, below, listed-exactly}
 use Rattle.operators.specs.Values.{operations}
 use Rattle.answers.specs.Expression.{Operator, operatorCode, or, and, bit-or, bit-and, equal, not-equal, less, less-equal, greater, greater-equal}
 use Rattle.answers.specs.Expression.{shift-left, shift-right, add, subtract, multiply, divide, modulo}
 use Rattle.evaluate.specs.Machine.{isBinary}
 
 -- ---- the runs
-
--- f and g agree below n
-agree : (ℕ → Bool) → (ℕ → Bool) → ℕ → Bool
-agree f g zero = true
-agree f g (suc n) = Bool·beq (f n) (g n) && agree f g n
-
-same : (a b : Bool) → Bool·beq a b ≡ true → a ≡ b
-same true true e = refl
-same true false e = sym e
-same false true e = e
-same false false e = refl
-
-agreed : (f g : ℕ → Bool) (n : ℕ) → agree f g n ≡ true → (k : ℕ) → k < n → f k ≡ g k
-unfolding agree
-agreed f g zero e k h = absurd (omega arith)
-agreed f g (suc n) e k h =
-    let s = and-eq-true-iff (Bool·beq (f n) (g n)) (agree f g n) .0 e in
-    elim (ℕ-discrete k n) [ yes d ↦ rw d (same (f n) (g n) (s .0)) | no d ↦ agreed f g n (s .1) k (omega arith) ]
-
--- every number of a list is below n
-below : ℕ → List ℕ → Bool
-below n [] = true
-below n (x ∷ xs) = ltb x n && below n xs
-
-no-member : (l : List ℕ) (n : ℕ) → below n l ≡ true → (k : ℕ) → n ≤ k → code.member k l ≡ false
-unfolding below code.member
-no-member [] n e k h = refl
-no-member (x ∷ xs) n e k h =
-    let s = and-eq-true-iff (ltb x n) (below n xs) .0 e in
-    let d : k ≡ x → ⊥ = λ f. omega (arith, ltb-true x n (s .0)) in
-    rw (ne-eqb k x d) (no-member xs n (s .1) k h)
 
 abbrev inRuns : ℕ → Bool
 inRuns k =
@@ -53,13 +22,9 @@ inRuns k =
 -- computed up to MODULO, past which there is no such code
 pub is-binary : (k : ℕ) → inRuns k ≡ isBinary k
 unfolding isBinary operations agree below code.member
-is-binary k = go (decLt code.MODULO k)
-  where
-    go : Dec (code.MODULO < k) → inRuns k ≡ code.member k (map (λ o. o .0) operations)
-    go (yes h) =
-        simp (lt-leb k code.OR (omega arith), lt-leb k code.BITWISE-OR (omega arith), lt-leb k code.MODULO h, and-false)
-        (sym (no-member (map (λ o. o .0) operations) (suc code.MODULO) refl k h))
-    go (no h) = agreed inRuns (λ n. code.member n (map (λ o. o .0) operations)) (suc code.MODULO) refl k (omega arith)
+is-binary =
+    listed-exactly inRuns (map (λ o. o .0) operations) (suc code.MODULO) refl refl
+    (λ k h. simp (lt-leb k code.OR (omega arith), lt-leb k code.BITWISE-OR (omega arith), lt-leb k code.MODULO h, and-false))
 
 -- ---- the operators of expressions
 

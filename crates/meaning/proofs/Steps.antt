@@ -3,25 +3,20 @@
 use Prim.Native.Nat.{ℕ, zero, suc, _+_, _≤_, _<_}
 use native.Mathlib.Omega.{arith}
 use mathlib.Core.Path.{_≡_, refl, sym, _∙_}
-use mathlib.Core.Bool.{Bool, true, false, true≢false, _&&_, _||_, or-false, or-assoc, and-false, and-or-distrib-left}
-use mathlib.Core.List.{List, [], _∷_, _++_, map}
+use mathlib.Core.Bool.{Bool, true, false, true≢false, _&&_, _||_, or-false, and-false, and-or-distrib-left}
+use mathlib.Core.List.{List, [], _∷_, map}
 use borrow.Author.Tests.{eq-eqb, ne-eqb, eqb-true, eqb-false, ltb-true, ltb-false}
 use lib.Dec.{eqb, ltb}
 use lib.ListN.{length, getD, List·getD-eq-default}
 use Rattle.numbers.specs.Numbers.{mem}
-use Rattle.circles.specs.Circles.{Step, leads, Within}
+use Rattle.circles.specs.Circles.{leads, Within}
+use Rattle.circles.proofs.Steps.{leads-append}
 use Rattle.answers.specs.Expression.{undefined′}
 use Rattle.formulas.specs.Formula.{Formula, f-constant}
 use Rattle.meaning.specs.References.{references}
 use Rattle.meaning.specs.Rules.{ruleAt, stepsFrom, steps, RuleSet}
 
 -- ---- which steps lead from a to b
-
-leads-append : (l m : List Step) (a b : ℕ) → leads (l ++ m) a b ≡ (leads l a b || leads m a b)
-unfolding leads
-leads-append [] m a b = refl
-leads-append (s ∷ l) m a b =
-    rw (leads-append l m a b) (sym (or-assoc (eqb (s .from) a && eqb (s .to) b) (leads l a b) (leads m a b)))
 
 eqb-sym : (a b : ℕ) → eqb a b ≡ eqb b a
 eqb-sym a b = go (eqb b a) refl

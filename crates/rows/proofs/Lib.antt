@@ -7,5 +7,6 @@ pub mod FlatLaws
 pub mod RunLaws
 pub mod LaidLaws
 pub mod MarkLaws
+pub mod ListedCodes
 mod CodeLaws
 mod Examples

@@ -14,6 +14,7 @@ use Rattle.rows.specs.Flags as flag
 use Rattle.ll1.specs.Trees.{Trees, nil, leaf, node}
 use Rattle.grammar.specs.Rules.{<rule>, <item>, <option>, <form>, <source>}
 use Rattle.grammar.specs.Parts.{child, placeAt}
+use Rattle.grammar.specs.Flags.{FlagWord, flagWords}
 use Rattle.grammar.specs.Positions.{condition·expression, rule·expression}
 use Rattle.answers.specs.Expression.{Expression, number, constant, question-named, question-numbered, rule-named, negation, binary, level, operatorClass, constantClass, expression}
 
@@ -78,28 +79,32 @@ head r =
     ++ words ", prompt =" ++ string (cell column.FIRST r)
     ++ words ", help =" ++ string (cell column.SECOND r)
 
--- FL: "flags in the order above or absent"
-abbrev pub flagList : Bool → Bool → Bool → List Word
-flagList true true true = words "READ_ONLY | INTERACTIVE | RESET_REQUIRED"
-flagList true true false = words "READ_ONLY | INTERACTIVE"
-flagList true false true = words "READ_ONLY | RESET_REQUIRED"
-flagList true false false = words "READ_ONLY"
-flagList false true true = words "INTERACTIVE | RESET_REQUIRED"
-flagList false true false = words "INTERACTIVE"
-flagList false false true = words "RESET_REQUIRED"
-flagList false false false = []
+-- FL: its words with `|` between
+abbrev pub barred : List FlagWord → List Word
+barred [] = []
+barred (w ∷ ws) = words "|" ++ (lexeme (w .class) ++ barred ws)
 
--- a flag of a row, by its value
+abbrev pub flagList : List FlagWord → List Word
+flagList [] = []
+flagList (w ∷ ws) = lexeme (w .class) ++ barred ws
+
+-- a flag, by its value, is set in a row
 abbrev pub hasFlag : ℕ → List ℕ → Bool
 hasFlag flag r = eqb (cell column.FLAGS r / flag % 2) 1
+
+-- the words of a table whose flags are set
+abbrev pub setIn : List ℕ → List FlagWord → List FlagWord
+setIn r [] = []
+setIn r (w ∷ ws) = let more = setIn r ws in cond (hasFlag (w .value) r) (w ∷ more) more
 
 -- words with others round them, or nothing where there are none
 abbrev pub framed : List Word → List Word → List Word → List Word
 framed before [] after = []
 framed before (w ∷ ws) after = before ++ (w ∷ ws) ++ after
 
+-- "flags in the order above or absent"
 abbrev pub flags : List Word → List Word → List ℕ → List Word
-flags before after r = framed before (flagList (hasFlag flag.READ-ONLY r) (hasFlag flag.INTERACTIVE r) (hasFlag flag.RESET-REQUIRED r)) after
+flags before after r = framed before (flagList (setIn r flagWords)) after
 
 -- "`default` where written"
 abbrev pub default : List Word → List ℕ → List Word

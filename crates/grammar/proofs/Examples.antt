@@ -105,7 +105,8 @@ everything guid-end =
     ++ «checkbox» ∷ head ++ comma ∷ «flags» ∷ «=» ∷ «INTERACTIVE» ∷ comma ∷ «default» ∷ «=» ∷ «TRUE» ∷ comma ∷ «endcheckbox» ∷ semicolon ∷ []
     ++ «checkbox» ∷ head ++ comma ∷ «default» ∷ «=» ∷ «FALSE» ∷ comma ∷ «endcheckbox» ∷ semicolon ∷ «checkbox» ∷ head ++ comma ∷ «endcheckbox» ∷ semicolon ∷ []
     ++ «numeric» ∷ head ++ comma ∷ «minimum» ∷ «=» ∷ DECIMAL ∷ comma ∷ «maximum» ∷ «=» ∷ DECIMAL ∷ comma ∷ «endnumeric» ∷ semicolon ∷ []
-    ++ «numeric» ∷ head ++ comma ∷ «flags» ∷ «=» ∷ «READ_ONLY» ∷ comma ∷ «minimum» ∷ «=» ∷ DECIMAL ∷ comma ∷ «maximum» ∷ «=» ∷ DECIMAL ∷ comma
+    ++ «numeric» ∷ head ++ comma ∷ «flags» ∷ «=» ∷ «READ_ONLY» ∷ «|» ∷ «INTERACTIVE» ∷ «|» ∷ «RESET_REQUIRED» ∷ comma
+    ∷ «minimum» ∷ «=» ∷ HEX ∷ comma ∷ «maximum» ∷ «=» ∷ DECIMAL ∷ comma
     ∷ «step» ∷ «=» ∷ DECIMAL ∷ comma ∷ «default» ∷ «=» ∷ DECIMAL ∷ comma ∷ «endnumeric» ∷ semicolon ∷ []
     ++ «oneof» ∷ head ++ comma ∷ «flags» ∷ «=» ∷ «READ_ONLY» ∷ comma ∷ «option» ∷ «text» ∷ «=» ∷ string ++ comma ∷ «value» ∷ «=» ∷ DECIMAL ∷ comma ∷ «flags» ∷ «=» ∷ DECIMAL ∷ semicolon
     ∷ «option» ∷ «text» ∷ «=» ∷ string ++ comma ∷ «value» ∷ «=» ∷ DECIMAL ∷ comma ∷ «flags» ∷ «=» ∷ HEX ∷ semicolon

@@ -8,7 +8,7 @@ use Prim.Native.Nat.{ℕ, suc, _-_}
 use lib.ListN.{length, take, drop}
 use Rattle.lexemes.specs.Classes.{open-brace, open-paren, comma, «=», «default», «flags», «formid», «guid», «help», «label», «maximum», «minimum», «name», «prompt», «questionid», «rule», «step», «text», «title», «value», «goto», «checkbox», «numeric», «oneof», «suppressif», «grayoutif», «disableif», NAME}
 use Rattle.ll1.specs.Trees.{Symbol, Alternative, alternativeOf}
-use Rattle.grammar.specs.Rules.{<source>, <guid>, <guid-end>, <eight>, <H8>, <H4>, <H2>, <str>, <id>, <small>, <large>, <form>, <rule>, <item>, <goto-flags>?, <flags>?, <truth-default>?, <truth>, <step>?, <number-default>?, <option>, <option-flags>, <head>, <name>?, <questionid>?, <expression>, <atom>, <name-or-number>}
+use Rattle.grammar.specs.Rules.{<source>, <guid>, <guid-end>, <eight>, <H8>, <H4>, <H2>, <str>, <id>, <small>, <large>, <form>, <rule>, <item>, <goto-flags>?, <flags>?, <truth-default>?, <truth>, <step>?, <number-default>?, <option>, <option-flags>, <head>, <name>?, <questionid>?, <expression>, <atom>, <name-or-number>, <numeric-flags>?, <numeric-value>}
 use Rattle.grammar.specs.Grammar.{rules, productions}
 use Rattle.grammar.specs.Notation.{t, r}
 use Rattle.grammar.specs.Positions.{formset·guid, formset·title, formset·help, guid·first, guid·second, guid·third, guid·end, guid-end·braced, guid-end·bare, eight·byte, str·number, form·number, form·title, rule·name, rule·expression}
@@ -66,9 +66,9 @@ parts =
     ∷ part <item> 4 checkbox·flags (t comma ∷ r <flags>? ∷ [])
     ∷ part <item> 4 checkbox·default (r <truth-default>? ∷ [])
     ∷ part <item> 5 numeric·head (t «numeric» ∷ r <head> ∷ [])
-    ∷ part <item> 5 numeric·flags (t comma ∷ r <flags>? ∷ [])
-    ∷ part <item> 5 numeric·minimum (t «minimum» ∷ t «=» ∷ r <large> ∷ [])
-    ∷ part <item> 5 numeric·maximum (t «maximum» ∷ t «=» ∷ r <large> ∷ [])
+    ∷ part <item> 5 numeric·flags (t comma ∷ r <numeric-flags>? ∷ [])
+    ∷ part <item> 5 numeric·minimum (t «minimum» ∷ t «=» ∷ r <numeric-value> ∷ [])
+    ∷ part <item> 5 numeric·maximum (t «maximum» ∷ t «=» ∷ r <numeric-value> ∷ [])
     ∷ part <item> 5 numeric·step (t comma ∷ r <step>? ∷ [])
     ∷ part <item> 5 numeric·default (r <number-default>? ∷ [])
     ∷ part <item> 6 oneof·head (t «oneof» ∷ r <head> ∷ [])
@@ -77,8 +77,8 @@ parts =
     ∷ part <item> 8 condition·expression (t «grayoutif» ∷ r <expression> ∷ [])
     ∷ part <item> 9 condition·expression (t «disableif» ∷ r <expression> ∷ [])
     ∷ part <truth-default>? 1 default·value (t «default» ∷ t «=» ∷ r <truth> ∷ [])
-    ∷ part <number-default>? 1 default·value (t «default» ∷ t «=» ∷ r <large> ∷ [])
-    ∷ part <step>? 1 step·value (t «step» ∷ t «=» ∷ r <large> ∷ [])
+    ∷ part <number-default>? 1 default·value (t «default» ∷ t «=» ∷ r <numeric-value> ∷ [])
+    ∷ part <step>? 1 step·value (t «step» ∷ t «=» ∷ r <numeric-value> ∷ [])
     ∷ part <option> 0 option·text (t «text» ∷ t «=» ∷ r <str> ∷ [])
     ∷ part <option> 0 option·value (t «value» ∷ t «=» ∷ r <large> ∷ [])
     ∷ part <option> 0 option·flags (t «flags» ∷ t «=» ∷ r <option-flags> ∷ [])

@@ -8,7 +8,7 @@ use Prim.Native.String.{String}
 use Rattle.lexemes.specs.Lexemes.{bytes}
 use Rattle.lexemes.specs.Words.{run}
 use Rattle.values.specs.Numbers.{valueFrom, numeral, valueAt, digitsAt}
-use Rattle.grammar.specs.Rules.{<id>, <small>, <large>, <zero>, <H8>, <H4>, <H2>}
+use Rattle.grammar.specs.Rules.{<id>, <small>, <large>, <numeric-value>, <zero>, <H8>, <H4>, <H2>}
 use Rattle.grammar.specs.Ranges.{rangeOf, keeps}
 
 -- a rule of the grammar, a number written in its place, and whether the number keeps to it
@@ -43,6 +43,8 @@ writings =
     ∷ "18446744073709551615" kept-in <large>
     ∷ "18446744073709551616" outside <large>
     ∷ "0x10000000000000000" outside <large>
+    ∷ "18446744073709551615" kept-in <numeric-value>
+    ∷ "18446744073709551616" outside <numeric-value>
     -- option flags
     ∷ "0x00" kept-in <zero>
     ∷ "16" outside <zero>

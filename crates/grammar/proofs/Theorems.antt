@@ -6,11 +6,15 @@ use mathlib.Core.Option.{some}
 use mathlib.Core.Bool.{true}
 use mathlib.Core.Logic.{_↔_}
 use Prim.Native.Nat.{ℕ, zero, suc}
+use lib.ListN.{getD}
 use Rattle.ll1.specs.Trees.{Token, Trees}
 use Rattle.ll1.specs.Verdict.{Verdict, accepted, Accepted}
 use Rattle.ll1.specs.Test.{ll1?}
 use Rattle.ll1.proofs.Ll1.{Ll1}
 use Rattle.ll1.proofs.Theorems as Ll1
+use Rattle.grammar.specs.Rules.{<flag>, <numeric-flag>}
+use Rattle.grammar.specs.Notation.{choice}
+use Rattle.grammar.specs.Flags.{flagWords}
 use Rattle.grammar.specs.Grammar.{productions, rules}
 use Rattle.grammar.specs.Lookahead.{lookahead}
 use Rattle.grammar.specs.Derivation.{tooDeep, Derives, SourceSays}
@@ -26,9 +30,14 @@ counted zero n = []
 counted (suc k) n = n ∷ counted k (suc n)
 
 -- each rule's number is the place of its production
-pub productions-in-order : map (λ p. p .name) productions ≡ counted 53 0
+pub productions-in-order : map (λ p. p .name) productions ≡ counted 58 0
 unfolding productions
 productions-in-order = refl
+
+-- the words of FL are those that have a value, of a numeric's too
+pub flags-listed : (getD rules <flag> [] ≡ choice (map (λ w. w .class) flagWords)) × (getD rules <numeric-flag> [] ≡ choice (map (λ w. w .class) flagWords))
+unfolding rules productions
+flags-listed = (refl, refl)
 
 -- the facts behind the theorems below
 pub grammar-ll1 : Ll1 rules lookahead

@@ -1,19 +1,41 @@
 -- FL: "one or more of `READ_ONLY` (1), `INTERACTIVE` (4), `RESET_REQUIRED` (16) with `|` between" (document 01, Grammar).
 -- Assumes nothing.
 use Prim.Native.Nat.{ℕ, _+_}
-use mathlib.Core.Bool.{Bool, false, _&&_, _||_}
-use lib.Dec.{eqb}
+use mathlib.Core.List.{List, [], _∷_, map}
+use Rattle.lexemes.specs.Classes.{«INTERACTIVE», «READ_ONLY», «RESET_REQUIRED»}
 use Rattle.rows.specs.Flags as flag
-use Rattle.ll1.specs.Trees.{Trees, nil, leaf, node}
-use Rattle.grammar.specs.Rules.{<flag>}
+use Rattle.ll1.specs.Trees.{Token, token, Trees, leaves}
+use Rattle.ll1.specs.ParseTable.{member}
 use Rattle.grammar.specs.Parts.{when}
 
--- the alternative i of `flag` stands among the trees
-abbrev pub hasFlag : ℕ → Trees → Bool
-hasFlag i nil = false
-hasFlag i (leaf t f) = hasFlag i f
-hasFlag i (node A j c f) = (eqb A <flag> && eqb j i) || (hasFlag i c || hasFlag i f)
+-- a flag word: its class and its value
+pub record FlagWord : Type 0 where
+  pub class : ℕ
+  pub value : ℕ
 
--- READ_ONLY (1), INTERACTIVE (4), RESET_REQUIRED (16); a repeated word adds nothing
+abbrev pub flagWord : ℕ → ℕ → FlagWord
+flagWord k v = record { class = k; value = v }
+
+-- the words of FL, in its order
+abbrev pub flagWords : List FlagWord
+flagWords =
+    flagWord «READ_ONLY» flag.READ-ONLY
+    ∷ flagWord «INTERACTIVE» flag.INTERACTIVE
+    ∷ flagWord «RESET_REQUIRED» flag.RESET-REQUIRED
+    ∷ []
+
+-- the classes of the tokens of trees, from left to right
+abbrev pub classOf : Token → ℕ
+classOf (token k p) = k
+
+abbrev pub classes : Trees → List ℕ
+classes f = map classOf (leaves f)
+
+-- the sum of the words' values, of those that stand among the classes; a repeated word adds nothing
+abbrev pub total : List FlagWord → List ℕ → ℕ
+total [] ks = 0
+total (w ∷ ws) ks = when (member (w .class) ks) (w .value) + total ws ks
+
+-- the flags that stand in trees
 abbrev pub flags : Trees → ℕ
-flags f = when (hasFlag 0 f) flag.READ-ONLY + when (hasFlag 1 f) flag.INTERACTIVE + when (hasFlag 2 f) flag.RESET-REQUIRED
+flags f = total flagWords (classes f)

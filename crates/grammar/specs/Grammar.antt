@@ -9,7 +9,8 @@ use Rattle.lexemes.specs.Classes.{NAME, HEX}
 use Rattle.ll1.specs.Trees.{Grammar}
 use Rattle.grammar.specs.Rules.{<source>, <form>*, <guid>, <guid-end>, <eight>, <H8>, <H4>, <H2>, <str>, <id>, <small>, <large>, <zero>, <form>, <item-or-rule>*, <rule>, <item>, <goto-flags>?, <flags>?, <truth-default>?, <truth>, <step>?, <number-default>?, <option>*, <item>*, <option>, <option-flags>, <head>, <name>?, <questionid>?, <fl>, <flag>*, <flag>}
 use Rattle.grammar.specs.Rules.{<expression>, <or>, <or>*, <and>, <and>*, <bit-or>, <bit-or>*, <bit-and>, <bit-and>*, <equality>, <equality>*, <order>, <order>*, <shift>, <shift>*, <sum>, <sum>*, <product>, <product>*, <atom>, <name-or-number>}
-use Rattle.grammar.specs.Notation.{t, r, plain, condition, group, one, optional, star, operators, numeral, Production, _::=_}
+use Rattle.grammar.specs.Rules.{<numeric-flags>?, <numeric-fl>, <numeric-flag>*, <numeric-flag>, <numeric-value>}
+use Rattle.grammar.specs.Notation.{t, r, plain, condition, group, one, optional, star, operators, numeral, choice, Production, _::=_}
 
 -- the rules, in the order of their numbers
 unfoldable pub productions : List Production
@@ -55,7 +56,7 @@ productions =
     -- `checkbox` HEAD `,` [`flags =` FL `,`] [`default =` `TRUE` or `FALSE`, `,`] `endcheckbox ;`
     plain (t «checkbox» ∷ r <head> ∷ t comma ∷ r <flags>? ∷ r <truth-default>? ∷ t «endcheckbox» ∷ t semicolon ∷ []) ∷
     -- `numeric` HEAD `,` [`flags =` FL `,`] `minimum =` N `, maximum =` N `,` [`step =` N `,`] [`default =` N `,`] `endnumeric ;`
-    plain (t «numeric» ∷ r <head> ∷ t comma ∷ r <flags>? ∷ t «minimum» ∷ t «=» ∷ r <large> ∷ t comma ∷ t «maximum» ∷ t «=» ∷ r <large> ∷ t comma ∷ r <step>? ∷ r <number-default>? ∷ t «endnumeric» ∷ t semicolon ∷ []) ∷
+    plain (t «numeric» ∷ r <head> ∷ t comma ∷ r <numeric-flags>? ∷ t «minimum» ∷ t «=» ∷ r <numeric-value> ∷ t comma ∷ t «maximum» ∷ t «=» ∷ r <numeric-value> ∷ t comma ∷ r <step>? ∷ r <number-default>? ∷ t «endnumeric» ∷ t semicolon ∷ []) ∷
     -- `oneof` HEAD `,` [`flags =` FL `,`] option+ `endoneof ;`
     plain (t «oneof» ∷ r <head> ∷ t comma ∷ r <flags>? ∷ r <option> ∷ r <option>* ∷ t «endoneof» ∷ t semicolon ∷ []) ∷
     -- `suppressif`, `grayoutif` or `disableif`, expression `;` item* `endif ;`
@@ -69,8 +70,8 @@ productions =
     ∷ <truth> ::= (
     plain (t «TRUE» ∷ []) ∷
     plain (t «FALSE» ∷ []) ∷ [])
-    ∷ <step>? ::= optional (t «step» ∷ t «=» ∷ r <large> ∷ t comma ∷ [])
-    ∷ <number-default>? ::= optional (t «default» ∷ t «=» ∷ r <large> ∷ t comma ∷ [])
+    ∷ <step>? ::= optional (t «step» ∷ t «=» ∷ r <numeric-value> ∷ t comma ∷ [])
+    ∷ <number-default>? ::= optional (t «default» ∷ t «=» ∷ r <numeric-value> ∷ t comma ∷ [])
     ∷ <option>* ::= star <option>* (r <option> ∷ [])
     ∷ <item>* ::= star <item>* (r <item> ∷ [])
     -- option: `option text =` STR `, value =` N `, flags =` (N or `DEFAULT`) `;`
@@ -85,10 +86,7 @@ productions =
     -- FL: one or more of `READ_ONLY` (1), `INTERACTIVE` (4), `RESET_REQUIRED` (16) with `|` between
     ∷ <fl> ::= one (r <flag> ∷ r <flag>* ∷ [])
     ∷ <flag>* ::= star <flag>* (t «|» ∷ r <flag> ∷ [])
-    ∷ <flag> ::= (
-    plain (t «READ_ONLY» ∷ []) ∷
-    plain (t «INTERACTIVE» ∷ []) ∷
-    plain (t «RESET_REQUIRED» ∷ []) ∷ [])
+    ∷ <flag> ::= choice («READ_ONLY» ∷ «INTERACTIVE» ∷ «RESET_REQUIRED» ∷ [])
     -- "Expressions, loosest level first, each grouping to the left: `OR`;
     ∷ <or> ::= one (r <and> ∷ r <or>* ∷ [])
     ∷ <or>* ::= operators <or>* <and> («OR» ∷ [])
@@ -138,6 +136,12 @@ productions =
     ∷ <name-or-number> ::= (
     plain (t NAME ∷ []) ∷
     plain (r <id> ∷ []) ∷ [])
+    -- a numeric's FL, with the words of the others', and its N
+    ∷ <numeric-flags>? ::= optional (t «flags» ∷ t «=» ∷ r <numeric-fl> ∷ t comma ∷ [])
+    ∷ <numeric-fl> ::= one (r <numeric-flag> ∷ r <numeric-flag>* ∷ [])
+    ∷ <numeric-flag>* ::= star <numeric-flag>* (t «|» ∷ r <numeric-flag> ∷ [])
+    ∷ <numeric-flag> ::= choice («READ_ONLY» ∷ «INTERACTIVE» ∷ «RESET_REQUIRED» ∷ [])
+    ∷ <numeric-value> ::= numeral
     ∷ []
 
 -- the same without the names

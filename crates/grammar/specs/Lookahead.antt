@@ -1,7 +1,7 @@
 -- The parse table of the grammar: FIRST and FOLLOW of each rule, its rank, and an alternative that leads to a finished text.
 -- It is no part of the grammar. The test of ll1 checks it against the grammar (theorem `grammar-passes`), and nothing rests on it otherwise.
 -- Assumes nothing.
-use mathlib.Core.List.{List, [], _∷_}
+use mathlib.Core.List.{List, [], _∷_, map}
 use Prim.Native.Nat.{ℕ}
 use Rattle.lexemes.specs.Classes.{open-brace, close-brace, open-paren, close-paren, comma, semicolon, «|», «&», «==», «!=», «<», «<=», «>», «>=», «<<», «>>», «+», «-», «*», «/», «%»}
 use Rattle.lexemes.specs.Classes.{«AND», «DEFAULT», «FALSE», «INTERACTIVE», «NOT», «ONE», «ONES», «OR», «READ_ONLY», «RESET_REQUIRED», «STRING_TOKEN», «TRUE», «UNDEFINED», «ZERO»}
@@ -56,6 +56,10 @@ after-product = «+» ∷ «-» ∷ after-sum
 abbrev after-atom : List ℕ
 after-atom = «*» ∷ «/» ∷ «%» ∷ after-product
 
+-- each class by itself: FIRST of a rule whose alternatives are one token each
+abbrev singles : List ℕ → List (List ℕ)
+singles ks = map (λ k. k ∷ []) ks
+
 -- ---- the parse table: for each rule FIRST of each alternative, FOLLOW, rank, shortest
 unfoldable pub lookahead : ParseTable
 lookahead =
@@ -91,7 +95,7 @@ lookahead =
     -- <goto-flags>?
     ∷ entry ([] ∷ (comma ∷ []) ∷ []) (semicolon ∷ []) 0 0
     -- <flags>?
-    ∷ entry ([] ∷ («flags» ∷ []) ∷ []) («default» ∷ «endcheckbox» ∷ «minimum» ∷ «option» ∷ []) 0 0
+    ∷ entry ([] ∷ («flags» ∷ []) ∷ []) («default» ∷ «endcheckbox» ∷ «option» ∷ []) 0 0
     -- <truth-default>?
     ∷ entry ([] ∷ («default» ∷ []) ∷ []) («endcheckbox» ∷ []) 0 0
     -- <truth>
@@ -119,7 +123,7 @@ lookahead =
     -- <flag>*
     ∷ entry ([] ∷ («|» ∷ []) ∷ []) (comma ∷ semicolon ∷ []) 0 0
     -- <flag>
-    ∷ entry ((«READ_ONLY» ∷ []) ∷ («INTERACTIVE» ∷ []) ∷ («RESET_REQUIRED» ∷ []) ∷ []) («|» ∷ comma ∷ semicolon ∷ []) 0 0
+    ∷ entry (singles flag-words) («|» ∷ comma ∷ semicolon ∷ []) 0 0
     -- <or>, <or>*
     ∷ entry (atoms ∷ []) after-or 10 0
     ∷ entry ([] ∷ («OR» ∷ []) ∷ []) after-or 0 0
@@ -151,4 +155,14 @@ lookahead =
     ∷ entry ((«NOT» ∷ []) ∷ (open-paren ∷ []) ∷ («TRUE» ∷ []) ∷ («FALSE» ∷ []) ∷ («ZERO» ∷ []) ∷ («ONE» ∷ []) ∷ («ONES» ∷ []) ∷ («UNDEFINED» ∷ []) ∷ numbers ∷ («questionref» ∷ []) ∷ («ruleref» ∷ []) ∷ []) after-atom 1 2
     -- <name-or-number>
     ∷ entry ((NAME ∷ []) ∷ numbers ∷ []) (close-paren ∷ []) 1 0
+    -- <numeric-flags>?
+    ∷ entry ([] ∷ («flags» ∷ []) ∷ []) («minimum» ∷ []) 0 0
+    -- <numeric-fl>
+    ∷ entry (flag-words ∷ []) (comma ∷ []) 1 0
+    -- <numeric-flag>*
+    ∷ entry ([] ∷ («|» ∷ []) ∷ []) (comma ∷ []) 0 0
+    -- <numeric-flag>
+    ∷ entry (singles flag-words) («|» ∷ comma ∷ []) 0 0
+    -- <numeric-value>
+    ∷ entry (singles numbers) (comma ∷ []) 0 0
     ∷ []

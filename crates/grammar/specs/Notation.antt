@@ -46,6 +46,10 @@ operators A B ops = plain [] ∷ map (λ o. plain (t o ∷ r B ∷ r A ∷ [])) 
 abbrev pub numeral : List Alternative
 numeral = plain (t DECIMAL ∷ []) ∷ plain (t HEX ∷ []) ∷ []
 
+-- one of these words
+abbrev pub choice : List ℕ → List Alternative
+choice ks = map (λ k. plain (t k ∷ [])) ks
+
 -- ---- a rule: its name and its alternatives
 
 pub record Production : Type 0 where

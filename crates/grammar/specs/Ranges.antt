@@ -8,7 +8,7 @@ use Rattle.values.specs.declared.Value.{Value}
 use Rattle.values.specs.declared.Value.the-variants.{Fits, TooLarge}
 use Rattle.values.specs.Numbers.{valueAt, digitsAt}
 use Rattle.ll1.specs.Trees.{Trees, nil, leaf, node}
-use Rattle.grammar.specs.Rules.{<id>, <small>, <large>, <zero>, <H8>, <H4>, <H2>}
+use Rattle.grammar.specs.Rules.{<id>, <small>, <large>, <numeric-value>, <zero>, <H8>, <H4>, <H2>}
 use Rattle.grammar.specs.Parts.{placeAt}
 
 pub data Range : Type 0 where
@@ -33,6 +33,7 @@ ranges =
     ∷ <small> keeps-to between 0 65535
     -- others to 2^64 - 1;
     ∷ <large> keeps-to between 0 18446744073709551615
+    ∷ <numeric-value> keeps-to between 0 18446744073709551615
     -- option flags 0;
     ∷ <zero> keeps-to between 0 0
     -- GUID parts at most 8, 4 and 2 digits"

@@ -66,7 +66,7 @@ abbrev pub <item> : ℕ
 abbrev pub <goto-flags>? : ℕ
 <goto-flags>? = 17
 
--- of the other questions: [`flags =` FL `,`]
+-- of a checkbox and a oneof: [`flags =` FL `,`]
 abbrev pub <flags>? : ℕ
 <flags>? = 18
 
@@ -204,3 +204,23 @@ abbrev pub <atom> : ℕ
 -- of a questionref: NAME or N
 abbrev pub <name-or-number> : ℕ
 <name-or-number> = 52
+
+-- ---- a numeric's flags and numbers, by rules of their own
+
+-- [`flags =` FL `,`]
+abbrev pub <numeric-flags>? : ℕ
+<numeric-flags>? = 53
+
+abbrev pub <numeric-fl> : ℕ
+<numeric-fl> = 54
+
+-- the flags after the first, each with its `|`
+abbrev pub <numeric-flag>* : ℕ
+<numeric-flag>* = 55
+
+abbrev pub <numeric-flag> : ℕ
+<numeric-flag> = 56
+
+-- its minimum, maximum, step and default
+abbrev pub <numeric-value> : ℕ
+<numeric-value> = 57

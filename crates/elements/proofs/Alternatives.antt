@@ -11,8 +11,8 @@ use Rattle.lexemes.specs.Classes.{open-paren, close-paren, comma, «=», «STRI
 use Rattle.ll1.specs.Trees.{Trees, Symbol, alternativeOf}
 use Rattle.ll1.specs.ParseTable.{entryOf, predict, nullable}
 use Rattle.ll1.proofs.Lookups.{find-one, find-none, member-not}
-use Rattle.grammar.specs.Rules.{<eight>, <H2>, <str>, <id>, <small>, <large>, <goto-flags>?, <flags>?}
-use Rattle.grammar.specs.Rules.{<truth-default>?, <truth>, <step>?, <number-default>?, <head>, <name>?, <questionid>?, <fl>}
+use Rattle.grammar.specs.Rules.{<eight>, <H2>, <str>, <id>, <small>, <goto-flags>?, <flags>?}
+use Rattle.grammar.specs.Rules.{<truth-default>?, <truth>, <step>?, <number-default>?, <head>, <name>?, <questionid>?, <fl>, <numeric-flags>?, <numeric-fl>, <numeric-value>}
 use Rattle.grammar.specs.Grammar.{rules}
 use Rattle.grammar.specs.Notation.{t, r, plain}
 use Rattle.grammar.specs.Lookahead.{lookahead}
@@ -90,14 +90,18 @@ pub maybe-flags : Optional <flags>? «flags» (t «=» ∷ r <fl> ∷ t comma �
 unfolding rules lookahead nodeEntries rangeOf
 maybe-flags = optional <flags>? (λ i c es. refl) refl (omega arith) refl refl refl refl refl
 
+pub maybe-numeric-flags : Optional <numeric-flags>? «flags» (t «=» ∷ r <numeric-fl> ∷ t comma ∷ [])
+unfolding rules lookahead nodeEntries rangeOf
+maybe-numeric-flags = optional <numeric-flags>? (λ i c es. refl) refl (omega arith) refl refl refl refl refl
+
 pub maybe-truth : Optional <truth-default>? «default» (t «=» ∷ r <truth> ∷ t comma ∷ [])
 unfolding rules lookahead nodeEntries rangeOf
 maybe-truth = optional <truth-default>? (λ i c es. refl) refl (omega arith) refl refl refl refl refl
 
-pub maybe-step : Optional <step>? «step» (t «=» ∷ r <large> ∷ t comma ∷ [])
+pub maybe-step : Optional <step>? «step» (t «=» ∷ r <numeric-value> ∷ t comma ∷ [])
 unfolding rules lookahead nodeEntries rangeOf
 maybe-step = optional <step>? (λ i c es. refl) refl (omega arith) refl refl refl refl refl
 
-pub maybe-default : Optional <number-default>? «default» (t «=» ∷ r <large> ∷ t comma ∷ [])
+pub maybe-default : Optional <number-default>? «default» (t «=» ∷ r <numeric-value> ∷ t comma ∷ [])
 unfolding rules lookahead nodeEntries rangeOf
 maybe-default = optional <number-default>? (λ i c es. refl) refl (omega arith) refl refl refl refl refl

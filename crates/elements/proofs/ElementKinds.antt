@@ -8,14 +8,14 @@ use native.Mathlib.Omega.{arith}
 use Rattle.lexemes.specs.Classes.{«DEFAULT», «FALSE», «TRUE», NAME, HEX, DECIMAL}
 use Rattle.ll1.specs.Trees.{Trees, alternativeOf}
 use Rattle.ll1.specs.ParseTable.{predict}
-use Rattle.grammar.specs.Rules.{<H8>, <H4>, <H2>, <id>, <small>, <large>, <zero>, <truth>, <option-flags>, <name-or-number>}
+use Rattle.grammar.specs.Rules.{<H8>, <H4>, <H2>, <id>, <small>, <large>, <numeric-value>, <zero>, <truth>, <option-flags>, <name-or-number>}
 use Rattle.grammar.specs.Grammar.{rules}
 use Rattle.grammar.specs.Notation.{t, r, plain}
 use Rattle.grammar.specs.Lookahead.{lookahead}
 use Rattle.grammar.specs.Ranges.{Range, rangeOf, keeps, outOfRange}
 use Rattle.elements.specs.Marks.{outOf}
 use Rattle.elements.specs.Entries.{nodeEntries, entries}
-use Rattle.elements.specs.Kinds.{ID, SMALL, LARGE, OPTION-FLAGS, REFERENCE, TRUTH, H8, H4, H2, startsOf, elementRange, elementEntry, referenceEntries, elementEntries}
+use Rattle.elements.specs.Kinds.{ID, SMALL, LARGE, NUMERIC-VALUE, OPTION-FLAGS, REFERENCE, TRUTH, H8, H4, H2, startsOf, elementRange, elementEntry, referenceEntries, elementEntries}
 use Rattle.elements.proofs.Ways.{Way, by-token, by-rule, taken, Kind, rule-kind}
 
 -- ---- numbers
@@ -46,6 +46,14 @@ large =
     rule-kind <large> LARGE refl refl refl refl refl (
       taken (omega arith) (direct <large> 0 DECIMAL refl refl) (λ p f. refl) (λ s p f. refl),
       (taken (omega arith) (direct <large> 1 HEX refl refl) (λ p f. refl) (λ s p f. refl), tt),
+    )
+
+pub numeric-value : Kind (r <numeric-value>) NUMERIC-VALUE
+unfolding rules lookahead startsOf elementEntries elementEntry elementRange entries nodeEntries outOfRange
+numeric-value =
+    rule-kind <numeric-value> NUMERIC-VALUE refl refl refl refl refl (
+      taken (omega arith) (direct <numeric-value> 0 DECIMAL refl refl) (λ p f. refl) (λ s p f. refl),
+      (taken (omega arith) (direct <numeric-value> 1 HEX refl refl) (λ p f. refl) (λ s p f. refl), tt),
     )
 
 pub h8 : Kind (r <H8>) H8

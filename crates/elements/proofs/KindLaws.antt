@@ -15,7 +15,8 @@ use Rattle.ll1.specs.Test.{all}
 use Rattle.ll1.proofs.Basics.{either, all-member}
 use Rattle.grammar.specs.Ranges.{Range, free, keeps}
 use Rattle.grammar.specs.Parts.{when}
-use Rattle.elements.specs.Kinds.{ID, SMALL, LARGE, OPTION-FLAGS, REFERENCE, TRUTH, FLAG-LIST, H8, H4, H2, numbers, flagWords, startsOf, isKept, elementRange}
+use Rattle.elements.specs.Kinds.{ID, SMALL, LARGE, NUMERIC-VALUE, OPTION-FLAGS, REFERENCE, TRUTH, FLAG-LIST, NUMERIC-FLAGS, H8, H4, H2}
+use Rattle.elements.specs.Kinds.{numbers, flagClasses, startsOf, isKept, elementRange}
 
 eqb-sym : (a b : ℕ) → eqb a b ≡ eqb b a
 eqb-sym a b = by (ℕ-discrete a b)
@@ -51,16 +52,20 @@ module _ (e : ℕ) where
   unfolding startsOf
   starts-number l h = rw (le-ltb e ID l, lt-ltb e OPTION-FLAGS h)
 
-  pub starts-hex : OPTION-FLAGS ≤ e → e ≢ OPTION-FLAGS → e ≢ REFERENCE → e ≢ TRUTH → e ≢ FLAG-LIST → startsOf e ≡ HEX ∷ []
+  pub starts-hex : OPTION-FLAGS ≤ e → e ≢ OPTION-FLAGS → e ≢ REFERENCE → e ≢ TRUTH → e ≢ FLAG-LIST → e ≢ NUMERIC-FLAGS → startsOf e ≡ HEX ∷ []
   unfolding startsOf
-  starts-hex l a b c d =
-      rw (le-ltb e ID (omega arith), le-ltb e OPTION-FLAGS l, ne-eqb e OPTION-FLAGS a, ne-eqb e REFERENCE b, ne-eqb e TRUTH c, ne-eqb e FLAG-LIST d)
+  starts-hex l a b c d f =
+      rw (le-ltb e ID (omega arith), le-ltb e OPTION-FLAGS l, ne-eqb e OPTION-FLAGS a, ne-eqb e REFERENCE b, ne-eqb e TRUTH c)
+      (rw (ne-eqb e FLAG-LIST d, ne-eqb e NUMERIC-FLAGS f))
 
   -- no number
-  pub range-free : (k : ℕ) → e ≢ ID → e ≢ SMALL → e ≢ LARGE → e ≢ OPTION-FLAGS → e ≢ REFERENCE → e ≢ H8 → e ≢ H4 → e ≢ H2 → elementRange e k ≡ free
+  pub range-free :
+      (k : ℕ) → e ≢ ID → e ≢ SMALL → e ≢ LARGE → e ≢ NUMERIC-VALUE → e ≢ OPTION-FLAGS → e ≢ REFERENCE → e ≢ H8 → e ≢ H4 → e ≢ H2
+      → elementRange e k ≡ free
   unfolding elementRange
-  range-free k a b c d f g h i =
-      rw (ne-eqb e ID a, ne-eqb e SMALL b, ne-eqb e LARGE c, ne-eqb e OPTION-FLAGS d, ne-eqb e REFERENCE f, ne-eqb e H8 g, ne-eqb e H4 h, ne-eqb e H2 i)
+  range-free k a b c v d f g h i =
+      rw (ne-eqb e ID a, ne-eqb e SMALL b, ne-eqb e LARGE c, ne-eqb e NUMERIC-VALUE v, ne-eqb e OPTION-FLAGS d)
+      (rw (ne-eqb e REFERENCE f, ne-eqb e H8 g, ne-eqb e H4 h, ne-eqb e H2 i))
 
 -- a word, or a number in its range
 pub word-or : (s : List ℕ) (b : Bool) (range : Range) (p : ℕ) → keeps s (cond b free range) p ≡ b || keeps s range p
@@ -82,19 +87,22 @@ not-kept k h = rw (ne-eqb k NAME (λ e. omega arith)) (lt-leb ID k (omega arith)
 -- ---- an element that keeps something is a token with bytes
 
 -- the lists of `startsOf` from ID on
-abbrev starts-by : (a b c d e : Bool) → List ℕ
-starts-by a b c d e = cond a numbers (cond b (DECIMAL ∷ HEX ∷ «DEFAULT» ∷ []) (cond c (NAME ∷ numbers) (cond d («TRUE» ∷ «FALSE» ∷ []) (cond e flagWords (HEX ∷ [])))))
+abbrev starts-by : (a b c d e f : Bool) → List ℕ
+starts-by a b c d e f =
+    cond a numbers (cond b (DECIMAL ∷ HEX ∷ «DEFAULT» ∷ [])
+    (cond c (NAME ∷ numbers) (cond d («TRUE» ∷ «FALSE» ∷ []) (cond e flagClasses (cond f flagClasses (HEX ∷ []))))))
 
 abbrev below : List ℕ → Bool
 below l = all (λ k. ltb k BAD) l
 
-all-below : (a b c d e : Bool) → below (starts-by a b c d e) ≡ true
-all-below true b c d e = refl
-all-below false true c d e = refl
-all-below false false true d e = refl
-all-below false false false true e = refl
-all-below false false false false true = refl
-all-below false false false false false = refl
+all-below : (a b c d e f : Bool) → below (starts-by a b c d e f) ≡ true
+all-below true b c d e f = refl
+all-below false true c d e f = refl
+all-below false false true d e f = refl
+all-below false false false true e f = refl
+all-below false false false false true f = refl
+all-below false false false false false true = refl
+all-below false false false false false false = refl
 
 member-below : (l : List ℕ) (k : ℕ) → below l ≡ true → member k l ≡ true → k < BAD
 member-below l k h m = ltb-true k BAD (all-member (λ k. ltb k BAD) l k h m)
@@ -111,7 +119,8 @@ kind-below e k l m =
     let c = eqb e REFERENCE in
     let d = eqb e TRUTH in
     let f = eqb e FLAG-LIST in
-    member-below (starts-by a b c d f) k (all-below a b c d f) (rw (le-ltb e ID l) at m)
+    let g = eqb e NUMERIC-FLAGS in
+    member-below (starts-by a b c d f g) k (all-below a b c d f g) (rw (le-ltb e ID l) at m)
 
 pub kept-below : (e k : ℕ) → isKept e ≡ true → member k (startsOf e) ≡ true → k < BAD
 kept-below e k h m = by (either (eqb e NAME) (leb ID e) h)

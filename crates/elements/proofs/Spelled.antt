@@ -12,14 +12,15 @@ use Rattle.ll1.specs.Trees.{Symbol, terminal, nonterminal}
 use Rattle.ll1.proofs.Basics.{clash, both}
 use Rattle.grammar.specs.Rules.{<eight>, <H8>, <H4>, <H2>, <str>, <id>, <small>, <large>, <goto-flags>?, <flags>?}
 use Rattle.grammar.specs.Rules.{<truth-default>?, <truth>, <step>?, <number-default>?, <option-flags>, <head>, <name>?, <questionid>?, <fl>, <name-or-number>}
+use Rattle.grammar.specs.Rules.{<numeric-flags>?, <numeric-fl>, <numeric-value>}
 use Rattle.grammar.specs.Notation.{t, r}
 use Rattle.elements.specs.Entries.{KEPT}
-use Rattle.elements.specs.Kinds.{ID, SMALL, LARGE, OPTION-FLAGS, REFERENCE, TRUTH, FLAG-LIST, H8, H4, H2, MAYBE}
+use Rattle.elements.specs.Kinds.{ID, SMALL, LARGE, NUMERIC-VALUE, OPTION-FLAGS, REFERENCE, TRUTH, FLAG-LIST, NUMERIC-FLAGS, H8, H4, H2, MAYBE}
 use Rattle.elements.proofs.Ways.{a-name}
-use Rattle.elements.proofs.ElementKinds.{id, small, large, h8, h4, h2, truth, option-flags, reference}
+use Rattle.elements.proofs.ElementKinds.{id, small, large, numeric-value, h8, h4, h2, truth, option-flags, reference}
 use Rattle.elements.proofs.Alternatives.{Single, Optional, in-str, in-head, in-eight, maybe-name}
-use Rattle.elements.proofs.Alternatives.{maybe-questionid, maybe-goto-flags, maybe-flags, maybe-truth, maybe-step, maybe-default}
-use Rattle.elements.proofs.Spelling.{Stands, by-word, by-kind, by-flags, widths, Spells, spells-nil, spells-one, spells-rule, spells-maybe}
+use Rattle.elements.proofs.Alternatives.{maybe-questionid, maybe-goto-flags, maybe-flags, maybe-numeric-flags, maybe-truth, maybe-step, maybe-default}
+use Rattle.elements.proofs.Spelling.{Stands, by-word, by-kind, by-flags, by-numeric-flags, widths, Spells, spells-nil, spells-one, spells-rule, spells-maybe}
 
 -- ---- how a pattern spells a rule
 
@@ -45,9 +46,11 @@ spelling A =
     (for <id> (by-element ID (by-kind id)) A
     (for <small> (by-element SMALL (by-kind small)) A
     (for <large> (by-element LARGE (by-kind large)) A
+    (for <numeric-value> (by-element NUMERIC-VALUE (by-kind numeric-value)) A
     (for <truth> (by-element TRUTH (by-kind truth)) A
     (for <option-flags> (by-element OPTION-FLAGS (by-kind option-flags)) A
     (for <fl> (by-element FLAG-LIST by-flags) A
+    (for <numeric-fl> (by-element NUMERIC-FLAGS by-numeric-flags) A
     (for <name-or-number> (by-element REFERENCE (by-kind reference)) A
     (for <str> (by-symbols in-str) A
     (for <head> (by-symbols in-head) A
@@ -56,9 +59,10 @@ spelling A =
     (for <questionid>? (by-group maybe-questionid) A
     (for <goto-flags>? (by-group maybe-goto-flags) A
     (for <flags>? (by-group maybe-flags) A
+    (for <numeric-flags>? (by-group maybe-numeric-flags) A
     (for <truth-default>? (by-group maybe-truth) A
     (for <step>? (by-group maybe-step) A
-    (for <number-default>? (by-group maybe-default) A not-spelled)))))))))))))))))))
+    (for <number-default>? (by-group maybe-default) A not-spelled))))))))))))))))))))))
 
 -- ---- tests
 

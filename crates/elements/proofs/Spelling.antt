@@ -4,9 +4,9 @@ use Prim.Native.Nat.{ℕ, _+_, _≤_, _<_}
 use mathlib.Core.List.{List, [], _∷_}
 use Rattle.lexemes.specs.Classes.{NAME}
 use Rattle.ll1.specs.Trees.{Symbol}
-use Rattle.grammar.specs.Rules.{<fl>}
+use Rattle.grammar.specs.Rules.{<fl>, <numeric-fl>}
 use Rattle.grammar.specs.Notation.{t, r}
-use Rattle.elements.specs.Kinds.{FLAG-LIST, MAYBE}
+use Rattle.elements.specs.Kinds.{FLAG-LIST, NUMERIC-FLAGS, MAYBE}
 use Rattle.elements.proofs.Ways.{Kind, width}
 use Rattle.elements.proofs.Alternatives.{Single, Optional}
 
@@ -16,7 +16,9 @@ pub data Stands : Symbol → ℕ → Type 0 where
   by-word : {k : ℕ} → k < NAME → Stands (t k) k
   -- one token that keeps something
   by-kind : {x : Symbol} {e : ℕ} → Kind x e → Stands x e
+  -- FL
   by-flags : Stands (r <fl>) FLAG-LIST
+  by-numeric-flags : Stands (r <numeric-fl>) NUMERIC-FLAGS
 
 -- how many entries a pattern keeps at most
 abbrev pub widths : List ℕ → ℕ

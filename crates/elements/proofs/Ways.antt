@@ -26,7 +26,7 @@ use Rattle.grammar.specs.Ranges.{Range, free, keeps, outOfRange}
 use Rattle.grammar.proofs.Equations.{verdict-take, verdict-miss, verdict-ends, verdict-none, verdict-ends-rule, verdict-in}
 use Rattle.elements.specs.Marks.{outOf}
 use Rattle.elements.specs.Entries.{entries}
-use Rattle.elements.specs.Kinds.{REFERENCE, FLAG-LIST, MAYBE, startsOf, isKept, elementRange, elementEntry, referenceEntries, elementEntries}
+use Rattle.elements.specs.Kinds.{REFERENCE, MAYBE, isFlagList, startsOf, isKept, elementRange, elementEntry, referenceEntries, elementEntries}
 
 pub either-way : {P : Type 0} (b : Bool) → (b ≡ true → P) → (b ≡ false → P) → P
 either-way true f g = f refl
@@ -104,7 +104,7 @@ each P (j ∷ l) h k m = by (each P l (h .1) k) (either (eqb j k) (member k l) m
 -- an element of one token that keeps something
 pub record Kind (x : Symbol) (e : ℕ) : Type 0 where
   pub not-maybe : eqb e MAYBE ≡ false
-  pub not-flags : eqb e FLAG-LIST ≡ false
+  pub not-flags : isFlagList e ≡ false
   pub is-kept : isKept e ≡ true
   pub ends : (d : Depth) (σ : List Due) → verdictFrom (due d x ∷ σ) [] ≡ ends-early
   pub misses : (k : ℕ) → member k (startsOf e) ≡ false → (d : Depth) (σ : List Due) (p : ℕ) (ts : List Token) → verdictFrom (due d x ∷ σ) (token k p ∷ ts) ≡ refused 3 p
@@ -133,7 +133,7 @@ a-name =
 
 -- the element e stands for rule A, whose alternatives are single tokens or numbers
 module _ (A e : ℕ) where
-  pub rule-kind : eqb e MAYBE ≡ false → eqb e FLAG-LIST ≡ false → isKept e ≡ true → nullable rules A ≡ false → joined (entryOf lookahead A .firsts) ≡ startsOf e → Each (λ k. Taken (r A) k (elementEntries e k) (elementRange e k)) (startsOf e) → Kind (r A) e
+  pub rule-kind : eqb e MAYBE ≡ false → isFlagList e ≡ false → isKept e ≡ true → nullable rules A ≡ false → joined (entryOf lookahead A .firsts) ≡ startsOf e → Each (λ k. Taken (r A) k (elementEntries e k) (elementRange e k)) (startsOf e) → Kind (r A) e
   rule-kind m f w n q takes =
       record {
         not-maybe = m;

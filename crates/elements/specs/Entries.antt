@@ -6,7 +6,7 @@ use mathlib.Core.List.{List, [], _∷_, _++_}
 use lib.Dec.{eqb}
 use Rattle.lexemes.specs.Classes.{NAME, HEX, DECIMAL}
 use Rattle.ll1.specs.Trees.{token, Trees, nil, leaf, node}
-use Rattle.grammar.specs.Rules.{<truth>, <option-flags>, <fl>, <name-or-number>}
+use Rattle.grammar.specs.Rules.{<truth>, <option-flags>, <fl>, <numeric-fl>, <name-or-number>}
 use Rattle.grammar.specs.Parts.{child, placeAt}
 use Rattle.grammar.specs.Parts.{mark, when}
 use Rattle.grammar.specs.Flags.{flags}
@@ -22,8 +22,8 @@ leafEntries k p = cond (eqb k NAME || (eqb k DECIMAL || eqb k HEX)) (mark p ∷ 
 -- a tree of rule A keeps, by the alternative taken and the trees under it, which keep `inner`:
 unfoldable pub nodeEntries : ℕ → ℕ → Trees → List ℕ → List ℕ
 nodeEntries A i c inner =
-    -- FL: its bits
-    cond (eqb A <fl>) (flags (node A i c nil) ∷ [])
+    -- FL: its flags
+    cond (eqb A <fl> || eqb A <numeric-fl>) (flags c ∷ [])
     -- TRUE or FALSE: 2 or 1
     (cond (eqb A <truth>) (cond (eqb i 0) 2 1 ∷ [])
     -- an option's flags: the mark of DEFAULT, or 0

@@ -2,12 +2,13 @@
 -- Assumes nothing.
 use Prim.Native.Nat.{ℕ}
 use mathlib.Core.Bool.{Bool, cond, _||_}
-use mathlib.Core.List.{List, [], _∷_}
+use mathlib.Core.List.{List, [], _∷_, map}
 use lib.Dec.{eqb, ltb, leb}
-use Rattle.lexemes.specs.Classes.{«DEFAULT», «FALSE», «INTERACTIVE», «READ_ONLY», «RESET_REQUIRED», «TRUE», NAME, HEX, DECIMAL}
-use Rattle.grammar.specs.Rules.{<H8>, <H4>, <H2>, <id>, <small>, <large>, <zero>}
+use Rattle.lexemes.specs.Classes.{«DEFAULT», «FALSE», «TRUE», NAME, HEX, DECIMAL}
+use Rattle.grammar.specs.Rules.{<H8>, <H4>, <H2>, <id>, <small>, <large>, <numeric-value>, <zero>}
 use Rattle.grammar.specs.Ranges.{Range, free, rangeOf}
 use Rattle.grammar.specs.Parts.{mark, when}
+use Rattle.grammar.specs.Flags.{flagWords}
 
 -- a number of 1 to 65,535: of a form, a goto, a written question or a questionref
 abbrev pub ID : ℕ
@@ -21,35 +22,43 @@ SMALL = 129
 abbrev pub LARGE : ℕ
 LARGE = 130
 
+-- a numeric's minimum, maximum, step or default, below 2^64
+abbrev pub NUMERIC-VALUE : ℕ
+NUMERIC-VALUE = 131
+
 -- an option's flags: the number 0, or DEFAULT
 abbrev pub OPTION-FLAGS : ℕ
-OPTION-FLAGS = 131
+OPTION-FLAGS = 132
 
 -- what a questionref names: a name, or a number of 1 to 65,535
 abbrev pub REFERENCE : ℕ
-REFERENCE = 132
+REFERENCE = 133
 
 -- TRUE or FALSE
 abbrev pub TRUTH : ℕ
-TRUTH = 133
+TRUTH = 134
 
 -- FL
 abbrev pub FLAG-LIST : ℕ
-FLAG-LIST = 134
+FLAG-LIST = 135
+
+-- FL of a numeric
+abbrev pub NUMERIC-FLAGS : ℕ
+NUMERIC-FLAGS = 136
 
 -- a hex number of at most 8, 4 or 2 digits
 abbrev pub H8 : ℕ
-H8 = 135
+H8 = 137
 
 abbrev pub H4 : ℕ
-H4 = 136
+H4 = 138
 
 abbrev pub H2 : ℕ
-H2 = 137
+H2 = 139
 
 -- the next four elements may be absent; they are there where the next token is the first of them
 abbrev pub MAYBE : ℕ
-MAYBE = 138
+MAYBE = 140
 
 -- how many elements MAYBE speaks of
 abbrev pub GROUP : ℕ
@@ -58,21 +67,26 @@ GROUP = 4
 abbrev pub numbers : List ℕ
 numbers = DECIMAL ∷ HEX ∷ []
 
-abbrev pub flagWords : List ℕ
-flagWords = «READ_ONLY» ∷ «INTERACTIVE» ∷ «RESET_REQUIRED» ∷ []
+abbrev pub flagClasses : List ℕ
+flagClasses = map (λ w. w .class) flagWords
+
+-- a list of words with `|` between
+abbrev pub isFlagList : ℕ → Bool
+isFlagList e = eqb e FLAG-LIST || eqb e NUMERIC-FLAGS
 
 -- the classes of the tokens that an element can be, or start with
 unfoldable pub startsOf : ℕ → List ℕ
 startsOf e =
     cond (ltb e ID) (e ∷ [])
-    -- ID, SMALL, LARGE
+    -- ID, SMALL, LARGE, NUMERIC-VALUE
     (cond (ltb e OPTION-FLAGS) numbers
     (cond (eqb e OPTION-FLAGS) (DECIMAL ∷ HEX ∷ «DEFAULT» ∷ [])
     (cond (eqb e REFERENCE) (NAME ∷ numbers)
     (cond (eqb e TRUTH) («TRUE» ∷ «FALSE» ∷ [])
-    (cond (eqb e FLAG-LIST) flagWords
+    (cond (eqb e FLAG-LIST) flagClasses
+    (cond (eqb e NUMERIC-FLAGS) flagClasses
     -- H8, H4, H2
-    (HEX ∷ []))))))
+    (HEX ∷ [])))))))
 
 -- something of the element is kept; of a sign or a reserved word nothing is
 abbrev pub isKept : ℕ → Bool
@@ -84,12 +98,13 @@ elementRange e k =
     cond (eqb e ID) (rangeOf <id>)
     (cond (eqb e SMALL) (rangeOf <small>)
     (cond (eqb e LARGE) (rangeOf <large>)
+    (cond (eqb e NUMERIC-VALUE) (rangeOf <numeric-value>)
     (cond (eqb e OPTION-FLAGS) (cond (eqb k «DEFAULT») free (rangeOf <zero>))
     (cond (eqb e REFERENCE) (cond (eqb k NAME) free (rangeOf <id>))
     (cond (eqb e H8) (rangeOf <H8>)
     (cond (eqb e H4) (rangeOf <H4>)
     (cond (eqb e H2) (rangeOf <H2>)
-    free)))))))
+    free))))))))
 
 -- what a token of class k, whose mark is m, keeps as the element: of an option's flags the mark of DEFAULT, of a truth 2 for TRUE and 1 for FALSE
 unfoldable pub elementEntry : ℕ → ℕ → ℕ → ℕ

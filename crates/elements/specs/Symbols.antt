@@ -9,9 +9,9 @@ use Rattle.lexemes.specs.Classes.{«flags», «form», «formid», «formset»,
 use Rattle.lexemes.specs.Classes.{«option», «prompt», «questionid», «questionref», «rule», «ruleref», «step», «subtitle», «text», «title», «value», NAME}
 use Rattle.ll1.specs.Trees.{Symbol}
 use Rattle.grammar.specs.Rules.{<eight>, <H8>, <H4>, <str>, <id>, <small>, <large>, <goto-flags>?, <flags>?, <truth-default>?, <step>?, <number-default>?}
-use Rattle.grammar.specs.Rules.{<option-flags>, <head>, <name-or-number>}
+use Rattle.grammar.specs.Rules.{<option-flags>, <head>, <name-or-number>, <numeric-flags>?, <numeric-value>}
 use Rattle.grammar.specs.Notation.{t, r}
-use Rattle.elements.specs.Kinds.{ID, SMALL, LARGE, OPTION-FLAGS, REFERENCE, TRUTH, FLAG-LIST, H8, H4, H2, MAYBE}
+use Rattle.elements.specs.Kinds.{ID, SMALL, LARGE, NUMERIC-VALUE, OPTION-FLAGS, REFERENCE, TRUTH, FLAG-LIST, NUMERIC-FLAGS, H8, H4, H2, MAYBE}
 
 abbrev pub FORM-SET-OPEN : ℕ
 FORM-SET-OPEN = 0
@@ -114,8 +114,8 @@ phraseSymbols =
     -- checkbox HEAD , [flags = FL ,] [default = TRUE or FALSE ,] endcheckbox ;
     ∷ (t «checkbox» ∷ r <head> ∷ t comma ∷ r <flags>? ∷ r <truth-default>? ∷ t «endcheckbox» ∷ t semicolon ∷ [])
     -- numeric HEAD , [flags = FL ,] minimum = N , maximum = N , [step = N ,] [default = N ,] endnumeric ;
-    ∷ (t «numeric» ∷ r <head> ∷ t comma ∷ r <flags>? ∷ t «minimum» ∷ t «=» ∷ r <large> ∷ t comma
-    ∷ t «maximum» ∷ t «=» ∷ r <large> ∷ t comma ∷ r <step>? ∷ r <number-default>? ∷ t «endnumeric» ∷ t semicolon ∷ [])
+    ∷ (t «numeric» ∷ r <head> ∷ t comma ∷ r <numeric-flags>? ∷ t «minimum» ∷ t «=» ∷ r <numeric-value> ∷ t comma
+    ∷ t «maximum» ∷ t «=» ∷ r <numeric-value> ∷ t comma ∷ r <step>? ∷ r <number-default>? ∷ t «endnumeric» ∷ t semicolon ∷ [])
     -- oneof HEAD , [flags = FL ,]
     ∷ (t «oneof» ∷ r <head> ∷ t comma ∷ r <flags>? ∷ [])
     ∷ (t «endoneof» ∷ t semicolon ∷ [])
@@ -208,8 +208,9 @@ checkboxElements = «checkbox» ∷ head ++ comma ∷ flagsMaybe ++ MAYBE ∷ «
 -- numeric HEAD , [flags = FL ,] minimum = N , maximum = N , [step = N ,] [default = N ,] endnumeric ;
 abbrev pub numericElements : List ℕ
 numericElements =
-    «numeric» ∷ head ++ comma ∷ flagsMaybe ++ «minimum» ∷ «=» ∷ LARGE ∷ comma ∷ «maximum» ∷ «=» ∷ LARGE ∷ comma
-    ∷ MAYBE ∷ «step» ∷ «=» ∷ LARGE ∷ comma ∷ MAYBE ∷ «default» ∷ «=» ∷ LARGE ∷ comma ∷ «endnumeric» ∷ semicolon ∷ []
+    «numeric» ∷ head ++ comma ∷ MAYBE ∷ «flags» ∷ «=» ∷ NUMERIC-FLAGS ∷ comma
+    ∷ «minimum» ∷ «=» ∷ NUMERIC-VALUE ∷ comma ∷ «maximum» ∷ «=» ∷ NUMERIC-VALUE ∷ comma
+    ∷ MAYBE ∷ «step» ∷ «=» ∷ NUMERIC-VALUE ∷ comma ∷ MAYBE ∷ «default» ∷ «=» ∷ NUMERIC-VALUE ∷ comma ∷ «endnumeric» ∷ semicolon ∷ []
 
 -- oneof HEAD , [flags = FL ,]
 abbrev pub oneOfOpenElements : List ℕ

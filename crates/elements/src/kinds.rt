@@ -5,7 +5,7 @@ ghost use mathlib.Core.Bool.{_||_};
 ghost use Rattle.values.specs.Numbers.{valueAt};
 ghost use Rattle.ll1.specs.ParseTable.{member};
 ghost use Rattle.grammar.specs.Ranges.{within, keeps};
-ghost use Rattle.elements.specs.Kinds.{numbers, flagWords, startsOf, elementRange};
+ghost use Rattle.elements.specs.Kinds.{numbers, flagClasses, startsOf, elementRange};
 use lex::Token;
 use lexemes::classes::*;
 use values::Value;
@@ -19,27 +19,33 @@ pub const SMALL: u8 = 129;
 // Any other number, below 2^64.
 pub const LARGE: u8 = 130;
 
+// A numeric's minimum, maximum, step or default, below 2^64.
+pub const NUMERIC_VALUE: u8 = 131;
+
 // An option's flags: the number 0, or DEFAULT.
-pub const OPTION_FLAGS: u8 = 131;
+pub const OPTION_FLAGS: u8 = 132;
 
 // What a questionref names: a name, or a number of 1 to 65,535.
-pub const REFERENCE: u8 = 132;
+pub const REFERENCE: u8 = 133;
 
 // TRUE or FALSE.
-pub const TRUTH: u8 = 133;
+pub const TRUTH: u8 = 134;
 
 // FL: one or more flag words with `|` between.
-pub const FLAG_LIST: u8 = 134;
+pub const FLAG_LIST: u8 = 135;
+
+// FL of a numeric.
+pub const NUMERIC_FLAGS: u8 = 136;
 
 // A hex number of at most 8, 4 or 2 digits.
-pub const H8: u8 = 135;
+pub const H8: u8 = 137;
 
-pub const H4: u8 = 136;
+pub const H4: u8 = 138;
 
-pub const H2: u8 = 137;
+pub const H2: u8 = 139;
 
 // The next four elements may be absent; they are there where the next token is the first of them.
-pub const MAYBE: u8 = 138;
+pub const MAYBE: u8 = 140;
 
 // How many elements MAYBE speaks of.
 pub const GROUP: usize = 4;
@@ -50,8 +56,8 @@ fn is_number(class: u8) -> bool
     (class == DECIMAL) | (class == HEX)
 }
 
-pub fn is_flag(class: u8) -> bool
-    ensures { λ r. ⌜ r ≡ member class flagWords ⌝ }
+fn is_flag(class: u8) -> bool
+    ensures { λ r. ⌜ r ≡ member class flagClasses ⌝ }
 {
     (class == READ_ONLY) | (class == INTERACTIVE) | (class == RESET_REQUIRED)
 }
@@ -71,6 +77,7 @@ pub fn suits(want: u8, class: u8) -> bool
         REFERENCE => (class == NAME) | is_number(class),
         TRUTH => (class == TRUE) | (class == FALSE),
         FLAG_LIST => is_flag(class),
+        NUMERIC_FLAGS => is_flag(class),
         _ => class == HEX,
     }
 }
@@ -105,6 +112,7 @@ pub fn in_range(src: &[u8], token: Token, want: u8) -> bool
         ID => is_between(src, at, 1, 65535),
         SMALL => is_between(src, at, 0, 65535),
         LARGE => is_between(src, at, 0, 18446744073709551615),
+        NUMERIC_VALUE => is_between(src, at, 0, 18446744073709551615),
         OPTION_FLAGS => word_or_between(src, at, token.class == DEFAULT, 0, 0),
         REFERENCE => word_or_between(src, at, token.class == NAME, 1, 65535),
         H8 => values::digits_at(src, at) <= 8,

@@ -17,8 +17,13 @@ suits-spec =
     (λ c κs. search needs)
     (λ c κs. search needs)
     (λ c κs. search needs)
+    (λ c κs. search needs)
     (λ c. rw (c .before .match .keys1, c .is-number2 .ensures) (number-or (c .before .before .before .before .args .class) «DEFAULT»))
     (λ c. rw (c .before .match .keys2, c .is-number3 .ensures) (or-number (c .before .before .before .before .args .class) NAME))
     (λ c. rw (c .match .keys3) (of-two (c .before .before .before .args .class) «TRUE» «FALSE»))
     (λ c. rw (c .before .match .keys4) (c .is-flag .ensures))
-    (λ c. let n = c .match .rest in rw (starts-hex (c .before .before .before .args .want) (c .before .if2 .left) (n .0 .0 .0 .1) (n .0 .0 .1) (n .0 .1) (n .1)) (of-one (c .before .before .before .args .class) HEX)))
+    (λ c. rw (c .before .match .keys5) (c .is-flag2 .ensures))
+    (λ c.
+    let n = c .match .rest in
+    rw (starts-hex (c .before .before .before .args .want) (c .before .if2 .left) (n .0 .0 .0 .0 .1) (n .0 .0 .0 .1) (n .0 .0 .1) (n .0 .1) (n .1))
+    (of-one (c .before .before .before .args .class) HEX)))

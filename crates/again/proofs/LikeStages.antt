@@ -63,7 +63,8 @@ numeric-like : {d′ d : Draft} → Like d′ d → is code.NUMERIC d ≡ true �
 numeric-like {d′} {d} l e h =
     let a = a-of l code.NUMERIC refl refl e in
     let limits : below d′ (cell column.B d′) (cell column.A d′) ≡ below d (cell column.B d) (cell column.A d) = rw (l .b-same, a, below-like l) in
-    let defaults : (ltb 0 (d′ .defaultAt) && outside d′) ≡ (ltb 0 (d .defaultAt) && outside d) = rw (l .default-same, l .d-same, l .b-same, a) (simp (below-like l)) in
+    let defaults : (ltb 0 (d′ .defaultAt) && outside d′) ≡ (ltb 0 (d .defaultAt) && outside d) =
+    rw (l .default-same, l .d-same, l .b-same, a) (simp (below-like l)) in
     like-faults (d′ .limitAt) (d .limitAt) (d′ .defaultAt) (d .defaultAt) limits defaults h
 
 -- an option beside another, with the same value

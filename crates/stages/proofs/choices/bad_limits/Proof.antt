@@ -54,7 +54,8 @@ returns-2 c =
     let most = cell-read t i column.B refl (crossed .before .cell2 .ensures) in
     let x = cell-read t i column.D refl (default .cell3 .ensures) in
     c .default-mark .ensures
-    ∙ default-outside (draftAt t i) least most (crossed .below .ensures) (default .before .if1 .left) x (over .before .below2 .ensures) (over .below3 .ensures) (c .before .if2 .taken)
+    ∙ default-outside (draftAt t i) least most (crossed .below .ensures) (default .before .if1 .left) x (over .before .below2 .ensures)
+    (over .below3 .ensures) (c .before .if2 .taken)
 
 returns-3 : tie.Need-returns-3
 returns-3 c =
@@ -67,7 +68,8 @@ returns-3 c =
     let least = cell-read t i column.A refl (crossed .before .before .cell .ensures) in
     let most = cell-read t i column.B refl (crossed .before .cell2 .ensures) in
     let x = cell-read t i column.D refl (default .cell3 .ensures) in
-    default-within (draftAt t i) least most (crossed .below .ensures) (default .before .if1 .left) x (over .before .below2 .ensures) (over .below3 .ensures) (c .if2 .left)
+    default-within (draftAt t i) least most (crossed .below .ensures) (default .before .if1 .left) x (over .before .below2 .ensures)
+    (over .below3 .ensures) (c .if2 .left)
 
 pub bad-limits-spec : {M : Type 1} → statement M
 bad-limits-spec =

@@ -10,7 +10,7 @@ use Rattle.rows.specs.Codes as code
 use Rattle.rows.specs.Columns as column
 use Rattle.answers.specs.Rows.{Draft}
 use Rattle.grammar.specs.Parts.{mark}
-use Rattle.answers.specs.Stages.{cell, is, any, faultIf, repeatedForms, rulesOverLimit, badChoices, outside, beside, numericFaults, optionFaults}
+use Rattle.answers.specs.Stages.{cell, is, any, faultIf, repeatedForms, rulesOverLimit, badChoices, below, outside, beside, numericFaults, optionFaults}
 use Rattle.again.specs.Matches.{Pairs, no-pairs}
 use Rattle.again.proofs.Lists.{any-pairs}
 use Rattle.again.proofs.Faults.{no-fault, no-faults, clean-like}
@@ -54,11 +54,17 @@ limit-like p e = clean-like _ (λ before′ before d′ d b l h. like-fault (mar
 
 -- ---- 12: choices
 
+-- the rows compare numbers alike
+below-like : {d′ d : Draft} → Like d′ d → (x y : ℕ) → below d′ x y ≡ below d x y
+unfolding below
+below-like l x y = refl
+
 numeric-like : {d′ d : Draft} → Like d′ d → is code.NUMERIC d ≡ true → numericFaults d ≡ [] → numericFaults d′ ≡ []
 numeric-like {d′} {d} l e h =
     let a = a-of l code.NUMERIC refl refl e in
-    let limits : ltb (cell column.B d′) (cell column.A d′) ≡ ltb (cell column.B d) (cell column.A d) = rw (l .b-same, a) in
-    let defaults : (ltb 0 (d′ .defaultAt) && outside d′) ≡ (ltb 0 (d .defaultAt) && outside d) = rw (l .default-same, l .d-same, l .b-same, a) in
+    let limits : below d′ (cell column.B d′) (cell column.A d′) ≡ below d (cell column.B d) (cell column.A d) = rw (l .b-same, a, below-like l) in
+    let defaults : (ltb 0 (d′ .defaultAt) && outside d′) ≡ (ltb 0 (d .defaultAt) && outside d) =
+    rw (l .default-same, l .d-same, l .b-same, a) (simp (below-like l)) in
     like-faults (d′ .limitAt) (d .limitAt) (d′ .defaultAt) (d .defaultAt) limits defaults h
 
 -- an option beside another, with the same value

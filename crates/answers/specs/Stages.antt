@@ -95,14 +95,19 @@ module _ (s : List ℕ) where
       ds
 
 -- 12: of a numeric, maximum below minimum, or default outside them; of an option, its value or DEFAULT repeated in its oneof
+
+-- x is below y, as two numbers of the numeric d: in the order of unsigned numbers
+unfoldable pub below : Draft → ℕ → ℕ → Bool
+below d x y = ltb x y
+
 abbrev pub outside : Draft → Bool
-outside d = ltb (cell column.D d) (cell column.A d) || ltb (cell column.B d) (cell column.D d)
+outside d = below d (cell column.D d) (cell column.A d) || below d (cell column.B d) (cell column.D d)
 
 abbrev pub beside : Draft → Draft → Bool
 beside d e = is code.OPTION e && eqb (cell column.PARENT e) (cell column.PARENT d)
 
 abbrev pub numericFaults : Draft → List ℕ
-numericFaults d = faultIf (ltb (cell column.B d) (cell column.A d)) (d .limitAt) ++ faultIf (ltb 0 (d .defaultAt) && outside d) (d .defaultAt)
+numericFaults d = faultIf (below d (cell column.B d) (cell column.A d)) (d .limitAt) ++ faultIf (ltb 0 (d .defaultAt) && outside d) (d .defaultAt)
 
 abbrev pub optionFaults : List Draft → Draft → List ℕ
 optionFaults before d =

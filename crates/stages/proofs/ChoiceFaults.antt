@@ -9,7 +9,7 @@ use lib.Dec.{eqb, ltb}
 use Rattle.rows.specs.Codes as code
 use Rattle.rows.specs.Columns as column
 use Rattle.answers.specs.Rows.{Draft}
-use Rattle.answers.specs.Stages.{cell, is, any, outside, faultsAfter, numericFaults, optionFaults, badChoices}
+use Rattle.answers.specs.Stages.{cell, is, any, below, outside, faultsAfter, numericFaults, optionFaults, badChoices}
 use Rattle.drafts.specs.Faults.{firstFault}
 use Rattle.stages.specs.Choices.{limitsFault, leading, isDefault, optionFault, choiceFault}
 use Rattle.drafts.specs.Sound.{SoundRow, AllSound, no-rows, add-row, OptionsFollow, SoundRows, First, none}
@@ -38,7 +38,7 @@ mark-positive m b e = go (ltb 0 m) refl e
 limits-first : (d : Draft) → 0 < d .limitAt → First (limitsFault d) (numericFaults d)
 unfolding limitsFault
 limits-first d h =
-    let crossed : Bool = ltb (cell column.B d) (cell column.A d) in
+    let crossed : Bool = below d (cell column.B d) (cell column.A d) in
     first-is (either-fault (d .limitAt) (d .defaultAt) crossed (outside d) (λ e. h))
     (first-append (first-if crossed (λ e. h)) (first-if (isDefault d && outside d) (mark-positive (d .defaultAt) (outside d))))
 

@@ -10,7 +10,7 @@ use lib.ListN.{length}
 use Rattle.rows.specs.Codes as code
 use Rattle.rows.specs.Columns as column
 use Rattle.answers.specs.Rows.{Draft}
-use Rattle.answers.specs.Stages.{cell, is, any}
+use Rattle.answers.specs.Stages.{cell, is, any, below}
 use Rattle.answers.specs.Drafts.{draftsFrom}
 use Rattle.drafts.specs.Faults.{draftAt}
 use Rattle.stages.specs.Choices.{limitsFault, leading, isDefault, optionFault, choiceFault}
@@ -20,20 +20,22 @@ use Rattle.drafts.proofs.RowTests.{any-cons, any-snoc}
 -- ---- a numeric's limits
 
 module _ (d : Draft) {least most : ℕ} (a : least ≡ cell column.A d) (b : most ≡ cell column.B d) where
-  pub limits-crossed : most < least → d .limitAt ≡ limitsFault d
-  unfolding limitsFault
-  limits-crossed h = rw (← a, ← b, lt-ltb most least h)
-
-  module _ (h : least ≤ most) {x : ℕ} (e : x ≡ cell column.D d) {o : Bool} (f : o ≡ (ltb x least || ltb most x)) where
-    by-default : cond o (d .defaultAt) 0 ≡ limitsFault d
+  -- by the answers of `below`: c that they are crossed, u and o that the default is under or over them
+  module _ {c : Bool} (crossed : c ≡ below d most least) where
+    pub limits-crossed : c ≡ true → d .limitAt ≡ limitsFault d
     unfolding limitsFault
-    by-default = rw (← a, ← b, ← e, le-ltb most least h, f)
+    limits-crossed y = rw (← a, ← b, ← crossed, y)
 
-    pub default-outside : o ≡ true → d .defaultAt ≡ limitsFault d
-    default-outside y = rw y at by-default
+    module _ (n : c ≡ false) {x : ℕ} (e : x ≡ cell column.D d) {u o : Bool} (under : u ≡ below d x least) (over : o ≡ below d most x) where
+      by-default : cond (u || o) (d .defaultAt) 0 ≡ limitsFault d
+      unfolding limitsFault
+      by-default = rw (← a, ← b, ← e, ← crossed, n, ← under, ← over)
 
-    pub default-within : o ≡ false → 0 ≡ limitsFault d
-    default-within y = rw y at by-default
+      pub default-outside : (u || o) ≡ true → d .defaultAt ≡ limitsFault d
+      default-outside y = rw y at by-default
+
+      pub default-within : (u || o) ≡ false → 0 ≡ limitsFault d
+      default-within y = rw y at by-default
 
 -- ---- the options at the start of rows
 

@@ -6,11 +6,11 @@ use lib.Dec.{eqb, ltb}
 use Rattle.rows.specs.Codes as code
 use Rattle.rows.specs.Columns as column
 use Rattle.answers.specs.Rows.{Draft}
-use Rattle.answers.specs.Stages.{cell, is, any, outside}
+use Rattle.answers.specs.Stages.{cell, is, any, below, outside}
 
 -- of a numeric: maximum below minimum; default outside them
 unfoldable pub limitsFault : Draft → ℕ
-limitsFault d = cond (ltb (cell column.B d) (cell column.A d)) (d .limitAt) (cond (outside d) (d .defaultAt) 0)
+limitsFault d = cond (below d (cell column.B d) (cell column.A d)) (d .limitAt) (cond (outside d) (d .defaultAt) 0)
 
 -- the options at the start of rows
 unfoldable pub leading : List Draft → List Draft

@@ -4,7 +4,7 @@ ghost use mathlib.Core.Bool.{_&&_};
 ghost use mathlib.Core.List.{[]};
 ghost use Prim.Native.Nat.{_+_, _-_, _<_};
 ghost use lib.ListN.{length};
-ghost use Rattle.answers.specs.Stages.{any};
+ghost use Rattle.answers.specs.Stages.{any, below};
 ghost use Rattle.answers.specs.Drafts.{draftsFrom};
 ghost use Rattle.drafts.specs.Faults.{draftAt, firstFault};
 ghost use Rattle.stages.specs.Choices.{limitsFault, leading, isDefault, optionFault, choiceFault};
@@ -17,17 +17,24 @@ use rows::columns::B;
 use rows::columns::CODE;
 use rows::columns::D;
 
+// x is below y, as two numbers of the numeric in this row.
+fn below(table: &[u64], row: usize, x: u64, y: u64) -> bool
+    ensures { λ r. ⌜ r ≡ below (draftAt (now (table .entry)) row) x y ⌝ }
+{
+    x < y
+}
+
 // A numeric's maximum below its minimum, or its default outside them.
 fn bad_limits(table: &[u64], row: usize) -> u64
     ensures { λ r. ⌜ r ≡ limitsFault (draftAt (now (table .entry)) row) ⌝ }
 {
     let least = cell(table, row, A);
     let most = cell(table, row, B);
-    if most < least {
+    if below(table, row, most, least) {
         return limit_mark(table, row);
     }
     let d = cell(table, row, D);
-    if (d < least) | (most < d) {
+    if below(table, row, d, least) | below(table, row, most, d) {
         return default_mark(table, row);
     }
     0

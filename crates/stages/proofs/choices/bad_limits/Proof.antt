@@ -14,32 +14,62 @@ cell-requires c κs = search needs
 cell-requires-2 : tie.Need-cell-requires-2
 cell-requires-2 c κs = search needs
 
+below-requires : tie.Need-below-requires
+below-requires c κs = search needs
+
 limit-mark-requires : tie.Need-limit-mark-requires
 limit-mark-requires c κs = search needs
 
 returns : tie.Need-returns
 returns c =
-    let t = c .before .before .before .before .before .args .table .now in
-    let i = c .before .before .before .before .before .args .row in
-    c .limit-mark .ensures ∙ limits-crossed (draftAt t i) (cell-read t i column.A refl (c .before .before .before .cell .ensures)) (cell-read t i column.B refl (c .before .before .cell2 .ensures)) (c .before .if1 .taken)
+    let crossed = c .before .before in
+    let args = crossed .before .before .before .before .args in
+    let t = args .table .now in
+    let i = args .row in
+    let least = cell-read t i column.A refl (crossed .before .before .cell .ensures) in
+    let most = cell-read t i column.B refl (crossed .before .cell2 .ensures) in
+    c .limit-mark .ensures ∙ limits-crossed (draftAt t i) least most (crossed .below .ensures) (c .before .if1 .taken)
 
 cell-requires-3 : tie.Need-cell-requires-3
 cell-requires-3 c κs = search needs
+
+below-requires-2 : tie.Need-below-requires-2
+below-requires-2 c κs = search needs
+
+below-requires-3 : tie.Need-below-requires-3
+below-requires-3 c κs = search needs
 
 default-mark-requires : tie.Need-default-mark-requires
 default-mark-requires c κs = search needs
 
 returns-2 : tie.Need-returns-2
 returns-2 c =
-    let t = c .before .before .before .before .before .before .before .args .table .now in
-    let i = c .before .before .before .before .before .before .before .args .row in
-    c .default-mark .ensures ∙ default-outside (draftAt t i) (cell-read t i column.A refl (c .before .before .before .before .before .cell .ensures)) (cell-read t i column.B refl (c .before .before .before .before .cell2 .ensures)) (c .before .before .before .if1 .left) (cell-read t i column.D refl (c .before .before .cell3 .ensures)) refl (c .before .if2 .taken)
+    let over = c .before .before in
+    let default = over .before .before in
+    let crossed = default .before .before in
+    let args = crossed .before .before .before .before .args in
+    let t = args .table .now in
+    let i = args .row in
+    let least = cell-read t i column.A refl (crossed .before .before .cell .ensures) in
+    let most = cell-read t i column.B refl (crossed .before .cell2 .ensures) in
+    let x = cell-read t i column.D refl (default .cell3 .ensures) in
+    c .default-mark .ensures
+    ∙ default-outside (draftAt t i) least most (crossed .below .ensures) (default .before .if1 .left) x (over .before .below2 .ensures)
+    (over .below3 .ensures) (c .before .if2 .taken)
 
 returns-3 : tie.Need-returns-3
 returns-3 c =
-    let t = c .before .before .before .before .before .before .args .table .now in
-    let i = c .before .before .before .before .before .before .args .row in
-    default-within (draftAt t i) (cell-read t i column.A refl (c .before .before .before .before .cell .ensures)) (cell-read t i column.B refl (c .before .before .before .cell2 .ensures)) (c .before .before .if1 .left) (cell-read t i column.D refl (c .before .cell3 .ensures)) refl (c .if2 .left)
+    let over = c .before in
+    let default = over .before .before in
+    let crossed = default .before .before in
+    let args = crossed .before .before .before .before .args in
+    let t = args .table .now in
+    let i = args .row in
+    let least = cell-read t i column.A refl (crossed .before .before .cell .ensures) in
+    let most = cell-read t i column.B refl (crossed .before .cell2 .ensures) in
+    let x = cell-read t i column.D refl (default .cell3 .ensures) in
+    default-within (draftAt t i) least most (crossed .below .ensures) (default .before .if1 .left) x (over .before .below2 .ensures)
+    (over .below3 .ensures) (c .if2 .left)
 
 pub bad-limits-spec : {M : Type 1} → statement M
 bad-limits-spec =
@@ -47,9 +77,12 @@ bad-limits-spec =
     (tie.spec
     cell-requires
     cell-requires-2
+    below-requires
     limit-mark-requires
     returns
     cell-requires-3
+    below-requires-2
+    below-requires-3
     default-mark-requires
     returns-2
     returns-3)

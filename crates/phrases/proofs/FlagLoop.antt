@@ -4,31 +4,21 @@ use Prim.Native.Nat.{ℕ, zero, suc, _≤_, _<_}
 use mathlib.Core.Path.{_≡_, refl, sym, ap, _∙_}
 use mathlib.Core.Bool.{true, false}
 use mathlib.Core.List.{List}
-use mathlib.Core.Logic.{_≢_, _⊎_, inl, inr}
+use mathlib.Core.Logic.{_≢_}
 use native.Mathlib.Omega.{arith}
-use lib.Dec.{eqb}
 use lib.ListN.{length}
-use borrow.Author.Tests.{eq-eqb, ne-eqb, eqb-true}
+use borrow.Author.Tests.{eq-eqb, ne-eqb}
 use Rattle.lex.specs.declared.Token.{Token}
-use Rattle.lexemes.specs.Classes.{«|», BAD}
+use Rattle.lexemes.specs.Classes.{«|»}
 use Rattle.lex.specs.Tokens.{tokenAt}
 use Rattle.ll1.specs.ParseTable.{member}
-use Rattle.ll1.proofs.Basics.{either}
 use Rattle.elements.specs.declared.flags.Words.{Words}
 use Rattle.elements.specs.Words.{noWords, withWord, bitsOf}
 use Rattle.phrases.specs.Stream.{stream}
-use Rattle.elements.specs.Kinds.{FLAG-LIST, NUMERIC-FLAGS, isFlagList, startsOf, isKept}
+use Rattle.elements.specs.Kinds.{isFlagList, startsOf}
 use Rattle.phrases.specs.Phrase.{Reader, Kept, withEntry, ready, refusing, flagsFrom, takingFlags}
 use Rattle.phrases.proofs.Streams.{stream-falls}
-use Rattle.elements.proofs.KindLaws.{kept-below}
-
--- a flag word is a token with bytes
-flag-below : (e k : ℕ) → isFlagList e ≡ true → member k (startsOf e) ≡ true → k < BAD
-flag-below e k f m = kept-below e k (by (either (eqb e FLAG-LIST) (eqb e NUMERIC-FLAGS) f)) m
-  where
-    by : (eqb e FLAG-LIST ≡ true) ⊎ (eqb e NUMERIC-FLAGS ≡ true) → isKept e ≡ true
-    by (inl q) = rw (eqb-true e FLAG-LIST q)
-    by (inr q) = rw (eqb-true e NUMERIC-FLAGS q)
+use Rattle.elements.proofs.KindLaws.{flag-below}
 
 -- from the token u on, after the words w, the rest of the list is the rest of the whole
 pub record Going (s : List ℕ) (x : Reader) (e : ℕ) (u : Token) (w : Words) : Type 0 where

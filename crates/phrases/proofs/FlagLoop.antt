@@ -40,9 +40,6 @@ module _ (s : List ℕ) (x : Reader) (e : ℕ) (u : Token) (w : Words) where
   refused-at zero m = refl
   refused-at (suc n) m = rw m
 
-  pub flags-refused : Going s x e u w → member (u .class) (startsOf e) ≡ false → takingFlags s x e ≡ refusing x u
-  flags-refused g m = g .same ∙ refused-at (g .turns) m
-
   module _ (f : isFlagList e ≡ true) (m : member (u .class) (startsOf e) ≡ true) where
     falls : length (stream s u) ≡ suc (length (stream s bar))
     falls = stream-falls s u (flag-below e (u .class) f m)
@@ -64,6 +61,11 @@ module _ (s : List ℕ) (x : Reader) (e : ℕ) (u : Token) (w : Words) where
     unfolding flagsFrom
     more-at zero h same q = absurd (omega (arith, falls))
     more-at (suc n) h same q = record { is-list = f; turns = n; enough = omega (arith, fewer q); same = same ∙ rw (m, eq-eqb (bar .class) «|» q) }
+
+pub flags-refused :
+    {s : List ℕ} {x : Reader} {e : ℕ} {u : Token} {w : Words}
+    → Going s x e u w → member (u .class) (startsOf e) ≡ false → takingFlags s x e ≡ refusing x u
+flags-refused {s} {x} {e} {u} {w} g m = g .same ∙ refused-at s x e u w (g .turns) m
 
 -- the same with what the code has in hand: the token after the word, the words then, their bits
 module _ {s : List ℕ} {x : Reader} {e : ℕ} {u t : Token} {w : Words}

@@ -4,21 +4,19 @@ use mathlib.Core.Path.{_≡_, refl, ap, sym, _∙_, subst}
 use mathlib.Core.List.{List, [], _∷_, _++_, append-nil}
 use mathlib.Core.Bool.{false}
 use Prim.Native.Nat.{ℕ, _+_}
-use lib.Dec.{eqb}
 use lib.ListN.{set}
 use Rattle.rows.specs.Columns as column
-use Rattle.rows.specs.Flags as flag
 use Rattle.ll1.specs.Trees.{Trees, nil, Depth}
 use Rattle.grammar.specs.Rules.{<item>, <option>}
 use Rattle.grammar.specs.Source.{numberAt}
 use Rattle.grammar.specs.Derivation.{tooDeep}
 use Rattle.grammar.specs.Parts.{placeAt}
 use Rattle.answers.specs.Rows.{Draft}
-use Rattle.answers.specs.Text.{opening, hasFlag}
+use Rattle.answers.specs.Text.{opening}
 use Rattle.sound.proofs.Lists.{All, more}
 use Rattle.formulas.specs.Shapes.{spelling}
 use Rattle.formulas.specs.Fitted.{f-nil}
-use Rattle.roundtrip.proofs.Phrases.{cell, subtitleUnder, textUnder, labelUnder, gotoUnder, checkboxUnder, numericUnder, optionUnder}
+use Rattle.roundtrip.proofs.Phrases.{subtitleUnder, textUnder, labelUnder, gotoUnder, checkboxUnder, numericUnder, optionUnder}
 use Rattle.roundtrip.proofs.PhraseWords.{subtitle-words, text-words, label-words, goto-words, checkbox-words, numeric-words, option-words}
 use Rattle.roundtrip.proofs.PhraseFits.{subtitle-fits, text-fits, label-fits, goto-fits, checkbox-fits, numeric-fits, option-fits}
 use Rattle.roundtrip.proofs.Matches.{subtitle-match, text-match, label-match, goto-match, checkbox-match, numeric-match, option-match}
@@ -98,11 +96,11 @@ module _ (t : List ℕ) (look look′ : ℕ → List ℕ) (source : ℕ → ℕ)
     goto-ok all =
         let s = head-of all in
         record {
-          fits = goto-fits u (hasFlag flag.READ-ONLY r) (hasFlag flag.INTERACTIVE r) (hasFlag flag.RESET-REQUIRED r) r;
-          spells = subst (λ x. spelling (gotoUnder (hasFlag flag.READ-ONLY x) (hasFlag flag.INTERACTIVE x) (hasFlag flag.RESET-REQUIRED x) x) ≡ opening x ++ []) (sym (s .is-row)) (goto-words (hasFlag flag.READ-ONLY (rowOf s)) (hasFlag flag.INTERACTIVE (rowOf s)) (hasFlag flag.RESET-REQUIRED (rowOf s)) (rowOf s) ∙ sym (append-nil (opening (rowOf s))));
+          fits = goto-fits u r;
+          spells = subst (λ x. spelling (gotoUnder x) ≡ opening x ++ []) (sym (s .is-row)) (goto-words (rowOf s) ∙ sym (append-nil (opening (rowOf s))));
           over = λ T o.
               let m = goto-match t look source parent c T s o in
-              let k = leafless at (at + 1) n (told-over t look look′ source d <item> 3 (gotoUnder (hasFlag flag.READ-ONLY r) (hasFlag flag.INTERACTIVE r) (hasFlag flag.RESET-REQUIRED r) r) (goto-fits u (hasFlag flag.READ-ONLY r) (hasFlag flag.INTERACTIVE r) (hasFlag flag.RESET-REQUIRED r) r f-nil) o) told-c (silent-core o refl) core-c in
+              let k = leafless at (at + 1) n (told-over t look look′ source d <item> 3 (gotoUnder r) (goto-fits u r f-nil) o) told-c (silent-core o refl) core-c in
               record {
                 rows = pair m (k .rows);
                 count = ap (λ x. 0 + x + 0) (k .count);
@@ -114,11 +112,11 @@ module _ (t : List ℕ) (look look′ : ℕ → List ℕ) (source : ℕ → ℕ)
     checkbox-ok all =
         let s = head-of all in
         record {
-          fits = checkbox-fits u (hasFlag flag.READ-ONLY r) (hasFlag flag.INTERACTIVE r) (hasFlag flag.RESET-REQUIRED r) (hasFlag flag.HAS-DEFAULT r) (eqb (cell column.D r) 1) r;
-          spells = subst (λ x. spelling (checkboxUnder (hasFlag flag.READ-ONLY x) (hasFlag flag.INTERACTIVE x) (hasFlag flag.RESET-REQUIRED x) (hasFlag flag.HAS-DEFAULT x) (eqb (cell column.D x) 1) x) ≡ opening x ++ []) (sym (s .is-row)) (checkbox-words (hasFlag flag.READ-ONLY (rowOf s)) (hasFlag flag.INTERACTIVE (rowOf s)) (hasFlag flag.RESET-REQUIRED (rowOf s)) (hasFlag flag.HAS-DEFAULT (rowOf s)) (eqb (cell column.D (rowOf s)) 1) (rowOf s) ∙ sym (append-nil (opening (rowOf s))));
+          fits = checkbox-fits u r;
+          spells = subst (λ x. spelling (checkboxUnder x) ≡ opening x ++ []) (sym (s .is-row)) (checkbox-words (rowOf s) ∙ sym (append-nil (opening (rowOf s))));
           over = λ T o.
               let m = checkbox-match t look source parent c T s o in
-              let k = leafless at (at + 1) n (told-over t look look′ source d <item> 4 (checkboxUnder (hasFlag flag.READ-ONLY r) (hasFlag flag.INTERACTIVE r) (hasFlag flag.RESET-REQUIRED r) (hasFlag flag.HAS-DEFAULT r) (eqb (cell column.D r) 1) r) (checkbox-fits u (hasFlag flag.READ-ONLY r) (hasFlag flag.INTERACTIVE r) (hasFlag flag.RESET-REQUIRED r) (hasFlag flag.HAS-DEFAULT r) (eqb (cell column.D r) 1) r f-nil) o) told-c (silent-core o refl) core-c in
+              let k = leafless at (at + 1) n (told-over t look look′ source d <item> 4 (checkboxUnder r) (checkbox-fits u r f-nil) o) told-c (silent-core o refl) core-c in
               record {
                 rows = pair m (k .rows);
                 count = ap (λ x. 0 + x + 0) (k .count);
@@ -130,11 +128,11 @@ module _ (t : List ℕ) (look look′ : ℕ → List ℕ) (source : ℕ → ℕ)
     numeric-ok all =
         let s = head-of all in
         record {
-          fits = numeric-fits u (hasFlag flag.READ-ONLY r) (hasFlag flag.INTERACTIVE r) (hasFlag flag.RESET-REQUIRED r) (hasFlag flag.HAS-DEFAULT r) r;
-          spells = subst (λ x. spelling (numericUnder (hasFlag flag.READ-ONLY x) (hasFlag flag.INTERACTIVE x) (hasFlag flag.RESET-REQUIRED x) (hasFlag flag.HAS-DEFAULT x) x) ≡ opening x ++ []) (sym (s .is-row)) (numeric-words (hasFlag flag.READ-ONLY (rowOf s)) (hasFlag flag.INTERACTIVE (rowOf s)) (hasFlag flag.RESET-REQUIRED (rowOf s)) (hasFlag flag.HAS-DEFAULT (rowOf s)) (rowOf s) ∙ sym (append-nil (opening (rowOf s))));
+          fits = numeric-fits u r;
+          spells = subst (λ x. spelling (numericUnder x) ≡ opening x ++ []) (sym (s .is-row)) (numeric-words (rowOf s) ∙ sym (append-nil (opening (rowOf s))));
           over = λ T o.
               let m = numeric-match t look source parent c T s o in
-              let k = leafless at (at + 1) n (told-over t look look′ source d <item> 5 (numericUnder (hasFlag flag.READ-ONLY r) (hasFlag flag.INTERACTIVE r) (hasFlag flag.RESET-REQUIRED r) (hasFlag flag.HAS-DEFAULT r) r) (numeric-fits u (hasFlag flag.READ-ONLY r) (hasFlag flag.INTERACTIVE r) (hasFlag flag.RESET-REQUIRED r) (hasFlag flag.HAS-DEFAULT r) r f-nil) o) told-c (silent-core o refl) core-c in
+              let k = leafless at (at + 1) n (told-over t look look′ source d <item> 5 (numericUnder r) (numeric-fits u r f-nil) o) told-c (silent-core o refl) core-c in
               record {
                 rows = pair m (k .rows);
                 count = ap (λ x. 0 + x + 0) (k .count);
@@ -146,11 +144,11 @@ module _ (t : List ℕ) (look look′ : ℕ → List ℕ) (source : ℕ → ℕ)
     option-ok all =
         let s = head-of all in
         record {
-          fits = option-fits u (hasFlag flag.OPTION-DEFAULT r) r;
-          spells = subst (λ x. spelling (optionUnder (hasFlag flag.OPTION-DEFAULT x) x) ≡ opening x) (sym (s .is-row)) (option-words (hasFlag flag.OPTION-DEFAULT (rowOf s)) (rowOf s));
+          fits = option-fits u r;
+          spells = subst (λ x. spelling (optionUnder x) ≡ opening x) (sym (s .is-row)) (option-words (rowOf s));
           over = λ T o.
               let m = option-match t look source parent c T s o in
-              let k = leafless at (at + 1) n (told-over t look look′ source d <option> 0 (optionUnder (hasFlag flag.OPTION-DEFAULT r) r) (option-fits u (hasFlag flag.OPTION-DEFAULT r) r f-nil) o) told-c (silent-core o refl) core-c in
+              let k = leafless at (at + 1) n (told-over t look look′ source d <option> 0 (optionUnder r) (option-fits u r f-nil) o) told-c (silent-core o refl) core-c in
               record {
                 rows = pair m (k .rows);
                 count = ap (λ x. 0 + x + 0) (k .count);

@@ -24,7 +24,7 @@ use Rattle.answers.specs.Text.{hasFlag}
 use Rattle.formulas.specs.Shapes.{ruleWord, Shape, Over}
 use Rattle.formulas.specs.Formula.{Formula}
 use Rattle.roundtrip.proofs.Phrases.{cell, subtitleUnder, textUnder, labelUnder, gotoUnder, checkboxUnder, numericUnder, oneOfUnder, optionUnder, ruleUnder, formUnder, formSetUnder}
-use Rattle.roundtrip.proofs.PhraseRows.{questionRow, marked, subtitle-is, text-is, label-is, goto-is, checkbox-is, numeric-is, one-of-is, option-is, rule-is, form-is, highOf, lowOf, form-set-is}
+use Rattle.roundtrip.proofs.PhraseRows.{questionRow, gotoHolds, checkboxHolds, numericHolds, oneOfHolds, marked, subtitle-is, text-is, label-is, goto-is, checkbox-is, numeric-is, one-of-is, option-is, rule-is, form-is, highOf, lowOf, form-set-is}
 use Rattle.roundtrip.proofs.FlagsAgain.{bit, again, flags-default-again, flags-again, default-again}
 use Rattle.again.specs.Matches.{Settled, Match}
 use Rattle.again.proofs.Likeness.{numbered-row, draft-row}
@@ -135,7 +135,7 @@ module _ (t : List ℕ) (look : ℕ → List ℕ) (source : ℕ → ℕ) (parent
         whole = refl;
         same =
             ap withoutPlaces (q .row)
-            ∙ subst (λ x. withoutPlaces (asked code.GOTO x (column.FLAGS ≔ again (cell column.FLAGS x) ∷ column.A ≔ cell column.A x ∷ [])) ≡ withoutPlaces x) (sym e)
+            ∙ subst (λ x. withoutPlaces (asked code.GOTO x (gotoHolds x)) ≡ withoutPlaces x) (sym e)
             (λ j. withoutPlaces (set found column.FLAGS (fl j)));
         code-same = refl;
         default = refl;
@@ -155,7 +155,7 @@ module _ (t : List ℕ) (look : ℕ → List ℕ) (source : ℕ → ℕ) (parent
         whole = refl;
         same =
             ap withoutPlaces (q .row)
-            ∙ subst (λ x. withoutPlaces (asked code.ONE-OF x (column.FLAGS ≔ again (cell column.FLAGS x) ∷ [])) ≡ withoutPlaces x) (sym e)
+            ∙ subst (λ x. withoutPlaces (asked code.ONE-OF x (oneOfHolds x)) ≡ withoutPlaces x) (sym e)
             (λ j. withoutPlaces (set found column.FLAGS (fl j)));
         code-same = refl;
         default = refl;
@@ -181,7 +181,7 @@ module _ (t : List ℕ) (look : ℕ → List ℕ) (source : ℕ → ℕ) (parent
         whole = refl;
         same =
             ap withoutPlaces (q .row)
-            ∙ subst (λ y. withoutPlaces (asked code.CHECKBOX y (column.FLAGS ≔ (again (cell column.FLAGS y) + when (bit flag.HAS-DEFAULT (cell column.FLAGS y)) flag.HAS-DEFAULT) ∷ column.D ≔ when (bit flag.HAS-DEFAULT (cell column.FLAGS y)) (when (eqb (cell column.D y) 1) 1) ∷ [])) ≡ withoutPlaces y) (sym e)
+            ∙ subst (λ y. withoutPlaces (asked code.CHECKBOX y (checkboxHolds y)) ≡ withoutPlaces y) (sym e)
             (λ j. withoutPlaces (set (set found column.FLAGS (fl j)) column.D (dv j)));
         code-same = refl;
         default = refl;
@@ -209,7 +209,7 @@ module _ (t : List ℕ) (look : ℕ → List ℕ) (source : ℕ → ℕ) (parent
         whole = refl;
         same =
             ap withoutPlaces (q .row)
-            ∙ subst (λ y. withoutPlaces (asked code.NUMERIC y (column.FLAGS ≔ (again (cell column.FLAGS y) + when (bit flag.HAS-DEFAULT (cell column.FLAGS y)) flag.HAS-DEFAULT) ∷ column.A ≔ cell column.A y ∷ column.B ≔ cell column.B y ∷ column.C ≔ cell column.C y ∷ column.D ≔ when (bit flag.HAS-DEFAULT (cell column.FLAGS y)) (cell column.D y) ∷ [])) ≡ withoutPlaces y) (sym e)
+            ∙ subst (λ y. withoutPlaces (asked code.NUMERIC y (numericHolds y)) ≡ withoutPlaces y) (sym e)
             (λ j. withoutPlaces (set (set found column.FLAGS (fl j)) column.D (dv j)));
         code-same = refl;
         default = m .1 ∙ default-bit ∙ when-mark d (placeAt 0 (child 2 (child 13 c)));

@@ -52,6 +52,28 @@ abbrev pub questionRow : (k parent place own first second name : ℕ) → List E
 questionRow k parent place own first second name entries =
     rowWith k parent place (column.OWN ≔ own ∷ column.FIRST ≔ first ∷ column.SECOND ≔ second ∷ column.NAME ≔ name ∷ entries)
 
+-- and what else the row of a question in the text holds, by the row that it was printed from
+abbrev flagsWithDefault : List ℕ → ℕ
+flagsWithDefault r = flagTotal (rowFlags r) + when (hasFlag flag.HAS-DEFAULT r) flag.HAS-DEFAULT
+
+abbrev pub gotoHolds : List ℕ → List Entry
+gotoHolds r = column.FLAGS ≔ flagTotal (rowFlags r) ∷ column.A ≔ cell column.A r ∷ []
+
+abbrev pub checkboxHolds : List ℕ → List Entry
+checkboxHolds r = column.FLAGS ≔ flagsWithDefault r ∷ column.D ≔ when (hasFlag flag.HAS-DEFAULT r) (when (eqb (cell column.D r) 1) 1) ∷ []
+
+abbrev pub numericHolds : List ℕ → List Entry
+numericHolds r =
+    column.FLAGS ≔ flagsWithDefault r
+    ∷ column.A ≔ cell column.A r
+    ∷ column.B ≔ cell column.B r
+    ∷ column.C ≔ cell column.C r
+    ∷ column.D ≔ when (hasFlag flag.HAS-DEFAULT r) (cell column.D r)
+    ∷ []
+
+abbrev pub oneOfHolds : List ℕ → List Entry
+oneOfHolds r = column.FLAGS ≔ flagTotal (rowFlags r) ∷ []
+
 pub marked : (p : ℕ) → ltb 0 (mark p) ≡ true
 marked p = lt-ltb 0 (suc p) (omega arith)
 
@@ -136,14 +158,14 @@ module _ (t : List ℕ) where
     pub row : d .row ≡ questionRow k parent place (cell column.OWN r) (cell column.FIRST r) (cell column.SECOND r) 0 entries
     pub written : ltb 0 (d .ownAt) ≡ true
 
-  pub goto-is : (r : List ℕ) (parent : ℕ) {T : Trees} → Over t T (gotoUnder r) → Question (item N parent 3 T) code.GOTO parent (placeAt 0 T) r (column.FLAGS ≔ flagTotal (rowFlags r) ∷ column.A ≔ cell column.A r ∷ [])
+  pub goto-is : (r : List ℕ) (parent : ℕ) {T : Trees} → Over t T (gotoUnder r) → Question (item N parent 3 T) code.GOTO parent (placeAt 0 T) r (gotoHolds r)
   goto-is r parent {T} o =
       let h = head-is r (over-part 3 o) in
       let g = number-is {v = cell column.A r} (over-part 1 o) in
       let fl = over-flags t (over-part 4 o) ∙ goto-flags-in (rowFlags r) in
       record { row = λ i. questionRow code.GOTO parent (placeAt 0 T) (h .own i) (h .first i) (h .second i) (h .unnamed i) (column.FLAGS ≔ fl i ∷ column.A ≔ g i ∷ []); written = h .written }
 
-  pub checkbox-is : (r : List ℕ) (parent : ℕ) {T : Trees} → Over t T (checkboxUnder r) → Question (item N parent 4 T) code.CHECKBOX parent (placeAt 0 T) r (column.FLAGS ≔ (flagTotal (rowFlags r) + when (hasFlag flag.HAS-DEFAULT r) flag.HAS-DEFAULT) ∷ column.D ≔ when (hasFlag flag.HAS-DEFAULT r) (when (eqb (cell column.D r) 1) 1) ∷ [])
+  pub checkbox-is : (r : List ℕ) (parent : ℕ) {T : Trees} → Over t T (checkboxUnder r) → Question (item N parent 4 T) code.CHECKBOX parent (placeAt 0 T) r (checkboxHolds r)
   checkbox-is r parent {T} o =
       let h = head-is r (over-part 1 o) in
       let fl = over-flags t (over-part 3 o) ∙ flags-in flagRules (rowFlags r) in
@@ -155,7 +177,7 @@ module _ (t : List ℕ) where
       }
 
   pub numeric-is : (r : List ℕ) (parent : ℕ) {T : Trees} → Over t T (numericUnder r)
-      → Question (item N parent 5 T) code.NUMERIC parent (placeAt 0 T) r (column.FLAGS ≔ (flagTotal (rowFlags r) + when (hasFlag flag.HAS-DEFAULT r) flag.HAS-DEFAULT) ∷ column.A ≔ cell column.A r ∷ column.B ≔ cell column.B r ∷ column.C ≔ cell column.C r ∷ column.D ≔ when (hasFlag flag.HAS-DEFAULT r) (cell column.D r) ∷ []) × (ltb 0 (item N parent 5 T .defaultAt) ≡ hasFlag flag.HAS-DEFAULT r)
+      → Question (item N parent 5 T) code.NUMERIC parent (placeAt 0 T) r (numericHolds r) × (ltb 0 (item N parent 5 T .defaultAt) ≡ hasFlag flag.HAS-DEFAULT r)
   numeric-is r parent {T} o =
       let h = head-is r (over-part 1 o) in
       let fl = over-flags t (over-part 3 o) ∙ flags-in numericFlagRules (rowFlags r) in
@@ -172,7 +194,7 @@ module _ (t : List ℕ) where
         ap (λ z. ltb 0 (when z (mark (numeralAt N 2 (child 13 T))))) de ∙ marked-when (hasFlag flag.HAS-DEFAULT r) (numeralAt N 2 (child 13 T)),
       )
 
-  pub one-of-is : (r : List ℕ) (x : Shape) (parent : ℕ) {T : Trees} → Over t T (oneOfUnder r x) → Question (item N parent 6 T) code.ONE-OF parent (placeAt 0 T) r (column.FLAGS ≔ flagTotal (rowFlags r) ∷ [])
+  pub one-of-is : (r : List ℕ) (x : Shape) (parent : ℕ) {T : Trees} → Over t T (oneOfUnder r x) → Question (item N parent 6 T) code.ONE-OF parent (placeAt 0 T) r (oneOfHolds r)
   one-of-is r x parent {T} o =
       let h = head-is r (over-part 1 o) in
       let fl = over-flags t (over-part 3 o) ∙ flags-in flagRules (rowFlags r) in

@@ -14,7 +14,7 @@ use Rattle.rows.specs.Flags as flag
 use Rattle.ll1.specs.Trees.{Trees, nil, leaf, node}
 use Rattle.grammar.specs.Rules.{<rule>, <item>, <option>, <form>, <source>}
 use Rattle.grammar.specs.Parts.{child, placeAt}
-use Rattle.grammar.specs.Flags.{FlagWord, flagWords}
+use Rattle.grammar.specs.Flags.{FlagWord, flagWords, setIn}
 use Rattle.grammar.specs.Positions.{condition·expression, rule·expression}
 use Rattle.answers.specs.Expression.{Expression, number, constant, question-named, question-numbered, rule-named, negation, binary, level, operatorClass, constantClass, expression}
 
@@ -90,12 +90,7 @@ flagList (w ∷ ws) = lexeme (w .class) ++ barred ws
 
 -- a flag, by its value, is set in a row
 abbrev pub hasFlag : ℕ → List ℕ → Bool
-hasFlag flag r = eqb (cell column.FLAGS r / flag % 2) 1
-
--- the words of a table whose flags are set
-abbrev pub setIn : List ℕ → List FlagWord → List FlagWord
-setIn r [] = []
-setIn r (w ∷ ws) = let more = setIn r ws in cond (hasFlag (w .value) r) (w ∷ more) more
+hasFlag k r = flag.isSet k (cell column.FLAGS r)
 
 -- words with others round them, or nothing where there are none
 abbrev pub framed : List Word → List Word → List Word → List Word
@@ -104,7 +99,7 @@ framed before (w ∷ ws) after = before ++ (w ∷ ws) ++ after
 
 -- "flags in the order above or absent"
 abbrev pub flags : List Word → List Word → List ℕ → List Word
-flags before after r = framed before (flagList (setIn r flagWords)) after
+flags before after r = framed before (flagList (setIn (cell column.FLAGS r) flagWords)) after
 
 -- "`default` where written"
 abbrev pub default : List Word → List ℕ → List Word

@@ -1,20 +1,20 @@
 -- The flag words of FL: each by its rule of the grammar, and the words among the tokens of a tree.
 -- Assumes nothing.
-use Prim.Native.Nat.{ℕ, suc, _<_}
-use mathlib.Core.Path.{_≡_, refl, ap, _∙_}
-use mathlib.Core.Bool.{Bool, true, false, _||_, or-false, or-assoc}
+use Prim.Native.Nat.{ℕ, _<_}
+use mathlib.Core.Path.{_≡_, refl}
+use mathlib.Core.Bool.{true, false, _||_, or-false, or-assoc}
 use mathlib.Core.List.{List, [], _∷_, map}
 use mathlib.Core.Option.{none, some}
 use mathlib.Core.Logic.{_≢_}
 use native.Mathlib.Omega.{arith}
 use lib.Dec.{eqb, ltb}
-use lib.ListN.{getD, getElem?}
-use borrow.Author.Tests.{eqb-true, ltb-true}
+use lib.ListN.{getD}
+use borrow.Author.Tests.{ltb-true}
 use Rattle.lexemes.specs.Classes.{«|», «INTERACTIVE», «READ_ONLY», «RESET_REQUIRED», BAD}
 use Rattle.ll1.specs.Trees.{token, Trees, nil, leaf, alternativeOf}
-use Rattle.ll1.specs.ParseTable.{entryOf, find, predict, nullable, member}
+use Rattle.ll1.specs.ParseTable.{entryOf, predict, nullable, member}
 use Rattle.ll1.specs.Test.{all, joined as union}
-use Rattle.ll1.proofs.Basics.{clash, is-none, find-joined, all-member}
+use Rattle.ll1.proofs.Basics.{is-none, find-joined, all-member}
 use Rattle.ll1.proofs.Lookups.{find-none, member-not}
 use Rattle.grammar.specs.Rules.{<fl>, <flag>*, <flag>, <numeric-fl>, <numeric-flag>*, <numeric-flag>}
 use Rattle.grammar.specs.Grammar.{rules}
@@ -22,6 +22,7 @@ use Rattle.grammar.specs.Notation.{t, r, plain, choice}
 use Rattle.grammar.specs.Lookahead.{lookahead}
 use Rattle.grammar.specs.Ranges.{free, rangeOf, outOfRange}
 use Rattle.grammar.specs.Flags.{flagWords, total}
+use Rattle.grammar.proofs.Choices.{placeIn, choice-at, choice-told}
 use Rattle.elements.specs.declared.flags.Words.{Words}
 use Rattle.elements.specs.Words.{noWords, withWord, bitsOf}
 use Rattle.elements.specs.Kinds.{flagClasses}
@@ -63,18 +64,6 @@ pub record Word (C k : ℕ) : Type 0 where
   pub way : Way (r C) k
   pub out : (s : List ℕ) (p : ℕ) (g : Trees) → outOfRange s (way .tree p g) ≡ outOfRange s g
 
--- a class of a choice: the alternative that a token of it tells is the one that it is
-told : (ws : List ℕ) (k : ℕ) → member k ws ≡ true
-    → (i : ℕ) × (find (map (λ w. w ∷ []) ws) k ≡ some i) × (getElem? (choice ws) i ≡ some (plain (t k ∷ [])))
-told [] k m = clash cc
-told (w ∷ ws) k m = by (eqb w k) refl (told ws k)
-  where
-    by : (b : Bool) → eqb w k ≡ b
-        → (member k ws ≡ true → (i : ℕ) × (find (map (λ w. w ∷ []) ws) k ≡ some i) × (getElem? (choice ws) i ≡ some (plain (t k ∷ []))))
-        → (i : ℕ) × (find (map (λ w. w ∷ []) (w ∷ ws)) k ≡ some i) × (getElem? (choice (w ∷ ws)) i ≡ some (plain (t k ∷ [])))
-    by true e later = (0, rw (e, find), ap (λ (j : ℕ). some (plain (t j ∷ []))) (eqb-true w k e))
-    by false e later = let l = later (rw e at m) in (suc (l .0), rw (e, l .1, find), l .2)
-
 -- ---- a list of words
 
 -- FL by rule A, its words after the first by rule B and each word by rule C, of these classes
@@ -99,13 +88,13 @@ module _ (C : ℕ) (ws : List ℕ)
   word-of : (k : ℕ) → member k ws ≡ true → Word C k
   unfolding outOfRange
   word-of k m =
-      let w = told ws k m in
-      let tell : predict lookahead C k ≡ some (w .0) = rw tells (w .1) in
-      let alternative : alternativeOf rules C (w .0) ≡ some (plain (t k ∷ [])) = rw are (w .2) in
+      let i = placeIn ws k in
+      let tell : predict lookahead C k ≡ some i = rw tells (choice-told ws k m) in
+      let alternative : alternativeOf rules C i ≡ some (plain (t k ∷ [])) = rw are (choice-at ws k m) in
       record {
         below = ltb-true k BAD (all-member (λ k. ltb k BAD) ws k known m);
-        way = by-rule C (w .0) k (t k) tell alternative (by-token k);
-        out = λ s p g. out-node s C (w .0) (leaf (token k p) nil) g is-free;
+        way = by-rule C i k (t k) tell alternative (by-token k);
+        out = λ s p g. out-node s C i (leaf (token k p) nil) g is-free;
       }
 
   no-word-of : union (map (λ w. w ∷ []) ws) ≡ ws → (k : ℕ) → member k ws ≡ false → predict lookahead C k ≡ none

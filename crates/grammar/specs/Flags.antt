@@ -3,6 +3,7 @@
 use Prim.Native.Nat.{ℕ, _+_}
 use mathlib.Core.List.{List, [], _∷_, map}
 use Rattle.lexemes.specs.Classes.{«INTERACTIVE», «READ_ONLY», «RESET_REQUIRED»}
+use mathlib.Core.Bool.{cond}
 use Rattle.rows.specs.Flags as flag
 use Rattle.ll1.specs.Trees.{Token, token, Trees, leaves}
 use Rattle.ll1.specs.ParseTable.{member}
@@ -39,3 +40,8 @@ total (w ∷ ws) ks = when (member (w .class) ks) (w .value) + total ws ks
 -- the flags that stand in trees
 abbrev pub flags : Trees → ℕ
 flags f = total flagWords (classes f)
+
+-- the words that are set among flags, in their order
+abbrev pub setIn : ℕ → List FlagWord → List FlagWord
+setIn n [] = []
+setIn n (w ∷ ws) = let more = setIn n ws in cond (flag.isSet (w .value) n) (w ∷ more) more

@@ -20,14 +20,17 @@ use Rattle.grammar.specs.Grammar.{rules}
 use Rattle.grammar.specs.Derivation.{tooDeep}
 use Rattle.grammar.specs.Ranges.{free, ranges, rangeOf}
 use Rattle.grammar.specs.Parts.{when}
-use Rattle.grammar.specs.Flags.{FlagWord, flagWords, classOf, classes, total, flags}
+use Rattle.grammar.specs.Flags.{FlagWord, flagWords, classOf, classes, total, flags, setIn}
 use Rattle.grammar.proofs.Theorems.{flags-listed}
-use Rattle.answers.specs.Text.{barred, flagList, setIn, hasFlag}
+use Rattle.grammar.proofs.Choices.{placeIn, choice-at}
+use Rattle.rows.specs.Columns as column
+use Rattle.rows.specs.Flags.{isSet}
+use Rattle.answers.specs.Text.{barred, flagList}
 use Rattle.sound.proofs.Lists.{apart}
 use Rattle.formulas.specs.Shapes.{Lexed, sign, word, tokenOf, Read, Shape, flat, lexed, read-sign, read-decimal, read-rule, read-hex, Over, over-nil, over-leaf, over-node}
 use Rattle.formulas.specs.Fitted.{Fitted, f-nil, f-leaf, f-node}
 use Rattle.roundtrip.proofs.Ranged.{Ranged}
-use Rattle.roundtrip.proofs.Phrases.{classesOf, rowFlags, FlagRules, flagRules, numericFlagRules, placeIn, moreFlags, flagsUnder, flagsShape}
+use Rattle.roundtrip.proofs.Phrases.{classesOf, rowFlags, FlagRules, flagRules, numericFlagRules, moreFlags, flagsUnder, flagsShape}
 
 -- ---- the rules of an FL
 
@@ -55,31 +58,20 @@ known R w = member (w .class) (R .classes)
 abbrev pub Known : FlagRules → List FlagWord → Type 0
 Known R ws = all (known R) ws ≡ true
 
--- those of them that a row sets
-set-known : (R : FlagRules) (row : List ℕ) (ws : List FlagWord) → Known R ws → Known R (setIn row ws)
-set-known R row [] h = refl
-set-known R row (w ∷ ws) h = let k = both (known R w) _ h in by (hasFlag (w .value) row) (k .0) (set-known R row ws (k .1))
+-- those of them that are set
+set-known : (R : FlagRules) (n : ℕ) (ws : List FlagWord) → Known R ws → Known R (setIn n ws)
+set-known R n [] h = refl
+set-known R n (w ∷ ws) h = let k = both (known R w) _ h in by (isSet (w .value) n) (k .0) (set-known R n ws (k .1))
   where
-    by : (b : Bool) → known R w ≡ true → Known R (setIn row ws) → Known R (cond b (w ∷ setIn row ws) (setIn row ws))
+    by : (b : Bool) → known R w ≡ true → Known R (setIn n ws) → Known R (cond b (w ∷ setIn n ws) (setIn n ws))
     by true k more = rw k more
     by false k more = more
 
 pub flags-known : (row : List ℕ) → Known flagRules (rowFlags row)
-flags-known row = set-known flagRules row flagWords refl
+flags-known row = set-known flagRules (getD row column.FLAGS 0) flagWords refl
 
 pub numeric-flags-known : (row : List ℕ) → Known numericFlagRules (rowFlags row)
-numeric-flags-known row = set-known numericFlagRules row flagWords refl
-
--- the alternative of a word is its place
-choice-at : (ks : List ℕ) (k : ℕ) → member k ks ≡ true → getElem? (choice ks) (placeIn ks k) ≡ some (plain (t k ∷ []))
-choice-at [] k h = clash cc
-choice-at (j ∷ ks) k h = by (eqb j k) refl (choice-at ks k)
-  where
-    by :
-        (b : Bool) → eqb j k ≡ b → (member k ks ≡ true → getElem? (choice ks) (placeIn ks k) ≡ some (plain (t k ∷ [])))
-        → getElem? (choice (j ∷ ks)) (placeIn (j ∷ ks) k) ≡ some (plain (t k ∷ []))
-    by true e later = rw (e, placeIn) (ap (λ i. some (plain (t i ∷ []))) (eqb-true j k e))
-    by false e later = rw (e, placeIn) (later (rw e at h))
+numeric-flags-known row = set-known numericFlagRules (getD row column.FLAGS 0) flagWords refl
 
 module _ (R : FlagRules) where
   -- ---- its words, with others after them

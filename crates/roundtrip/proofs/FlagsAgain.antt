@@ -7,14 +7,11 @@ use Prim.Native.Nat.{ℕ, _+_, _/_, _%_}
 use native.Mathlib.Nat.{add-zero}
 use lib.Dec.{eqb}
 use borrow.Author.Tests.{eqb-true}
-use Rattle.rows.specs.Columns as column
-use Rattle.rows.specs.Cells.{_≔_, filled}
 use Rattle.rows.specs.Flags as flag
 use Rattle.ll1.specs.ParseTable.{member}
 use Rattle.ll1.proofs.Basics.{both}
 use Rattle.grammar.specs.Parts.{when}
-use Rattle.grammar.specs.Flags.{FlagWord, flagWords, total}
-use Rattle.roundtrip.proofs.Phrases.{rowFlags}
+use Rattle.grammar.specs.Flags.{FlagWord, flagWords, total, setIn}
 use Rattle.roundtrip.proofs.PhraseRows.{flagTotal}
 
 -- ---- a test of every total that the words of a table can have
@@ -35,13 +32,9 @@ total-tested test (w ∷ ws) ks h = by (member (w .class) ks) (both _ _ h) (λ p
 
 -- ---- the column
 
--- a flag of a number
-abbrev pub bit : ℕ → ℕ → Bool
-bit f x = eqb (x / f % 2) 1
-
--- the flags of the words of a row whose column is x
+-- the flags of the words that are set in it
 abbrev pub again : ℕ → ℕ
-again x = flagTotal (rowFlags (filled (column.FLAGS ≔ x ∷ [])))
+again x = flagTotal (setIn x flagWords)
 
 -- flags, and a default or none
 abbrev withDefault : ℕ → Bool → ℕ
@@ -67,7 +60,7 @@ module _ (ks : List ℕ) where
   pub flags-again : again n ≡ n
   flags-again = rw (add-zero n) at (flags-default-again false)
 
-  pub default-again : (d : Bool) → bit flag.HAS-DEFAULT (withDefault n d) ≡ d
+  pub default-again : (d : Bool) → flag.isSet flag.HAS-DEFAULT (withDefault n d) ≡ d
   default-again d = ap (λ m. eqb m 1) (eqb-true (withDefault n d / flag.HAS-DEFAULT % 2) (when d 1) (read-back d .1)) ∙ truth d
     where
       truth : (d : Bool) → eqb (when d 1) 1 ≡ d

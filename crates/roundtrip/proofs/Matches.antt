@@ -25,7 +25,7 @@ use Rattle.formulas.specs.Shapes.{ruleWord, Shape, Over}
 use Rattle.formulas.specs.Formula.{Formula}
 use Rattle.roundtrip.proofs.Phrases.{cell, subtitleUnder, textUnder, labelUnder, gotoUnder, checkboxUnder, numericUnder, oneOfUnder, optionUnder, ruleUnder, formUnder, formSetUnder}
 use Rattle.roundtrip.proofs.PhraseRows.{questionRow, gotoHolds, checkboxHolds, numericHolds, oneOfHolds, marked, subtitle-is, text-is, label-is, goto-is, checkbox-is, numeric-is, one-of-is, option-is, rule-is, form-is, highOf, lowOf, form-set-is}
-use Rattle.roundtrip.proofs.FlagsAgain.{bit, again, flags-default-again, flags-again, default-again}
+use Rattle.roundtrip.proofs.FlagsAgain.{again, flags-default-again, flags-again, default-again}
 use Rattle.again.specs.Matches.{Settled, Match}
 use Rattle.again.proofs.Likeness.{numbered-row, draft-row}
 
@@ -42,7 +42,7 @@ when-mark : (e : Bool) (p : ℕ) → e ≡ ltb 0 (when e (mark p))
 when-mark true p = sym (marked p)
 when-mark false p = refl
 
-option-again : (e : Bool) → bit flag.OPTION-DEFAULT (when e flag.OPTION-DEFAULT) ≡ e
+option-again : (e : Bool) → flag.isSet flag.OPTION-DEFAULT (when e flag.OPTION-DEFAULT) ≡ e
 option-again true = refl
 option-again false = refl
 
@@ -175,8 +175,8 @@ module _ (t : List ℕ) (look : ℕ → List ℕ) (source : ℕ → ℕ) (parent
       let found = set (item source parent 4 c .row) column.OWN (s .own) in
       let e : r ≡ found = numbered-row look s refl in
       let de = default-again ks d in
-      let fl : again x + when (bit flag.HAS-DEFAULT x) flag.HAS-DEFAULT ≡ x = λ i. flags-default-again ks d i + when (de i) flag.HAS-DEFAULT in
-      let dv : when (bit flag.HAS-DEFAULT x) (when (eqb (when d (when v 1)) 1) 1) ≡ when d (when v 1) = ap (λ z. when z (when (eqb (when d (when v 1)) 1) 1)) de ∙ truth-again d v in
+      let fl : again x + when (flag.isSet flag.HAS-DEFAULT x) flag.HAS-DEFAULT ≡ x = λ i. flags-default-again ks d i + when (de i) flag.HAS-DEFAULT in
+      let dv : when (flag.isSet flag.HAS-DEFAULT x) (when (eqb (when d (when v 1)) 1) 1) ≡ when d (when v 1) = ap (λ z. when z (when (eqb (when d (when v 1)) 1) 1)) de ∙ truth-again d v in
       record {
         whole = refl;
         same =
@@ -202,9 +202,9 @@ module _ (t : List ℕ) (look : ℕ → List ℕ) (source : ℕ → ℕ) (parent
       let found = set (item source parent 5 c .row) column.OWN (s .own) in
       let e : r ≡ found = numbered-row look s refl in
       let de = default-again ks d in
-      let fl : again x + when (bit flag.HAS-DEFAULT x) flag.HAS-DEFAULT ≡ x = λ i. flags-default-again ks d i + when (de i) flag.HAS-DEFAULT in
-      let dv : when (bit flag.HAS-DEFAULT x) (when d v) ≡ when d v = ap (λ z. when z (when d v)) de ∙ when-again d v in
-      let default-bit : hasFlag flag.HAS-DEFAULT r ≡ d = ap (λ y. bit flag.HAS-DEFAULT (cell column.FLAGS y)) e ∙ de in
+      let fl : again x + when (flag.isSet flag.HAS-DEFAULT x) flag.HAS-DEFAULT ≡ x = λ i. flags-default-again ks d i + when (de i) flag.HAS-DEFAULT in
+      let dv : when (flag.isSet flag.HAS-DEFAULT x) (when d v) ≡ when d v = ap (λ z. when z (when d v)) de ∙ when-again d v in
+      let default-bit : hasFlag flag.HAS-DEFAULT r ≡ d = ap (λ y. flag.isSet flag.HAS-DEFAULT (cell column.FLAGS y)) e ∙ de in
       record {
         whole = refl;
         same =
@@ -231,10 +231,10 @@ module _ (t : List ℕ) (look : ℕ → List ℕ) (source : ℕ → ℕ) (parent
         whole = refl;
         same =
             ap withoutPlaces (q .0)
-            ∙ subst (λ y. withoutPlaces (rowWith code.OPTION parent 0 (column.FIRST ≔ cell column.FIRST y ∷ column.FLAGS ≔ when (bit flag.OPTION-DEFAULT (cell column.FLAGS y)) flag.OPTION-DEFAULT ∷ column.A ≔ cell column.A y ∷ [])) ≡ withoutPlaces y) (sym e)
+            ∙ subst (λ y. withoutPlaces (rowWith code.OPTION parent 0 (column.FIRST ≔ cell column.FIRST y ∷ column.FLAGS ≔ when (flag.isSet flag.OPTION-DEFAULT (cell column.FLAGS y)) flag.OPTION-DEFAULT ∷ column.A ≔ cell column.A y ∷ [])) ≡ withoutPlaces y) (sym e)
             (λ j. withoutPlaces (set (option source parent c .row) column.FLAGS (when (de j) flag.OPTION-DEFAULT)));
         code-same = refl;
-        default = q .1 ∙ ap (λ y. bit flag.OPTION-DEFAULT (cell column.FLAGS y)) e ∙ de ∙ when-mark d (placeAt 0 (child 11 c));
+        default = q .1 ∙ ap (λ y. flag.isSet flag.OPTION-DEFAULT (cell column.FLAGS y)) e ∙ de ∙ when-mark d (placeAt 0 (child 11 c));
         question = never;
         rule = never;
         reference = never;

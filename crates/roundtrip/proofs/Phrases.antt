@@ -9,8 +9,9 @@ use Rattle.lexemes.specs.Classes as class
 use Rattle.rows.specs.Columns as column
 use Rattle.rows.specs.Flags as flag
 use Rattle.grammar.specs.Rules.{<guid>, <guid-end>, <eight>, <H8>, <H4>, <H2>, <str>, <id>, <small>, <large>, <zero>, <goto-flags>?, <flags>?, <truth-default>?, <truth>, <step>?, <number-default>?, <option-flags>, <head>, <name>?, <questionid>?, <fl>, <flag>*, <flag>, <numeric-flags>?, <numeric-fl>, <numeric-flag>*, <numeric-flag>, <numeric-value>}
-use Rattle.grammar.specs.Flags.{FlagWord, flagWords}
-use Rattle.answers.specs.Text.{hasFlag, setIn}
+use Rattle.grammar.specs.Flags.{FlagWord, flagWords, setIn}
+use Rattle.grammar.proofs.Choices.{placeIn}
+use Rattle.answers.specs.Text.{hasFlag}
 use Rattle.formulas.specs.Shapes.{sign, hex, rule-name, Shape, s-nil, s-leaf, s-node}
 use Rattle.formulas.specs.Formula.{Formula}
 use Rattle.formulas.specs.Tree.{numeralShape, tree}
@@ -49,7 +50,7 @@ classesOf ws = map (λ w. w .class) ws
 
 -- the words that a row sets
 abbrev pub rowFlags : List ℕ → List FlagWord
-rowFlags r = setIn r flagWords
+rowFlags r = setIn (cell column.FLAGS r) flagWords
 
 -- the rules of an FL: the list, the words after its first, each with its `|`, and a word; and the classes of its words
 pub record FlagRules : Type 0 where
@@ -64,11 +65,6 @@ flagRules = record { list = <fl>; more = <flag>*; word = <flag>; classes = class
 -- a numeric's
 abbrev pub numericFlagRules : FlagRules
 numericFlagRules = record { list = <numeric-fl>; more = <numeric-flag>*; word = <numeric-flag>; classes = classesOf flagWords }
-
--- the place of a class among the classes of the words, from 0: its alternative
-abbrev pub placeIn : List ℕ → ℕ → ℕ
-placeIn [] k = 0
-placeIn (j ∷ ks) k = elim (eqb j k) [ true ↦ 0 | false ↦ suc (placeIn ks k) ]
 
 module _ (R : FlagRules) where
   abbrev pub flagShape : FlagWord → Shape → Shape

@@ -1,5 +1,7 @@
 -- The bits of a row's flags (document 01, "Grammar" and "Rows").
-use Prim.Native.Nat.{ℕ}
+use Prim.Native.Nat.{ℕ, _/_, _%_}
+use mathlib.Core.Bool.{Bool}
+use lib.Dec.{eqb}
 
 -- the flags of a question
 abbrev pub READ-ONLY : ℕ
@@ -18,3 +20,7 @@ HAS-DEFAULT = 256
 -- an option marked `DEFAULT`
 abbrev pub OPTION-DEFAULT : ℕ
 OPTION-DEFAULT = 16
+
+-- a flag, by its bit's value, is set among flags
+abbrev pub isSet : ℕ → ℕ → Bool
+isSet flag flags = eqb (flags / flag % 2) 1

@@ -1,0 +1,127 @@
+-- Which items are hidden and which are grey, by the conditions round them (document 02, W-202).
+-- Assumes nothing.
+use Prim.Native.Nat.{ℕ, zero, suc, _+_, _/_, _%_, _≤_, _<_}
+use mathlib.Core.Path.{_≡_, refl, sym, ap, ap₂, _∙_}
+use mathlib.Core.Bool.{Bool, true, false, cond, _&&_, _||_, and-false, or-false}
+use mathlib.Core.List.{List, [], _∷_, _++_, append-assoc, append-nil}
+use mathlib.Core.Logic.{_↔_}
+use mathlib.Core.Option.{Option, none, some}
+use native.Mathlib.Omega.{arith}
+use lib.ListN.{getD, replicate}
+use Rattle.lexemes.proofs.Lists.{either, either-less}
+use Rattle.rows.specs.Codes as code
+use Rattle.ll1.proofs.Basics.{clash}
+use Rattle.operators.specs.declared.Scalar.{Scalar}
+use Rattle.operators.specs.declared.Scalar.the-variants.{Boolean, Number, Undefined}
+use Rattle.formulas.specs.Formula.{Formula}
+use Rattle.meaning.specs.Meaning.{meaning}
+use Rattle.meaning.specs.References.{references, questionReferences}
+use Rattle.meaning.proofs.Named.{Agree, meaning-named}
+use Rattle.laid.specs.Statements.{itemCodes}
+use Rattle.screen.specs.Kinds.{isItem, hides, greys, isTrue, byte}
+use Rattle.screen.specs.Screen.{Screen, done, statement}
+use Rattle.screen.specs.Bytes.{formulaRows, valueOf, bytes}
+use Rattle.screen.specs.Round.{ownRows, size, Stands, first, in-it, after-it, ItemAt, SomeTrue, EachExpression}
+use Rattle.screen.proofs.RowLaws.{stands-inside, own-byte, expression-byte, inner-byte, later-byte}
+use Rattle.screen.proofs.RoundLaws.{someTrue, true-some, some-true, stands-byte, expression-zero, others-zero}
+use Rattle.screen.proofs.ExpressionLaws.{each-own, each-within, each-later}
+-- there are as many bytes as rows
+pub use Rattle.screen.proofs.RowLaws.{length-bytes}
+-- the expressions of a derivation that is nowhere too deep are shallow
+pub use Rattle.screen.proofs.ExpressionLaws.{source-shallow}
+
+-- ---- what a byte says
+
+has-1 : (a b : Bool) → (byte a b % 2 ≡ 1) ↔ (a ≡ true)
+has-1 true true = (λ e. refl, λ e. refl)
+has-1 true false = (λ e. refl, λ e. refl)
+has-1 false true = (λ e. clash e, λ e. clash cc)
+has-1 false false = (λ e. clash e, λ e. clash cc)
+
+has-2 : (a b : Bool) → (byte a b / 2 ≡ 1) ↔ (b ≡ true)
+has-2 true true = (λ e. refl, λ e. refl)
+has-2 true false = (λ e. clash e, λ e. clash cc)
+has-2 false true = (λ e. refl, λ e. refl)
+has-2 false false = (λ e. clash e, λ e. clash cc)
+
+module _ (questions rules : ℕ → Scalar) (s : Screen) where
+  -- the byte of a row, where no condition is round the whole screen
+  abbrev pub byteAt : ℕ → ℕ
+  byteAt row = getD (bytes questions rules false false s) row 0
+
+  item-byte : {row : ℕ} (i : ItemAt row s) → byteAt row ≡ byte (someTrue questions rules hides (i .stands)) (someTrue questions rules greys (i .stands))
+  item-byte i = stands-byte questions rules (i .stands) false false ∙ rw (i .item)
+
+  -- "An item is hidden when some `suppressif` or `disableif` round it is TRUE": its byte has 1
+  pub hidden-exactly : {row : ℕ} → ItemAt row s → (byteAt row % 2 ≡ 1) ↔ SomeTrue questions rules hides row s
+  hidden-exactly i =
+      let b = has-1 (someTrue questions rules hides (i .stands)) (someTrue questions rules greys (i .stands)) in (
+        λ e. true-some questions rules hides (i .stands) (b .0 (ap (λ (n : ℕ). n % 2) (sym (item-byte i)) ∙ e)),
+        λ h. ap (λ (n : ℕ). n % 2) (item-byte i) ∙ b .1 (some-true questions rules hides (i .stands) h),
+      )
+
+  -- "grey when some `grayoutif` is": its byte has 2
+  pub grey-exactly : {row : ℕ} → ItemAt row s → (byteAt row / 2 ≡ 1) ↔ SomeTrue questions rules greys row s
+  grey-exactly i =
+      let b = has-2 (someTrue questions rules hides (i .stands)) (someTrue questions rules greys (i .stands)) in (
+        λ e. true-some questions rules greys (i .stands) (b .0 (ap (λ (n : ℕ). n / 2) (sym (item-byte i)) ∙ e)),
+        λ h. ap (λ (n : ℕ). n / 2) (item-byte i) ∙ b .1 (some-true questions rules greys (i .stands) h),
+      )
+
+  -- "0 for other rows": wherever no item stands,
+  pub others-0 : (row : ℕ) → (ItemAt row s → ⊥) → byteAt row ≡ 0
+  others-0 row no-item = others-zero questions rules s row no-item false false
+
+  -- be it the row of another statement, a form set, form, rule, condition or option by its code,
+  pub other-statement-0 : {code row : ℕ} {e : Option Formula} {inner : Screen} → Stands code e inner row s → isItem code ≡ false → byteAt row ≡ 0
+  other-statement-0 st e = stands-byte questions rules st false false ∙ rw e
+
+  -- or a row of a statement's expression
+  pub expression-0 :
+      {code at row : ℕ} {e : Option Formula} {inner : Screen} → Stands code e inner at s → at < row → row < at + ownRows e → byteAt row ≡ 0
+  expression-0 st l m = expression-zero questions rules st l m false false
+
+-- ---- conditions that are not TRUE
+
+module _ (questions rules : ℕ → Scalar) (hidden grey : Bool) (code : ℕ) (condition : Formula) (within later : Screen) where
+  -- what stands in the condition has the bytes that it would have after it
+  abbrev pub HidesNothing : Type 0
+  HidesNothing =
+      bytes questions rules hidden grey (statement code (some condition) within later)
+      ≡ bytes questions rules hidden grey (statement code (some condition) done within) ++ bytes questions rules hidden grey later
+
+  nothing : isTrue (meaning questions rules condition) ≡ false → HidesNothing
+  unfolding bytes
+  nothing e =
+      rw (e, and-false (hides code), and-false (greys code), or-false hidden, or-false grey, append-assoc)
+
+  -- "undefined hides nothing", nor does it grey
+  pub undefined-nothing : meaning questions rules condition ≡ Undefined → HidesNothing
+  undefined-nothing e = nothing (rw e)
+
+  -- nor does a number, whatever it is
+  pub number-nothing : {n : ℕ} → meaning questions rules condition ≡ Number n → HidesNothing
+  number-nothing e = nothing (rw e)
+
+-- ---- what the bytes depend on
+
+module _ (p q r s : ℕ → Scalar) where
+  same-value : (f : Option Formula) → ((x : Formula) → f ≡ some x → meaning p r x ≡ meaning q s x) → valueOf p r f ≡ valueOf q s f
+  same-value none same = refl
+  same-value (some x) same = same x refl
+
+  same-bytes : (x : Screen) → EachExpression (λ e. meaning p r e ≡ meaning q s e) x → (h g : Bool) → bytes p r h g x ≡ bytes q s h g x
+  unfolding bytes
+  same-bytes done each h g = refl
+  same-bytes (statement k f within later) each h g =
+      rw (
+        same-value f (each-own _ each),
+        same-bytes within (each-within _ each) (h || hides k && isTrue (valueOf q s f)) (g || greys k && isTrue (valueOf q s f)),
+        same-bytes later (each-later _ each) h g,
+      )
+
+  -- only on the questions and the rules that the screen's expressions refer to
+  pub bytes-named :
+      (x : Screen) → EachExpression (λ e. Agree (questionReferences e) p q × Agree (references e) r s) x
+      → (h g : Bool) → bytes p r h g x ≡ bytes q s h g x
+  bytes-named x each = same-bytes x (λ k n e i st. let a = each k n e i st in meaning-named e (a .0) (a .1))

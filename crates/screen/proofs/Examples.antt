@@ -2,10 +2,9 @@
 -- Assumes nothing.
 use Prim.Native.Nat.{ℕ}
 use mathlib.Core.Path.{_≡_, refl}
-use mathlib.Core.Bool.{Bool, true, false}
-use mathlib.Core.List.{List, [], _∷_, _++_, map}
+use mathlib.Core.Bool.{false}
+use mathlib.Core.List.{List, [], _∷_, map}
 use mathlib.Core.Option.{none, some}
-use lib.ListN.{replicate}
 use Rattle.rows.specs.Codes as code
 use Rattle.rows.specs.Codes.{member}
 use Rattle.operators.specs.declared.Scalar.{Scalar}
@@ -14,27 +13,9 @@ use Rattle.operators.specs.Values.{applied, found, operations, constants}
 use Rattle.answers.specs.Expression.{equal, true′, false′, one′, ones′, undefined′}
 use Rattle.formulas.specs.Formula.{Formula, f-number as N, f-constant as C, f-binary}
 use Rattle.meaning.specs.Meaning.{meaning}
-use Rattle.laid.specs.Statements.{itemCodes}
-use Rattle.screen.specs.Kinds.{isItem, hides, greys}
+use Rattle.screen.specs.Kinds.{items, hiding, greying, isItem, hides, greys}
 use Rattle.screen.specs.Screen.{Screen, done, statement}
 use Rattle.screen.specs.Bytes.{formulaRows, bytes}
-
--- ---- the kinds of statements
-
--- of the grammar's items, in its order, the first seven have a byte, and the last three are conditions: suppressif, grayoutif, disableif
-items-listed : map isItem itemCodes ≡ replicate 7 true ++ replicate 3 false
-unfolding isItem itemCodes member
-items-listed = refl
-
-hiding-listed : map hides itemCodes ≡ replicate 7 false ++ (true ∷ false ∷ true ∷ [])
-unfolding hides itemCodes member
-hiding-listed = refl
-
-greying-listed : map greys itemCodes ≡ replicate 7 false ++ (false ∷ true ∷ false ∷ [])
-unfolding greys itemCodes member
-greying-listed = refl
-
--- ---- screens
 
 -- a condition, what stands in it, and what comes after it
 abbrev suppressif : Formula → Screen → Screen → Screen
@@ -103,5 +84,5 @@ abbrev nothing : ℕ → Scalar
 nothing n = Undefined
 
 worked : map (λ e. bytes nothing nothing false false (e .screen)) examples ≡ map (λ e. e .shown) examples
-unfolding examples bytes formulaRows meaning isItem hides greys member applied found operations constants
+unfolding examples bytes formulaRows meaning isItem hides greys items hiding greying member applied found operations constants
 worked = refl

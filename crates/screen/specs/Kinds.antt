@@ -10,16 +10,25 @@ use Rattle.operators.specs.declared.Scalar.the-variants.{Boolean, Number, Undef
 -- ---- by the code of a row
 
 -- "each item that is no condition": the items of document 01's grammar but for its last three, in its order
-unfoldable pub isItem : ℕ → Bool
-isItem code = member code (SUBTITLE ∷ TEXT ∷ LABEL ∷ GOTO ∷ CHECKBOX ∷ NUMERIC ∷ ONE-OF ∷ [])
+unfoldable pub items : List ℕ
+items = SUBTITLE ∷ TEXT ∷ LABEL ∷ GOTO ∷ CHECKBOX ∷ NUMERIC ∷ ONE-OF ∷ []
 
 -- "hidden when some `suppressif` or `disableif` round it is TRUE"
-unfoldable pub hides : ℕ → Bool
-hides code = member code (SUPPRESS-IF ∷ DISABLE-IF ∷ [])
+unfoldable pub hiding : List ℕ
+hiding = SUPPRESS-IF ∷ DISABLE-IF ∷ []
 
 -- "grey when some `grayoutif` is"
+unfoldable pub greying : List ℕ
+greying = GRAY-OUT-IF ∷ []
+
+unfoldable pub isItem : ℕ → Bool
+isItem code = member code items
+
+unfoldable pub hides : ℕ → Bool
+hides code = member code hiding
+
 unfoldable pub greys : ℕ → Bool
-greys code = member code (GRAY-OUT-IF ∷ [])
+greys code = member code greying
 
 -- ---- by the value of an expression
 

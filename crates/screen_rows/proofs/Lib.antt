@@ -1,0 +1,6 @@
+-- The laws of the two passes; and the bytes of rows that are those of statements.
+pub mod FlagLaws
+pub mod PassLaws
+pub mod RowBytes
+pub mod LaidBytes
+pub mod Theorems

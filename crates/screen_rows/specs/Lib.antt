@@ -1,0 +1,2 @@
+-- The definitions that the contracts of `screen_rows` cite.
+pub mod Passes

@@ -24,21 +24,10 @@ stands-inside (after-it st q) = omega (arith, stands-inside st)
 
 module _ (questions rules : ℕ → Scalar) where
   -- "one byte a row"
-  pub length-bytes : (hidden grey : Bool) (s : Screen) → length (bytes questions rules hidden grey s) ≡ size s
+  pub length-bytes : (s : Screen) (hidden grey : Bool) → length (bytes questions rules hidden grey s) ≡ size s
   unfolding bytes size
-  length-bytes h g done = refl
-  length-bytes h g (statement k e within later) =
-      let holds : Bool = isTrue (valueOf questions rules e) in
-      let inner : List ℕ = bytes questions rules (h || hides k && holds) (g || greys k && holds) within in
-      let after : List ℕ = bytes questions rules h g later in
-      omega (
-        arith,
-        length-append (replicate (expressionRows e) 0) (inner ++ after),
-        length-append inner after,
-        length-replicate {A = ℕ} (expressionRows e) 0,
-        length-bytes (h || hides k && holds) (g || greys k && holds) within,
-        length-bytes h g later,
-      )
+  length-bytes done h g = refl
+  length-bytes (statement k e within later) h g = simp (length-append, length-replicate, length-bytes within, length-bytes later) (omega arith)
 
   module _ (h g : Bool) (k : ℕ) (e : Option Formula) (within later : Screen) where
     abbrev holds : Bool
@@ -64,7 +53,7 @@ module _ (questions rules : ℕ → Scalar) where
     unfolding bytes
     expression-byte zero l h = absurd (omega arith)
     expression-byte (suc r) l h =
-        List·getD-append zeros (inner ++ after) 0 r (omega (arith, length-replicate {A = ℕ} (expressionRows e) 0))
+        List·getD-append zeros _ 0 r (omega (arith, length-replicate {A = ℕ} (expressionRows e) 0))
         ∙ getD-replicate (expressionRows e) r 0 0 (omega arith)
 
     -- past its own rows
@@ -76,7 +65,7 @@ module _ (questions rules : ℕ → Scalar) where
         rw z (getD-append-add zeros (inner ++ after) r 0)
 
     inner-size : length inner ≡ size within
-    inner-size = length-bytes (h || hides k && holds) (g || greys k && holds) within
+    inner-size = length-bytes within (h || hides k && holds) (g || greys k && holds)
 
     pub inner-byte : (row at : ℕ) → row ≡ ownRows e + at → at < size within → byteAt row ≡ getD inner at 0
     inner-byte row at q l = ap byteAt q ∙ past at ∙ List·getD-append inner after 0 at (omega (arith, inner-size))

@@ -4,3 +4,4 @@ pub mod PassLaws
 pub mod RowBytes
 pub mod LaidBytes
 pub mod Theorems
+pub mod Examples

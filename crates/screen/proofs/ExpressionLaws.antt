@@ -2,11 +2,10 @@
 -- Assumes nothing.
 use Prim.Native.Nat.{ℕ}
 use mathlib.Core.Path.{_≡_, refl, sym}
-use mathlib.Core.Bool.{Bool, true, false, not, _&&_, _||_}
+use mathlib.Core.Bool.{true, not, _&&_, _||_}
 use mathlib.Core.List.{List}
 use mathlib.Core.Option.{Option, none, some}
 use lib.Dec.{eqb, ltb}
-use borrow.Author.Tests.{eqb-true}
 use Rattle.lexemes.proofs.Lists.{either}
 use Rattle.ll1.specs.Trees.{Token, Trees, Symbol, Alternative, alternativeOf, Depth, deeper}
 use Rattle.ll1.proofs.Basics.{clash, implied}
@@ -25,7 +24,8 @@ use Rattle.laid.specs.Items.{Items}
 use Rattle.laid.specs.Items as items
 use Rattle.laid.specs.Statements.{makesRow, innerOf, itemsOf}
 use Rattle.screen.specs.Screen.{Screen, done, statement, expressionOf, screenOf, sourceScreen}
-use Rattle.screen.specs.Round.{Stands, first, in-it, after-it, EachExpression}
+use Rattle.screen.specs.Round.{first, in-it, after-it, EachExpression}
+use Rattle.screen.proofs.RowLaws.{stands-cases}
 
 -- ---- of a statement: its own expression, those in it and those after it
 
@@ -33,18 +33,11 @@ module _ (P : Formula → Type 0) where
   pub each-done : EachExpression P done
   each-done code row e inner st = elim st [ ]
 
-  each-of :
-      {code row k : ℕ} {e : Formula} {f : Option Formula} {inner within later : Screen}
-      → ((x : Formula) → f ≡ some x → P x) → EachExpression P within → EachExpression P later
-      → Stands code (some e) inner row (statement k f within later) → P e
-  each-of own u v first = own _ refl
-  each-of own u v (in-it st q) = u _ _ _ _ st
-  each-of own u v (after-it st q) = v _ _ _ _ st
-
   pub each-statement :
       (k : ℕ) (f : Option Formula) (within later : Screen)
       → ((x : Formula) → f ≡ some x → P x) → EachExpression P within → EachExpression P later → EachExpression P (statement k f within later)
-  each-statement k f within later own u v code row e inner st = each-of own u v st
+  each-statement k f within later own u v code row e inner st =
+      stands-cases st (λ z c q i. own e (sym q)) (λ at w q. u code at e inner w) (λ at w q. v code at e inner w)
 
   module _ {k : ℕ} {f : Option Formula} {within later : Screen} (each : EachExpression P (statement k f within later)) where
     pub each-own : (x : Formula) → f ≡ some x → P x

@@ -1,26 +1,53 @@
--- The bytes of a statement, row by row: its own, those of its expression, of what stands in it, and of what comes after it.
+-- Where statements stand in a screen; and the bytes of a statement row by row: its own, those of its expression, of what stands in it, and of what
+-- comes after it.
 -- Assumes nothing.
-use Prim.Native.Nat.{ℕ, zero, suc, _+_, _≤_, _<_}
+use Prim.Native.Nat.{ℕ, zero, suc, _+_, _-_, _≤_, _<_}
 use mathlib.Core.Path.{_≡_, refl, sym, ap, _∙_}
 use mathlib.Core.Bool.{Bool, cond, _&&_, _||_}
-use mathlib.Core.List.{List, [], _∷_, _++_}
+use mathlib.Core.List.{List, _++_}
 use mathlib.Core.Option.{Option}
 use native.Mathlib.Omega.{arith}
 use lib.ListN.{length, getD, replicate, length-append, length-replicate, getD-replicate, List·getD-append}
 use lib.Seq.{getD-append-add}
+use Rattle.lexemes.proofs.Lists.{either-less}
+use Rattle.ll1.proofs.Basics.{not-true}
 use Rattle.operators.specs.declared.Scalar.{Scalar}
 use Rattle.formulas.specs.Formula.{Formula}
 use Rattle.screen.specs.Kinds.{isItem, hides, greys, isTrue, byte}
 use Rattle.screen.specs.Screen.{Screen, done, statement}
 use Rattle.screen.specs.Bytes.{expressionRows, valueOf, bytes}
-use Rattle.screen.specs.Round.{ownRows, size, Stands, first, in-it, after-it}
+use Rattle.screen.specs.Round.{ownRows, size, Stands, first, in-it, after-it, ItemAt}
 
--- the rows of a statement and of what stands in it are among those of the screen
+-- ---- where statements stand
+
+-- one is the first, or stands in the first, or comes after it
+pub stands-cases :
+    {code k row : ℕ} {e f : Option Formula} {inner within later : Screen} {P : Type 0}
+    → Stands code e inner row (statement k f within later)
+    → (row ≡ 0 → code ≡ k → e ≡ f → inner ≡ within → P)
+    → ((at : ℕ) → Stands code e inner at within → row ≡ ownRows f + at → P)
+    → ((at : ℕ) → Stands code e inner at later → row ≡ ownRows f + (size within + at) → P)
+    → P
+stands-cases first one two three = one refl refl refl refl
+stands-cases (in-it st q) one two three = two _ st q
+stands-cases (after-it st q) one two three = three _ st q
+
+-- its rows and those of what stands in it are among those of the screen
 pub stands-inside : {code row : ℕ} {e : Option Formula} {inner s : Screen} → Stands code e inner row s → row + (ownRows e + size inner) ≤ size s
 unfolding size
 stands-inside first = omega arith
 stands-inside (in-it st q) = omega (arith, stands-inside st)
 stands-inside (after-it st q) = omega (arith, stands-inside st)
+
+-- an item in the first statement, and one after it
+module _ {k row at : ℕ} {f : Option Formula} {within later : Screen} where
+  pub in-item : row ≡ ownRows f + at → ItemAt at within → ItemAt row (statement k f within later)
+  in-item q i = record { code = i .code; expression = i .expression; inner = i .inner; stands = in-it (i .stands) q; item = i .item }
+
+  pub after-item : row ≡ ownRows f + (size within + at) → ItemAt at later → ItemAt row (statement k f within later)
+  after-item q i = record { code = i .code; expression = i .expression; inner = i .inner; stands = after-it (i .stands) q; item = i .item }
+
+-- ---- the bytes
 
 module _ (questions rules : ℕ → Scalar) where
   -- "one byte a row"
@@ -76,3 +103,36 @@ module _ (questions rules : ℕ → Scalar) where
         ∙ past (size within + at)
         ∙ ap (λ (n : ℕ). getD (inner ++ after) (n + at) 0) (sym inner-size)
         ∙ getD-append-add inner after at 0
+
+  -- ---- 0 of the rows of an expression, and of all rows where no item stands
+
+  pub expression-zero :
+      {code at row : ℕ} {e : Option Formula} {inner s : Screen} → Stands code e inner at s → at < row → row < at + ownRows e
+      → (h g : Bool) → getD (bytes questions rules h g s) row 0 ≡ 0
+  expression-zero {row = row} (first {later = later}) l m h g = expression-byte h g _ _ _ later row l (omega arith)
+  expression-zero {row = row} (in-it {k = k} {f = f} {within = within} {later = later} st q) l m h g =
+      inner-byte h g k f within later row (row - ownRows f) (omega arith) (omega (arith, stands-inside st))
+      ∙ expression-zero st (omega arith) (omega arith) _ _
+  expression-zero {row = row} (after-it {k = k} {f = f} {within = within} {later = later} st q) l m h g =
+      later-byte h g k f within later row (row - (ownRows f + size within)) (omega arith)
+      ∙ expression-zero st (omega arith) (omega arith) h g
+
+  pub others-zero : (s : Screen) (row : ℕ) → (ItemAt row s → ⊥) → (h g : Bool) → getD (bytes questions rules h g s) row 0 ≡ 0
+  unfolding bytes
+  others-zero done row no-item h g = refl
+  others-zero (statement k f within later) zero no-item h g =
+      rw (not-true (isItem k) (λ e. no-item (record { code = k; expression = f; inner = within; stands = first; item = e })))
+  others-zero (statement k f within later) (suc r) no-item h g =
+      either-less (suc r) (ownRows f)
+      (λ l. expression-byte h g k f within later (suc r) (omega arith) l)
+      (λ l. either-less (suc r) (ownRows f + size within)
+      (λ m.
+      let at : ℕ = suc r - ownRows f in
+      let q : suc r ≡ ownRows f + at = omega arith in
+      inner-byte h g k f within later (suc r) at q (omega arith)
+      ∙ others-zero within at (λ i. no-item (in-item q i)) _ _)
+      (λ m.
+      let at : ℕ = suc r - (ownRows f + size within) in
+      let q : suc r ≡ ownRows f + (size within + at) = omega arith in
+      later-byte h g k f within later (suc r) at q
+      ∙ others-zero later at (λ i. no-item (after-item q i)) h g))

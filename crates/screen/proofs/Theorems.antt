@@ -1,29 +1,25 @@
 -- Which items are hidden and which are grey, by the conditions round them (document 02, W-202).
 -- Assumes nothing.
-use Prim.Native.Nat.{ℕ, zero, suc, _+_, _/_, _%_, _≤_, _<_}
-use mathlib.Core.Path.{_≡_, refl, sym, ap, ap₂, _∙_}
-use mathlib.Core.Bool.{Bool, true, false, cond, _&&_, _||_, and-false, or-false}
-use mathlib.Core.List.{List, [], _∷_, _++_, append-assoc, append-nil}
+use Prim.Native.Nat.{ℕ, _+_, _/_, _%_, _<_}
+use mathlib.Core.Path.{_≡_, refl, sym, ap, _∙_}
+use mathlib.Core.Bool.{Bool, true, false, _&&_, _||_, and-false, or-false}
+use mathlib.Core.List.{_++_, append-assoc}
 use mathlib.Core.Logic.{_↔_}
 use mathlib.Core.Option.{Option, none, some}
-use native.Mathlib.Omega.{arith}
-use lib.ListN.{getD, replicate}
-use Rattle.lexemes.proofs.Lists.{either, either-less}
-use Rattle.rows.specs.Codes as code
+use lib.ListN.{getD}
 use Rattle.ll1.proofs.Basics.{clash}
 use Rattle.operators.specs.declared.Scalar.{Scalar}
-use Rattle.operators.specs.declared.Scalar.the-variants.{Boolean, Number, Undefined}
+use Rattle.operators.specs.declared.Scalar.the-variants.{Number, Undefined}
 use Rattle.formulas.specs.Formula.{Formula}
 use Rattle.meaning.specs.Meaning.{meaning}
 use Rattle.meaning.specs.References.{references, questionReferences}
 use Rattle.meaning.proofs.Named.{Agree, meaning-named}
-use Rattle.laid.specs.Statements.{itemCodes}
 use Rattle.screen.specs.Kinds.{isItem, hides, greys, isTrue, byte}
 use Rattle.screen.specs.Screen.{Screen, done, statement}
-use Rattle.screen.specs.Bytes.{formulaRows, valueOf, bytes}
-use Rattle.screen.specs.Round.{ownRows, size, Stands, first, in-it, after-it, ItemAt, SomeTrue, EachExpression}
-use Rattle.screen.proofs.RowLaws.{stands-inside, own-byte, expression-byte, inner-byte, later-byte}
-use Rattle.screen.proofs.RoundLaws.{someTrue, true-some, some-true, stands-byte, expression-zero, others-zero}
+use Rattle.screen.specs.Bytes.{valueOf, bytes}
+use Rattle.screen.specs.Round.{ownRows, Stands, ItemAt, SomeTrue, EachExpression}
+use Rattle.screen.proofs.RowLaws.{expression-zero, others-zero}
+use Rattle.screen.proofs.RoundLaws.{someTrue, true-some, some-true, stands-byte}
 use Rattle.screen.proofs.ExpressionLaws.{each-own, each-within, each-later}
 -- there are as many bytes as rows
 pub use Rattle.screen.proofs.RowLaws.{length-bytes}
@@ -49,37 +45,46 @@ module _ (questions rules : ℕ → Scalar) (s : Screen) where
   abbrev pub byteAt : ℕ → ℕ
   byteAt row = getD (bytes questions rules false false s) row 0
 
-  item-byte : {row : ℕ} (i : ItemAt row s) → byteAt row ≡ byte (someTrue questions rules hides (i .stands)) (someTrue questions rules greys (i .stands))
+  -- whether some condition that holds an item hides it, and whether one greys it
+  abbrev hidden : {row : ℕ} → ItemAt row s → Bool
+  hidden i = someTrue questions rules hides (i .stands)
+
+  abbrev grey : {row : ℕ} → ItemAt row s → Bool
+  grey i = someTrue questions rules greys (i .stands)
+
+  item-byte : {row : ℕ} (i : ItemAt row s) → byteAt row ≡ byte (hidden i) (grey i)
   item-byte i = stands-byte questions rules (i .stands) false false ∙ rw (i .item)
+
+  -- a part of the byte that is 1 where they do
+  exactly :
+      {row : ℕ} (i : ItemAt row s) (kind : ℕ → Bool) (part : ℕ → ℕ)
+      → (part (byte (hidden i) (grey i)) ≡ 1) ↔ (someTrue questions rules kind (i .stands) ≡ true)
+      → (part (byteAt row) ≡ 1) ↔ SomeTrue questions rules kind row s
+  exactly i kind part has = (
+    λ e. true-some questions rules kind (i .stands) (has .0 (ap part (sym (item-byte i)) ∙ e)),
+    λ h. ap part (item-byte i) ∙ has .1 (some-true questions rules kind (i .stands) h),
+  )
 
   -- "An item is hidden when some `suppressif` or `disableif` round it is TRUE": its byte has 1
   pub hidden-exactly : {row : ℕ} → ItemAt row s → (byteAt row % 2 ≡ 1) ↔ SomeTrue questions rules hides row s
-  hidden-exactly i =
-      let b = has-1 (someTrue questions rules hides (i .stands)) (someTrue questions rules greys (i .stands)) in (
-        λ e. true-some questions rules hides (i .stands) (b .0 (ap (λ (n : ℕ). n % 2) (sym (item-byte i)) ∙ e)),
-        λ h. ap (λ (n : ℕ). n % 2) (item-byte i) ∙ b .1 (some-true questions rules hides (i .stands) h),
-      )
+  hidden-exactly i = exactly i hides (λ n. n % 2) (has-1 (hidden i) (grey i))
 
   -- "grey when some `grayoutif` is": its byte has 2
   pub grey-exactly : {row : ℕ} → ItemAt row s → (byteAt row / 2 ≡ 1) ↔ SomeTrue questions rules greys row s
-  grey-exactly i =
-      let b = has-2 (someTrue questions rules hides (i .stands)) (someTrue questions rules greys (i .stands)) in (
-        λ e. true-some questions rules greys (i .stands) (b .0 (ap (λ (n : ℕ). n / 2) (sym (item-byte i)) ∙ e)),
-        λ h. ap (λ (n : ℕ). n / 2) (item-byte i) ∙ b .1 (some-true questions rules greys (i .stands) h),
-      )
+  grey-exactly i = exactly i greys (λ n. n / 2) (has-2 (hidden i) (grey i))
 
   -- "0 for other rows": wherever no item stands,
-  pub others-0 : (row : ℕ) → (ItemAt row s → ⊥) → byteAt row ≡ 0
-  others-0 row no-item = others-zero questions rules s row no-item false false
+  pub other-rows-zero : (row : ℕ) → (ItemAt row s → ⊥) → byteAt row ≡ 0
+  other-rows-zero row no-item = others-zero questions rules s row no-item false false
 
-  -- be it the row of another statement, a form set, form, rule, condition or option by its code,
-  pub other-statement-0 : {code row : ℕ} {e : Option Formula} {inner : Screen} → Stands code e inner row s → isItem code ≡ false → byteAt row ≡ 0
-  other-statement-0 st e = stands-byte questions rules st false false ∙ rw e
+  -- be it the row of another statement, by its code a form set, form, rule, condition or option,
+  pub other-statement-zero : {code row : ℕ} {e : Option Formula} {inner : Screen} → Stands code e inner row s → isItem code ≡ false → byteAt row ≡ 0
+  other-statement-zero st e = stands-byte questions rules st false false ∙ rw e
 
   -- or a row of a statement's expression
-  pub expression-0 :
+  pub expression-row-zero :
       {code at row : ℕ} {e : Option Formula} {inner : Screen} → Stands code e inner at s → at < row → row < at + ownRows e → byteAt row ≡ 0
-  expression-0 st l m = expression-zero questions rules st l m false false
+  expression-row-zero st l m = expression-zero questions rules st l m false false
 
 -- ---- conditions that are not TRUE
 
@@ -92,8 +97,7 @@ module _ (questions rules : ℕ → Scalar) (hidden grey : Bool) (code : ℕ) (c
 
   nothing : isTrue (meaning questions rules condition) ≡ false → HidesNothing
   unfolding bytes
-  nothing e =
-      rw (e, and-false (hides code), and-false (greys code), or-false hidden, or-false grey, append-assoc)
+  nothing e = rw (e, and-false (hides code), and-false (greys code), or-false hidden, or-false grey, append-assoc)
 
   -- "undefined hides nothing", nor does it grey
   pub undefined-nothing : meaning questions rules condition ≡ Undefined → HidesNothing

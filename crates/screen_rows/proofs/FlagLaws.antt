@@ -2,11 +2,12 @@
 -- Assumes nothing.
 use Prim.Native.Nat.{ℕ, _≤_, _<_}
 use mathlib.Core.Path.{_≡_, refl, sym, ap, ap₂, _∙_}
-use mathlib.Core.Bool.{Bool, true, false, _||_, and-false}
+use mathlib.Core.Bool.{Bool, true, false, not, _||_, and-false}
 use mathlib.Core.List.{List}
 use lib.Bits.{bitOr, or-zero-r}
 use lib.ListN.{length, getD, take, List·getD-eq-default}
 use lib.Seq.{getD-take, length-take-le}
+use borrow.Author.Tests.{not-true, not-false}
 use Rattle.rows.specs.Columns as column
 use Rattle.rows.specs.Table.{cellAt}
 use Rattle.operators.specs.declared.Scalar.{Scalar}
@@ -15,21 +16,21 @@ use Rattle.screen.specs.Kinds.{hides, greys, isTrue}
 use Rattle.screen.proofs.KindLaws.{hides-only}
 use Rattle.screen_rows.specs.Passes.{ownFlags, flagsIn}
 
--- ---- what a condition does itself
+-- ---- what a condition does itself, by what the code's calls give
 
 module _ (code : ℕ) (v : Scalar) where
-  pub flags-false : isTrue v ≡ false → 0 ≡ ownFlags code v
-  flags-false t = rw (t, and-false (hides code), and-false (greys code))
+  pub flags-false : {holds : Bool} → holds ≡ isTrue v → not holds ≡ true → 0 ≡ ownFlags code v
+  flags-false t e = rw (sym t ∙ not-true _ e, and-false (hides code), and-false (greys code))
 
-  pub flags-hiding : isTrue v ≡ true → hides code ≡ true → 1 ≡ ownFlags code v
-  flags-hiding t h = rw (t, h, hides-only code h)
+  module _ {holds hiding : Bool} (t : holds ≡ isTrue v) (e : not holds ≡ false) (h : hiding ≡ hides code) where
+    pub flags-hiding : hiding ≡ true → 1 ≡ ownFlags code v
+    flags-hiding d = let z : hides code ≡ true = sym h ∙ d in rw (sym t ∙ not-false _ e, z, hides-only code z)
 
-  module _ (h : hides code ≡ false) where
-    pub flags-greying : isTrue v ≡ true → greys code ≡ true → 2 ≡ ownFlags code v
-    flags-greying t g = rw (t, h, g)
+    pub flags-greying : hiding ≡ false → {greying : Bool} → greying ≡ greys code → greying ≡ true → 2 ≡ ownFlags code v
+    flags-greying d g k = rw (sym t ∙ not-false _ e, sym h ∙ d, sym g ∙ k)
 
-    pub flags-none : greys code ≡ false → 0 ≡ ownFlags code v
-    flags-none g = rw (h, g)
+  pub flags-none : hides code ≡ false → greys code ≡ false → 0 ≡ ownFlags code v
+  flags-none h g = rw (h, g)
 
 -- ---- the byte of a row before this one
 
@@ -51,10 +52,11 @@ module _ (t : List ℕ) (value : ℕ → Scalar) (before : List ℕ) (i : ℕ) {
   outer : flags ≡ getD before (cellAt t i column.PARENT) 0
   outer = f ∙ ap (λ (n : ℕ). getD before n 0) p
 
-  pub flags-plain : {hiding greying : Bool} → hiding ≡ hides code → greying ≡ greys code → (hiding || greying) ≡ false → flags ≡ flagsIn t value before i
+  pub flags-plain :
+      {hiding greying : Bool} → hiding ≡ hides code → greying ≡ greys code → not (hiding || greying) ≡ true → flags ≡ flagsIn t value before i
   unfolding flagsIn
   flags-plain h g n =
-      let u = neither _ _ n in
+      let u = neither _ _ (not-true _ n) in
       let around : ℕ = getD before (cellAt t i column.PARENT) 0 in
       outer
       ∙ sym (or-zero-r around)

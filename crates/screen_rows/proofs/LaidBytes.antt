@@ -1,10 +1,10 @@
 -- The bytes of rows in which statements are laid are those of the screen of the statements.
 -- Assumes nothing.
 use Prim.Native.Nat.{ℕ, suc, _+_, _≤_, _<_}
-use mathlib.Core.Path.{_≡_, refl, sym, ap, ap₂, _∙_}
+use mathlib.Core.Path.{_≡_, refl, ap, ap₂, _∙_}
 use mathlib.Core.Bool.{Bool, true, false, cond, _&&_, _||_, or-false}
-use mathlib.Core.List.{List, [], _∷_, _++_, append-assoc, append-nil}
-use mathlib.Core.Option.{none, some}
+use mathlib.Core.List.{List, _∷_, _++_, append-assoc}
+use mathlib.Core.Option.{some}
 use native.Mathlib.Omega.{arith}
 use lib.Bits.{bitOr}
 use lib.Dec.{eqb}
@@ -21,17 +21,17 @@ use Rattle.formulas.specs.Formula.{Formula, formula}
 use Rattle.formulas.specs.Expressions.{Shallow}
 use Rattle.laid.specs.Items.{Inner, Items}
 use Rattle.laid.specs.Laid.{Stretch, Inside, inside-plain, inside-expressed, Laid, laid-done, laid-item}
-use Rattle.evaluate.specs.Spells.{Spells, spells-number, spells-constant, spells-question, spells-rule, spells-not, spells-binary}
 use Rattle.evaluate.proofs.Theorems.{spelled}
 use Rattle.expression_rows.specs.Ends.{valueAfter}
 use Rattle.expression_rows.proofs.Theorems.{after-spelled, after-none}
 use Rattle.screen.specs.Kinds.{isItem, hides, greys, isTrue, byte}
-use Rattle.screen.specs.Screen.{statement, expressionOf, screenOf}
-use Rattle.screen.specs.Bytes.{formulaRows, expressionRows, valueOf, bytes}
+use Rattle.screen.specs.Screen.{expressionOf, screenOf}
+use Rattle.screen.specs.Bytes.{expressionRows, valueOf, bytes}
 use Rattle.screen.specs.Round.{EachExpression}
 use Rattle.screen.proofs.KindLaws.{item-hides-not, item-greys-not}
 use Rattle.screen.proofs.ExpressionLaws.{each-own, each-within, each-later}
 use Rattle.screen_rows.specs.Passes.{ownFlags}
+use Rattle.screen_rows.proofs.LaidRows.{inside-rows}
 use Rattle.screen_rows.proofs.RowBytes.{flagsAt, flags-at, rest, rest-next, rest-expressions}
 
 -- ---- flags that are joined
@@ -62,17 +62,7 @@ own-item k h g x =
     (λ item. rw (item, item-hides-not k item, item-greys-not k item, or-false h, or-false g))
     (λ other. rw other)
 
--- ---- the expression of a statement: its rows and its value
-
--- rows that spell an expression are as many as it has
-rows-spelled : {t : List ℕ} {i j : ℕ} {e : Formula} → Spells t i e j → j ≡ i + formulaRows e
-unfolding formulaRows
-rows-spelled (spells-number k a) = omega arith
-rows-spelled (spells-constant c k) = omega arith
-rows-spelled (spells-question k a) = omega arith
-rows-spelled (spells-rule k a) = omega arith
-rows-spelled (spells-not s k) = omega (arith, rows-spelled s)
-rows-spelled (spells-binary o s u k) = omega (arith, rows-spelled s, rows-spelled u)
+-- ---- the expression of a statement
 
 module _ (answers gotos checkboxes rules t : List ℕ) (count : ℕ) (found : ℕ → List ℕ) where
   abbrev questions : ℕ → Scalar
@@ -80,10 +70,6 @@ module _ (answers gotos checkboxes rules t : List ℕ) (count : ℕ) (found : �
 
   abbrev value : ℕ → Scalar
   value = valueAfter answers gotos checkboxes rules t count
-
-  inside-rows : {i j : ℕ} {x : Inner} → Inside t count found i x j → j ≡ i + expressionRows (expressionOf found x)
-  inside-rows inside-plain = omega arith
-  inside-rows (inside-expressed spans) = rows-spelled (spelled spans)
 
   inside-value :
       {i j : ℕ} {x : Inner} → Inside t count found (suc i) x j → i < count → Stretch t count (suc i) j
@@ -124,7 +110,8 @@ module _ (answers gotos checkboxes rules t : List ℕ) (count : ℕ) (found : �
         rest-next t value count i room
         ∙ ap₂ (λ (b : ℕ) (l : List ℕ). b ∷ l)
         (ap₂ (λ (c b : ℕ). cond (isItem c) b 0) same-code inner-flags ∙ own-item (code p) h g _)
-        (rest-expressions t value count (expressionRows (expressionOf found x)) (suc i) j (inside-rows inside) (stretch .below room) (stretch .within))
+        (rest-expressions t value count (expressionRows (expressionOf found x)) (suc i) j (inside-rows t count found inside)
+        (stretch .below room) (stretch .within))
 
   -- ---- statements beside one another
 

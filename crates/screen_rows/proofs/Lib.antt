@@ -2,6 +2,7 @@
 pub mod FlagLaws
 pub mod PassLaws
 pub mod RowBytes
+pub mod LaidRows
 pub mod LaidBytes
 pub mod Theorems
 pub mod Examples

@@ -102,7 +102,8 @@ fn flags_in(
     requires { ⌜ row ≤ length (now out) ⌝ }
     ensures { λ r. ⌜
         r ≡ flagsIn (now (table .entry))
-        (valueAfter (now (answers .entry)) (now (gotos .entry)) (now (checkboxes .entry)) (now (rules .entry)) (now (table .entry)) (length (now (out .entry))))
+        (valueAfter (now (answers .entry)) (now (gotos .entry)) (now (checkboxes .entry)) (now (rules .entry)) (now (table .entry))
+        (length (now (out .entry))))
         (take row (now (out .entry))) row
         ⌝ }
 {
@@ -127,7 +128,8 @@ fn flag_rows(
     ensures { λ _. ⌜
         now (out .exit)
         ≡ allFlags (now (table .entry))
-        (valueAfter (now (answers .entry)) (now (gotos .entry)) (now (checkboxes .entry)) (now (rules .entry)) (now (table .entry)) (length (now (out .entry))))
+        (valueAfter (now (answers .entry)) (now (gotos .entry)) (now (checkboxes .entry)) (now (rules .entry)) (now (table .entry))
+        (length (now (out .entry))))
         (length (now (out .entry)))
         ⌝ }
 {
@@ -170,7 +172,8 @@ pub fn show_rows(
 )
     ensures { λ _. ⌜
         now (out .exit)
-        ≡ shown (now (answers .entry)) (now (gotos .entry)) (now (checkboxes .entry)) (now (rules .entry)) (now (table .entry)) (length (now (out .entry)))
+        ≡ shown (now (answers .entry)) (now (gotos .entry)) (now (checkboxes .entry)) (now (rules .entry)) (now (table .entry))
+        (length (now (out .entry)))
         ⌝ }
 {
     flag_rows(out, table, answers, gotos, checkboxes, rules);

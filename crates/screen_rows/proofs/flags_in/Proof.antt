@@ -1,6 +1,5 @@
 -- `screen_rows::flags_in` meets its contract.
 use borrow.Author.Needs.{needs}
-use borrow.Author.Tests.{not-true}
 use Rattle.screen_rows.proofs.FlagLaws.{flags-plain, flags-condition}
 use Rattle.screen_rows.proofs.flags_in.Statement.{statement}
 use Rattle.screen_rows.proofs.flags_in.Tie as tie
@@ -21,7 +20,10 @@ is-greying-requires : tie.Need-is-greying-requires
 is-greying-requires c κs = search needs
 
 returns : tie.Need-returns
-returns c = flags-plain _ _ _ _ (c .before .before .before .before .before .cell .ensures) (c .before .before .before .before .cell2 .ensures) (c .before .before .before .byte-before .ensures) (c .before .before .is-hiding .ensures) (c .before .is-greying .ensures) (not-true _ (c .if1 .taken))
+returns c =
+    let b = c .before .before .before in
+    flags-plain _ _ _ _ (b .before .before .cell .ensures) (b .before .cell2 .ensures) (b .byte-before .ensures)
+    (c .before .before .is-hiding .ensures) (c .before .is-greying .ensures) (c .if1 .taken)
 
 value-after-requires : tie.Need-value-after-requires
 value-after-requires c κs = search needs
@@ -30,7 +32,10 @@ own-flags-requires : tie.Need-own-flags-requires
 own-flags-requires c κs = search needs
 
 returns-2 : tie.Need-returns-2
-returns-2 c = flags-condition _ _ _ _ (c .before .before .before .before .before .before .before .cell .ensures) (c .before .before .before .before .before .before .cell2 .ensures) (c .before .before .before .before .before .byte-before .ensures) (c .before .value-after .ensures) (c .own-flags .ensures)
+returns-2 c =
+    let b = c .before .before .before .before .before in
+    flags-condition _ _ _ _ (b .before .before .cell .ensures) (b .before .cell2 .ensures) (b .byte-before .ensures)
+    (c .before .value-after .ensures) (c .own-flags .ensures)
 
 pub flags-in-spec : {M : Type 1} → statement M
 flags-in-spec =

@@ -6,6 +6,7 @@ use mathlib.Core.Bool.{Bool, true, false, _&&_, _||_, and-false, or-false}
 use mathlib.Core.List.{_++_, append-assoc}
 use mathlib.Core.Logic.{_↔_}
 use mathlib.Core.Option.{Option, none, some}
+use native.Mathlib.Omega.{arith}
 use lib.ListN.{getD}
 use Rattle.ll1.proofs.Basics.{clash}
 use Rattle.operators.specs.declared.Scalar.{Scalar}
@@ -40,6 +41,12 @@ has-2 true false = (λ e. clash e, λ e. clash cc)
 has-2 false true = (λ e. refl, λ e. refl)
 has-2 false false = (λ e. clash e, λ e. clash cc)
 
+less-4 : (a b : Bool) → byte a b < 4
+less-4 true true = omega arith
+less-4 true false = omega arith
+less-4 false true = omega arith
+less-4 false false = omega arith
+
 module _ (questions rules : ℕ → Scalar) (s : Screen) where
   -- the byte of a row, where no condition is round the whole screen
   abbrev pub byteAt : ℕ → ℕ
@@ -72,6 +79,10 @@ module _ (questions rules : ℕ → Scalar) (s : Screen) where
   -- "grey when some `grayoutif` is": its byte has 2
   pub grey-exactly : {row : ℕ} → ItemAt row s → (byteAt row / 2 ≡ 1) ↔ SomeTrue questions rules greys row s
   grey-exactly i = exactly i greys (λ n. n / 2) (has-2 (hidden i) (grey i))
+
+  -- and nothing else
+  pub byte-small : {row : ℕ} → ItemAt row s → byteAt row < 4
+  byte-small i = rw (item-byte i) (less-4 (hidden i) (grey i))
 
   -- "0 for other rows": wherever no item stands,
   pub other-rows-zero : (row : ℕ) → (ItemAt row s → ⊥) → byteAt row ≡ 0

@@ -35,8 +35,8 @@ module _ (questions rules : ℕ → Scalar) where
   valueOf none = Undefined
   valueOf (some e) = meaning questions rules e
 
-  -- the bytes of statements, of which some condition round them hides, or greys: a statement's row, the rows of its expression, what stands in it, and
-  -- what comes after it
+  -- `hidden` says that some condition round these statements hides them, `grey` that one greys them. In the order of the rows: the first statement's
+  -- own, those of its expression, of what stands in it, and of what comes after it
   unfoldable pub bytes : (hidden grey : Bool) → Screen → List ℕ
   bytes hidden grey done = []
   bytes hidden grey (statement code e within later) =

@@ -7,7 +7,7 @@ use Rattle.rows.specs.Codes.{member, SUBTITLE, TEXT, LABEL, GOTO, CHECKBOX, NUM
 use Rattle.operators.specs.declared.Scalar.{Scalar}
 use Rattle.operators.specs.declared.Scalar.the-variants.{Boolean, Number, Undefined}
 
--- ---- by the code of a row
+-- ---- statements by their codes
 
 -- "each item that is no condition": the items of document 01's grammar but for its last three, in its order
 unfoldable pub items : List ℕ
@@ -21,6 +21,7 @@ hiding = SUPPRESS-IF ∷ DISABLE-IF ∷ []
 unfoldable pub greying : List ℕ
 greying = GRAY-OUT-IF ∷ []
 
+-- whether a statement of this code is such an item, or a condition that hides or greys what stands in it
 unfoldable pub isItem : ℕ → Bool
 isItem code = member code items
 
@@ -30,9 +31,9 @@ hides code = member code hiding
 unfoldable pub greys : ℕ → Bool
 greys code = member code greying
 
--- ---- by the value of an expression
+-- ---- values
 
--- whether it is TRUE; "undefined hides nothing", nor does a number
+-- whether a value is TRUE; "undefined hides nothing", nor does a number
 abbrev pub isTrue : Scalar → Bool
 isTrue (Boolean b) = b
 isTrue (Number n) = false

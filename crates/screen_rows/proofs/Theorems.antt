@@ -36,7 +36,7 @@ use Rattle.screen.specs.Bytes.{bytes}
 use Rattle.screen.specs.Round.{size, Stands, ItemAt, SomeTrue, EachExpression}
 use Rattle.screen.proofs.RowLaws.{stands-cases, in-item}
 use Rattle.screen.proofs.ExpressionLaws.{each-within}
-use Rattle.screen.proofs.Theorems.{hidden-exactly, grey-exactly, other-rows-zero, bytes-named, source-shallow}
+use Rattle.screen.proofs.Theorems.{hidden-exactly, grey-exactly, byte-small, other-rows-zero, bytes-named, source-shallow}
 use Rattle.screen_rows.specs.StatementRow.{StatementRow}
 use Rattle.screen_rows.specs.Passes.{ownFlags, flagsIn, allFlags, shown}
 use Rattle.screen_rows.proofs.LaidRows.{laid-size, stands-laid, item-laid}
@@ -155,6 +155,10 @@ module _ (s : List ℕ) (n : ℕ) (accepted : readAnswer s n .number ≡ 0) (tre
       -- "grey when some `grayoutif` is": its byte has 2
       pub item-grey : ItemAt row screenRead → (getD bytesShown row 0 / 2 ≡ 1) ↔ SomeTrue questions values greys row screenRead
       item-grey i = rw screen-shown (grey-exactly questions values screenRead i)
+
+      -- and nothing else
+      pub item-small : ItemAt row screenRead → getD bytesShown row 0 < 4
+      item-small i = rw screen-shown (byte-small questions values screenRead i)
 
       -- "0 for other rows"
       pub other-row : (ItemAt row screenRead → ⊥) → getD bytesShown row 0 ≡ 0

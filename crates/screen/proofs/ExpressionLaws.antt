@@ -1,4 +1,4 @@
--- What holds of every expression of a screen: of its parts; and that the expressions of an accepted source are shallow.
+-- What holds of every expression of a screen, by its parts; and that the expressions of a derivation that is nowhere too deep are shallow.
 -- Assumes nothing.
 use Prim.Native.Nat.{ℕ}
 use mathlib.Core.Path.{_≡_, refl, sym}

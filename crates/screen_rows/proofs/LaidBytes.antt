@@ -81,10 +81,11 @@ module _ (answers gotos checkboxes rules t : List ℕ) (count : ℕ) (found : �
 
   -- ---- a statement in the row `parent`, where the conditions round it hide and grey as the flags there say
 
-  -- its code is that of the row of its place p; what stands in it is hidden or grey as it is itself, or for its own sake
+  -- its code, by its place
   abbrev code : ℕ → ℕ
   code p = getD (found p) column.CODE 0
 
+  -- whether it is a condition of a kind that is TRUE
   abbrev does : (ℕ → Bool) → ℕ → Inner → Bool
   does kind p x = kind (code p) && isTrue (valueOf questions (valueAt rules) (expressionOf found x))
 
@@ -113,7 +114,7 @@ module _ (answers gotos checkboxes rules t : List ℕ) (count : ℕ) (found : �
         (rest-expressions t value count (expressionRows (expressionOf found x)) (suc i) j (inside-rows t count found inside)
         (stretch .below room) (stretch .within))
 
-  -- ---- statements beside one another
+  -- ---- statements beside one another: the rows from i to before m have the bytes of their screen
 
   pub record Shows (h g : Bool) (i m : ℕ) (s : Items) : Type 0 where
     pub up : i ≤ m

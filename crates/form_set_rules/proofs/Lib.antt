@@ -11,5 +11,5 @@ pub mod Numbers
 pub mod Places
 pub mod Steps
 -- What stages 4, 10 and 11 leave.
-pub mod Depths
+pub mod Shallow
 pub mod Stages

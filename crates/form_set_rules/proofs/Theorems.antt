@@ -52,7 +52,7 @@ use Rattle.form_set_rules.specs.RowOfRule.{RowOfRule}
 use Rattle.form_set_rules.proofs.Numbers.{own-range, RuleFound, rule-at}
 use Rattle.form_set_rules.proofs.Places.{row-found}
 use Rattle.form_set_rules.proofs.Steps.{rules-steps, references-hold}
-use Rattle.form_set_rules.proofs.Depths.{rule-shallow, rules-shallow}
+use Rattle.form_set_rules.proofs.Shallow.{rule-shallow, rules-shallow}
 use Rattle.form_set_rules.proofs.Tables.{rows, count, table, rows-start, rules-laid, numbers-low, rules-low, references-found}
 
 -- there are as many rules as a derivation has, whatever rows tell of them

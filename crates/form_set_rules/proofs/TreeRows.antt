@@ -75,7 +75,7 @@ module _ (t : List ℕ) (count : ℕ) (found : ℕ → List ℕ) (value : ℕ �
 
   -- ---- trees, before others
 
-  pub trees-rows :
+  trees-rows :
       {σ : List Symbol} {f : Trees}
       → Fits rules σ f → noSource σ ≡ true
       → (parent at n e : ℕ)

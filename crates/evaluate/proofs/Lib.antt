@@ -4,6 +4,6 @@ pub mod Theorems
 mod MachineLaws
 mod StackLaws
 mod StepLaws
-mod CodeLaws
+pub mod CodeLaws
 -- Small expressions, computed.
 mod Examples

@@ -1,8 +1,8 @@
--- A table that holds the draft rows of an expression has the expression's rows, and each of them is a part of an expression.
+-- A table that holds the draft rows of an expression has the expression's rows, and each of them is a part of an expression and has its parent.
 -- Assumes nothing.
 use Prim.Native.Nat.{ℕ, suc, _+_, _≤_, _<_}
 use native.Mathlib.Omega.{arith}
-use mathlib.Core.Path.{_≡_, refl, ap}
+use mathlib.Core.Path.{_≡_, refl, ap, _∙_}
 use mathlib.Core.Bool.{true}
 use mathlib.Core.List.{List, [], _∷_, _++_}
 use lib.ListN.{length, getD, length-append}
@@ -75,20 +75,29 @@ module _ (t : List ℕ) (found : ℕ → List ℕ) where
       → cellAt t i column.A ≡ getD (found (getD (d .row) column.PLACE 0)) column.A 0
   operand-found h = ap (λ (l : List ℕ). getD l column.A 0) (first-held t found h .row-is)
 
-  -- rows that are all parts of expressions
-  abbrev pub AllParts : ℕ → ℕ → Type 0
-  AllParts i j = (k : ℕ) → i ≤ k → k < j → isExpression (cellAt t k column.CODE) ≡ true
+  module _ (parent : ℕ) where
+    -- row k is a part of an expression, which stands in the row `parent`
+    pub record Part (k : ℕ) : Type 0 where
+      pub part : isExpression (cellAt t k column.CODE) ≡ true
+      pub parent-is : cellAt t k column.PARENT ≡ parent
 
-  parts-then : (i j k : ℕ) → AllParts i j → AllParts j k → AllParts i k
-  parts-then i j k a b m l h = either-less m j (λ d. a m l d) (λ d. b m d h)
-
-  part-one :
-      {d : Draft} {ds : List Draft} {i : ℕ}
-      → Held t found (d ∷ ds) i
-      → isExpression (getD (d .row) column.CODE 0) ≡ true → AllParts i (suc i)
-  part-one {i = i} h e m l below = let z : m ≡ i = omega arith in rw (z, first-held t found h .code-is) e
+    -- rows that all are
+    abbrev pub AllParts : ℕ → ℕ → Type 0
+    AllParts i j = (k : ℕ) → i ≤ k → k < j → Part k
 
   module _ (value : ℕ → ℕ) (parent : ℕ) where
+    parts-then : (i j k : ℕ) → AllParts parent i j → AllParts parent j k → AllParts parent i k
+    parts-then i j k a b m l h = either-less m j (λ d. a m l d) (λ d. b m d h)
+
+    part-one :
+        {d : Draft} {ds : List Draft} {i : ℕ}
+        → Held t found (d ∷ ds) i
+        → getD (d .row) column.PARENT 0 ≡ parent → isExpression (getD (d .row) column.CODE 0) ≡ true → AllParts parent i (suc i)
+    part-one {i = i} h q e m l below =
+        let z : m ≡ i = omega arith in
+        let row = first-held t found h in
+        record { part = rw (z, row .code-is) e; parent-is = rw z (row .parent-is ∙ q) }
+
     abbrev rows : Expression → List Draft
     rows e = expressionRows value parent e
 
@@ -133,16 +142,17 @@ module _ (t : List ℕ) (found : ℕ → List ℕ) where
         rw (binary-end o p l r i)
         (spans-binary o (spans-held l i (parts .0)) (spans-held r (middle o p l r i) (parts .1)) (first-held t found (parts .2) .code-is))
 
-    pub parts-held : (e : Expression) (i : ℕ) → Held t found (rows e) i → AllParts i (i + length (rows e))
-    parts-held (number p) i h = rw (one-end i) (part-one h number-code)
-    parts-held (constant c p) i h = rw (one-end i) (part-one h (constant-code c))
-    parts-held (question-named p a) i h = rw (one-end i) (part-one h question-code)
-    parts-held (question-numbered p a) i h = rw (one-end i) (part-one h question-code)
-    parts-held (rule-named p a) i h = rw (one-end i) (part-one h rule-code)
+    pub parts-held : (e : Expression) (i : ℕ) → Held t found (rows e) i → AllParts parent i (i + length (rows e))
+    parts-held (number p) i h = rw (one-end i) (part-one h refl number-code)
+    parts-held (constant c p) i h = rw (one-end i) (part-one h refl (constant-code c))
+    parts-held (question-named p a) i h = rw (one-end i) (part-one h refl question-code)
+    parts-held (question-numbered p a) i h = rw (one-end i) (part-one h refl question-code)
+    parts-held (rule-named p a) i h = rw (one-end i) (part-one h refl rule-code)
     parts-held (negation p e) i h =
         let parts = held-parts t found (rows e) h in
-        rw (negation-end p e i) (parts-then i _ _ (parts-held e i (parts .0)) (part-one (parts .1) not-code))
+        rw (negation-end p e i) (parts-then i _ _ (parts-held e i (parts .0)) (part-one (parts .1) refl not-code))
     parts-held (binary o p l r) i h =
         let parts = binary-held o p l r i h in
         rw (binary-end o p l r i)
-        (parts-then i _ _ (parts-held l i (parts .0)) (parts-then _ _ _ (parts-held r (middle o p l r i) (parts .1)) (part-one (parts .2) (operator-code o))))
+        (parts-then i _ _ (parts-held l i (parts .0))
+        (parts-then _ _ _ (parts-held r (middle o p l r i) (parts .1)) (part-one (parts .2) refl (operator-code o))))

@@ -39,11 +39,11 @@ module _ (t : List ℕ) (count : ℕ) (found : ℕ → List ℕ) (value : ℕ �
 
   -- ---- a statement, with those in it and those after it
 
-  -- what stands in it
-  inner-laid :
+  -- the rows of what stands in it
+  pub inner-laid :
       {at j : ℕ} {x : Inner} {others : List Draft}
       → InnerRows value at x others → Held t found others (suc at) → j ≡ suc at + length others
-      → Inside t count found (suc at) x j × AllParts t found (suc at) j
+      → Inside t count found (suc at) x j × AllParts t found at (suc at) j
   inner-laid {at} {j} plain-rows h q = let z : j ≡ suc at = omega arith in (rw z inside-plain, λ m l d. absurd (omega arith))
   inner-laid {at} (expressed-rows e) h q =
       rw q (inside-expressed (spans-held t found value at e (suc at) h), parts-held t found value at e (suc at) h)
@@ -55,7 +55,7 @@ module _ (t : List ℕ) (count : ℕ) (found : ℕ → List ℕ) (value : ℕ �
     abbrev k : ℕ
     k = h .parts .k
 
-    inside : Inside t count found (suc at) (innerOf A i c) j × AllParts t found (suc at) j
+    inside : Inside t count found (suc at) (innerOf A i c) j × AllParts t found at (suc at) j
     inside = inner-laid (h .inner) (h .inner-held) refl
 
     edge-here : Edge parent at
@@ -73,7 +73,7 @@ module _ (t : List ℕ) (count : ℕ) (found : ℕ → List ℕ) (value : ℕ �
     here room = omega (arith, h .parts .k-is)
 
     stretch : k ≤ count → Edge at j → Stretch t count (suc at) j
-    stretch room g = record { up = omega arith; within = inside .1; ends = g .part; below = λ l. omega (arith, h .parts .k-is) }
+    stretch room g = record { up = omega arith; within = λ m l d. inside .1 m l d .part; ends = g .part; below = λ l. omega (arith, h .parts .k-is) }
 
     statement-forest :
         {e : ℕ}

@@ -1,10 +1,11 @@
--- Draft rows held by a table: each with its code and its parent, and as the row that is found at its place.
+-- Draft rows held by a table: each with its code and its parent, a rule's with its own number, and as the row that is found at its place.
 -- Assumes nothing.
-use Prim.Native.Nat.{ℕ, suc, _+_}
+use Prim.Native.Nat.{ℕ, zero, suc, _+_, _<_}
 use native.Mathlib.Omega.{arith}
 use mathlib.Core.Path.{_≡_}
 use mathlib.Core.List.{List, [], _∷_, _++_}
 use lib.ListN.{length, getD}
+use Rattle.rows.specs.Codes as code
 use Rattle.rows.specs.Columns as column
 use Rattle.rows.specs.Table.{rowAt, cellAt}
 use Rattle.answers.specs.Rows.{Draft}
@@ -13,6 +14,7 @@ module _ (t : List ℕ) (found : ℕ → List ℕ) where
   pub record RowHeld (d : Draft) (i : ℕ) : Type 0 where
     pub code-is : cellAt t i column.CODE ≡ getD (d .row) column.CODE 0
     pub parent-is : cellAt t i column.PARENT ≡ getD (d .row) column.PARENT 0
+    pub own-is : getD (d .row) column.CODE 0 ≡ code.RULE → cellAt t i column.OWN ≡ getD (d .row) column.OWN 0
     pub row-is : rowAt t i ≡ found (getD (d .row) column.PLACE 0)
 
   -- the rows from i on
@@ -32,3 +34,9 @@ module _ (t : List ℕ) (found : ℕ → List ℕ) where
 
   pub rest-held : {d : Draft} {ds : List Draft} {i : ℕ} → Held (d ∷ ds) i → Held ds (suc i)
   rest-held (held-more r h) = h
+
+  -- one of them
+  pub held-at : {ds : List Draft} {i : ℕ} → Held ds i → (k : ℕ) (d : Draft) → k < length ds → RowHeld (getD ds k d) (i + k)
+  held-at held-none k d l = absurd (omega arith)
+  held-at {i = i} (held-more r h) zero d l = let e : i + 0 ≡ i = omega arith in rw e r
+  held-at {i = i} (held-more r h) (suc k) d l = let e : i + suc k ≡ suc i + k = omega arith in rw e (held-at h k d (omega arith))

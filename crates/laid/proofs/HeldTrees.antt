@@ -14,7 +14,7 @@ use Rattle.rows.specs.Codes.{isExpression}
 use Rattle.rows.specs.Table.{rowAt, cellAt}
 use Rattle.ll1.specs.Trees.{Trees, nil, node, Symbol, terminal, nonterminal, Alternative, alternativeOf}
 use Rattle.ll1.proofs.Basics.{implied}
-use Rattle.grammar.specs.Rules.{<source>, <item>}
+use Rattle.grammar.specs.Rules.{<source>, <rule>, <item>}
 use Rattle.grammar.specs.Grammar.{rules}
 use Rattle.grammar.specs.Parts.{placeAt}
 use Rattle.answers.specs.Rows.{Draft, formSet, ownRows, parentIn, draftsOf, rulesIn}
@@ -50,6 +50,7 @@ module _ (t : List ℕ) (found : ℕ → List ℕ) (value : ℕ → ℕ) (parent
     pub k : ℕ
     pub k-is : k ≡ j + length (draftsOf value c p j n)
     pub rules-before : ℕ
+    pub rules-are : rules-before ≡ n + rulesIn (node A i c nil)
     pub after : Held t found (draftsOf value f parent k rules-before) k
     pub end : at + length (draftsOf value (node A i c f) parent at n) ≡ k + length (draftsOf value f parent k rules-before)
 
@@ -70,6 +71,7 @@ module _ (t : List ℕ) (found : ℕ → List ℕ) (value : ℕ → ℕ) (parent
           k = at + length (own ++ under);
           k-is = omega (arith, length-append own under);
           rules-before = n + rulesIn (node A i c nil);
+          rules-are = refl;
           after = whole .1;
           end = omega (arith, length-append (own ++ under) later);
         },
@@ -81,6 +83,7 @@ module _ (t : List ℕ) (found : ℕ → List ℕ) (value : ℕ → ℕ) (parent
     pub code-is : cellAt t at column.CODE ≡ codeOf A i
     pub part : isExpression (codeOf A i) ≡ false
     pub parent-is : cellAt t at column.PARENT ≡ parent
+    pub own-is : A ≡ <rule> → cellAt t at column.OWN ≡ suc n
     pub others : List Draft
     pub inner : InnerRows value at (innerOf A i c) others
     pub inner-held : Held t found others (suc at)
@@ -101,6 +104,7 @@ module _ (t : List ℕ) (found : ℕ → List ℕ) (value : ℕ → ℕ) (parent
         code-is = row .code-is ∙ own .code-is;
         part = own .part;
         parent-is = row .parent-is ∙ own .parent-is;
+        own-is = λ q. first-held t found (rw q at (whole .0)) .own-is refl;
         others = own .others;
         inner = own .inner;
         inner-held = rest-held t found mine;

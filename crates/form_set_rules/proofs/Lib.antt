@@ -1,0 +1,15 @@
+-- What is proved of the rules of a source; and two of them, computed.
+pub mod Theorems
+pub mod Examples
+-- From a derivation's trees to the rows of their rules in a table.
+pub mod Grammar
+pub mod RuleRows
+pub mod TreeRows
+pub mod Tables
+-- What such rows tell: the rules' numbers, their places, their steps.
+pub mod Numbers
+pub mod Places
+pub mod Steps
+-- What stages 4, 10 and 11 leave.
+pub mod Shallow
+pub mod Stages

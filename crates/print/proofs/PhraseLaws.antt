@@ -10,9 +10,9 @@ use lib.Dec.{eqb}
 use lib.ListN.{length, getD, drop, List·getD-eq-default, drop-of-length-le}
 use lib.Seq.{drop-cons, drop-drop, getD-drop}
 use borrow.Author.Tests.{ne-eqb, lt-ltb, le-ltb}
-use Rattle.lexemes.specs.Classes.{«TRUE», «FALSE», NAME}
+use Rattle.lexemes.specs.Classes.{«name», «questionid», «step», «default», «TRUE», «FALSE», NAME}
 use Rattle.lexemes.specs.Lexemes.{lexemes, signs, reserved}
-use Rattle.elements.specs.Kinds.{MAYBE, GROUP}
+use Rattle.elements.specs.Kinds.{OPTION-FLAGS, TRUTH, FLAG-LIST, NUMERIC-FLAGS, H8, H4, H2, MAYBE, GROUP}
 use Rattle.answers.specs.Text.{Word, lexeme, decimal, truth, textOf}
 use Rattle.print.specs.declared.phrase.Progress.{Progress}
 use Rattle.spellings.specs.Output.{Prints}
@@ -30,23 +30,24 @@ pub truth-false : {v : ℕ} → (v ≡ 1 → ⊥) → lexeme «FALSE» ≡ truth
 unfolding lexemes signs reserved
 truth-false {v} h = rw (ne-eqb v 1 h, truth)
 
-pub other-element : (e v : ℕ) → (((((((((Unit {0}) × (e ≡ 72 → ⊥)) × (e ≡ 132 → ⊥)) × (e ≡ 134 → ⊥)) × (e ≡ 135 → ⊥)) × (e ≡ 136 → ⊥)) × (e ≡ 137 → ⊥)) × (e ≡ 138 → ⊥)) × (e ≡ 139 → ⊥))
+pub other-element : (e v : ℕ)
+    → ((((((((Unit {0}) × (e ≡ NAME → ⊥)) × (e ≡ OPTION-FLAGS → ⊥)) × (e ≡ TRUTH → ⊥)) × (e ≡ FLAG-LIST → ⊥)) × (e ≡ NUMERIC-FLAGS → ⊥)) × (e ≡ H8 → ⊥)) × (e ≡ H4 → ⊥)) × (e ≡ H2 → ⊥)
     → decimal v ≡ elementWords e v
 unfolding elementWords
 other-element e v h =
     rw (
-      ne-eqb e 72 (h .0 .0 .0 .0 .0 .0 .0 .1),
-      ne-eqb e 132 (h .0 .0 .0 .0 .0 .0 .1),
-      ne-eqb e 134 (h .0 .0 .0 .0 .0 .1),
-      ne-eqb e 135 (h .0 .0 .0 .0 .1),
-      ne-eqb e 136 (h .0 .0 .0 .1),
-      ne-eqb e 137 (h .0 .0 .1),
-      ne-eqb e 138 (h .0 .1),
-      ne-eqb e 139 (h .1),
+      ne-eqb e NAME (h .0 .0 .0 .0 .0 .0 .0 .1),
+      ne-eqb e OPTION-FLAGS (h .0 .0 .0 .0 .0 .0 .1),
+      ne-eqb e TRUTH (h .0 .0 .0 .0 .0 .1),
+      ne-eqb e FLAG-LIST (h .0 .0 .0 .0 .1),
+      ne-eqb e NUMERIC-FLAGS (h .0 .0 .0 .1),
+      ne-eqb e H8 (h .0 .0 .1),
+      ne-eqb e H4 (h .0 .1),
+      ne-eqb e H2 (h .1),
     )
 
-pub other-shown : (f d : Bool) (w : ℕ) → ((((Unit {0}) × (w ≡ 57 → ⊥)) × (w ≡ 62 → ⊥)) × (w ≡ 66 → ⊥)) × (w ≡ 37 → ⊥) → f ≡ shownBy f d w
-other-shown f d w h = rw (ne-eqb w 57 (h .0 .0 .0 .1), ne-eqb w 62 (h .0 .0 .1), ne-eqb w 66 (h .0 .1), ne-eqb w 37 (h .1))
+pub other-shown : (f d : Bool) (w : ℕ) → ((((Unit {0}) × (w ≡ «name» → ⊥)) × (w ≡ «questionid» → ⊥)) × (w ≡ «step» → ⊥)) × (w ≡ «default» → ⊥) → f ≡ shownBy f d w
+other-shown f d w h = rw (ne-eqb w «name» (h .0 .0 .0 .1), ne-eqb w «questionid» (h .0 .0 .1), ne-eqb w «step» (h .0 .1), ne-eqb w «default» (h .1))
 
 -- ---- values
 

@@ -7,6 +7,7 @@ use mathlib.Core.List.{List, [], _∷_, _++_, append-assoc, append-nil}
 use lib.Dec.{eqb}
 use lib.ListN.{getD, take, drop}
 use borrow.Author.Tests.{ne-eqb, eqb-true}
+use Rattle.lexemes.specs.Classes.{«DEFAULT»}
 use Rattle.lexemes.specs.Lexemes.{lexemes, signs, reserved}
 use Rattle.rows.specs.Columns as column
 use Rattle.rows.specs.Flags as flag
@@ -55,7 +56,7 @@ module _ (r : List ℕ) where
   unfolding phraseWords phraseFrom added skipAfter passedAfter elementWords valueFrom lexemes signs reserved
   form-set-words = refl
 
-  option-flags : (b : Bool) → cond b (text.lexeme 23) (decimal 0) ≡ elim b [ true ↦ words "DEFAULT" | false ↦ words "0" ]
+  option-flags : (b : Bool) → cond b (text.lexeme «DEFAULT») (decimal 0) ≡ elim b [ true ↦ words "DEFAULT" | false ↦ words "0" ]
   unfolding lexemes signs reserved decimalDigits
   option-flags true = refl
   option-flags false = refl

@@ -16,7 +16,7 @@ use Rattle.ll1.proofs.Basics.{either, all-member}
 use Rattle.grammar.specs.Ranges.{Range, free, keeps}
 use Rattle.grammar.specs.Parts.{when}
 use Rattle.elements.specs.Kinds.{ID, SMALL, LARGE, NUMERIC-VALUE, OPTION-FLAGS, REFERENCE, TRUTH, FLAG-LIST, NUMERIC-FLAGS, H8, H4, H2}
-use Rattle.elements.specs.Kinds.{numbers, flagClasses, startsOf, isKept, elementRange}
+use Rattle.elements.specs.Kinds.{numbers, flagClasses, isFlagList, startsOf, isKept, elementRange}
 
 eqb-sym : (a b : ℕ) → eqb a b ≡ eqb b a
 eqb-sym a b = by (ℕ-discrete a b)
@@ -79,10 +79,13 @@ pub when-le : (b : Bool) (n : ℕ) → when b n ≤ n
 when-le true n = omega arith
 when-le false n = omega arith
 
--- ---- a sign or a reserved word keeps nothing
+-- ---- a sign or a reserved word keeps nothing, and is no list
 
 pub not-kept : (k : ℕ) → k < NAME → isKept k ≡ false
 not-kept k h = rw (ne-eqb k NAME (λ e. omega arith)) (lt-leb ID k (omega arith))
+
+pub not-list : (k : ℕ) → k < NAME → isFlagList k ≡ false
+not-list k h = rw (ne-eqb k FLAG-LIST (λ e. omega arith)) (ne-eqb k NUMERIC-FLAGS (λ e. omega arith))
 
 -- ---- an element that keeps something is a token with bytes
 
@@ -128,3 +131,11 @@ kept-below e k h m = by (either (eqb e NAME) (leb ID e) h)
     by : (eqb e NAME ≡ true) ⊎ (leb ID e ≡ true) → k < BAD
     by (inl q) = name-below e k (eqb-true e NAME q) m
     by (inr q) = kind-below e k (leb-true ID e q) m
+
+-- so is a flag word
+pub flag-below : (e k : ℕ) → isFlagList e ≡ true → member k (startsOf e) ≡ true → k < BAD
+flag-below e k f m = by (either (eqb e FLAG-LIST) (eqb e NUMERIC-FLAGS) f)
+  where
+    by : (eqb e FLAG-LIST ≡ true) ⊎ (eqb e NUMERIC-FLAGS ≡ true) → k < BAD
+    by (inl q) = kind-below e k (let z = eqb-true e FLAG-LIST q in omega arith) m
+    by (inr q) = kind-below e k (let z = eqb-true e NUMERIC-FLAGS q in omega arith) m

@@ -10,6 +10,8 @@ pub mod Equations
 pub mod Levels
 pub mod Alternatives
 pub mod Statements
+-- The sum of flag words' values.
+pub mod FlagTotals
 -- The tokens of a source, their places, and that no derivation has a bad one.
 pub mod Totals
 pub mod SourceTokens

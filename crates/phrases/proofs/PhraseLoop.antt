@@ -19,7 +19,7 @@ use Rattle.phrases.specs.declared.Cursor.{Cursor}
 use Rattle.elements.specs.declared.flags.Words.{Words}
 use Rattle.elements.specs.Words.{withWord}
 use Rattle.phrases.specs.Stream.{Within}
-use Rattle.elements.specs.Kinds.{FLAG-LIST, MAYBE, GROUP, flagWords, startsOf, isKept}
+use Rattle.elements.specs.Kinds.{MAYBE, GROUP, isFlagList, startsOf, isKept}
 use Rattle.phrases.specs.Phrase.{Kept, keptAt, withEntry, Reader, reader, ready, onward, skipping, refusing, taking, flagsFrom, takingFlags, fitting, stepOf, phraseFrom}
 use Rattle.phrases.proofs.Streams.{within-at}
 use Rattle.phrases.proofs.ReadingLaws.{reads-group, leaves-group, reads-tokens, takes-word, refuses-word, step-on, left-out, handed-on}
@@ -34,13 +34,13 @@ module _ (s : List ℕ) where
   either-way true v w = v
   either-way false v w = w
 
-  flags-inside : (n : ℕ) (x : Reader) (u : Token) (w : Words) → Within s u → Inside s (flagsFrom n s x u w)
+  flags-inside : (n : ℕ) (x : Reader) (e : ℕ) (u : Token) (w : Words) → Within s u → Inside s (flagsFrom n s x e u w)
   unfolding flagsFrom
-  flags-inside zero x u w h = record { within = h }
-  flags-inside (suc n) x u w h =
+  flags-inside zero x e u w h = record { within = h }
+  flags-inside (suc n) x e u w h =
       let bar = tokenAt s (u .end) in
-      let more = flags-inside n x (tokenAt s (bar .end)) (withWord w (u .class)) (within-at s (bar .end)) in
-      either-way (member (u .class) flagWords) (either-way (eqb (bar .class) «|») more (record { within = within-at s (u .end) })) (record { within = h })
+      let more = flags-inside n x e (tokenAt s (bar .end)) (withWord w (u .class)) (within-at s (bar .end)) in
+      either-way (member (u .class) (startsOf e)) (either-way (eqb (bar .class) «|») more (record { within = within-at s (u .end) })) (record { within = h })
 
   module _ (x : Reader) (e : ℕ) (h : Within s (x .token)) where
     taking-inside : Inside s (taking s x e)
@@ -50,7 +50,7 @@ module _ (s : List ℕ) where
     fitting-inside : Inside s (fitting s x e)
     unfolding takingFlags
     fitting-inside =
-        either-way (member (x .token .class) (startsOf e)) (either-way (eqb e FLAG-LIST) (flags-inside _ x (x .token) _ h) taking-inside) (record { within = h })
+        either-way (member (x .token .class) (startsOf e)) (either-way (isFlagList e) (flags-inside _ x e (x .token) _ h) taking-inside) (record { within = h })
 
 -- ---- the turns
 

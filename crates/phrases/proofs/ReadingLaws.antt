@@ -10,9 +10,9 @@ use lib.ListN.{getD, drop}
 use borrow.Author.Tests.{eq-eqb, ne-eqb}
 use Rattle.lexemes.specs.Classes.{NAME}
 use Rattle.ll1.specs.ParseTable.{member}
-use Rattle.elements.specs.Kinds.{FLAG-LIST, MAYBE, GROUP, startsOf}
+use Rattle.elements.specs.Kinds.{MAYBE, GROUP, isFlagList, startsOf}
 use Rattle.phrases.specs.Phrase.{Kept, withEntry, Reader, ready, skipping, passing, refusing, leavingOne, taking, takingFlags, fitting, reading, stepOf, phraseFrom}
-use Rattle.elements.proofs.KindLaws.{starts-word, not-kept}
+use Rattle.elements.proofs.KindLaws.{starts-word, not-kept, not-list}
 
 module _ (s : List ℕ) (x : Reader) (e next : ℕ) where
   -- an optional group that is there, and one that is not
@@ -48,16 +48,16 @@ module _ (s : List ℕ) (x : Reader) (e : ℕ) where
   refuses h = rw h
 
   -- one that does
-  pub takes-flags : member (x .token .class) (startsOf e) ≡ true → e ≡ FLAG-LIST → fitting s x e ≡ takingFlags s x
-  takes-flags h f = rw (h, eq-eqb e FLAG-LIST f)
+  pub takes-flags : member (x .token .class) (startsOf e) ≡ true → isFlagList e ≡ true → fitting s x e ≡ takingFlags s x e
+  takes-flags h f = rw (h, f)
 
-  pub takes-token : member (x .token .class) (startsOf e) ≡ true → e ≢ FLAG-LIST → fitting s x e ≡ taking s x e
-  takes-token h f = rw (h, ne-eqb e FLAG-LIST f)
+  pub takes-token : member (x .token .class) (startsOf e) ≡ true → isFlagList e ≡ false → fitting s x e ≡ taking s x e
+  takes-token h f = rw (h, f)
 
   -- a sign or a reserved word that is there, and one that is not
   pub takes-word : e < NAME → x .token .class ≡ e → fitting s x e ≡ passing s x
   unfolding taking
-  takes-word l q = rw (starts-word e (omega arith), q, eq-eqb e e refl, ne-eqb e FLAG-LIST (λ z. omega arith), not-kept e l)
+  takes-word l q = rw (starts-word e (omega arith), q, eq-eqb e e refl, not-list e l, not-kept e l)
 
   pub refuses-word : e < NAME → x .token .class ≢ e → fitting s x e ≡ refusing x (x .token)
   refuses-word l q = rw (starts-word e (omega arith), ne-eqb e (x .token .class) (λ z. q (sym z)))

@@ -12,19 +12,20 @@ use Rattle.grammar.specs.Notation.{t, r}
 use Rattle.elements.specs.Kinds.{MAYBE, GROUP}
 use Rattle.elements.proofs.Ways.{width}
 use Rattle.elements.proofs.Alternatives.{Optional}
-use Rattle.elements.proofs.Spelling.{Stands, by-word, by-kind, by-flags, widths, Spells, spells-nil, spells-one, spells-rule, spells-maybe}
+use Rattle.elements.proofs.Spelling.{Stands, by-word, by-kind, by-flags, by-numeric-flags, widths, Spells, spells-nil, spells-one, spells-rule, spells-maybe}
 use Rattle.phrases.specs.Phrase.{Reader, stepOf, phraseFrom}
 use Rattle.phrases.proofs.ReadingLaws.{reads-group, leaves-group, step-off, step-on, left-out, handed-on}
 use Rattle.phrases.proofs.Pieces.{One, Many, many-none, one-more, one-off}
 use Rattle.phrases.proofs.Nodes.{without, one-single, one-there, one-absent}
 use Rattle.phrases.proofs.Taking.{Element, word, kind}
-use Rattle.phrases.proofs.FlagLists.{flag-list}
+use Rattle.phrases.proofs.FlagLists.{flag-list, numeric-flag-list}
 
 -- an element reads the symbol that it stands for
 element : {x : Symbol} {e : ℕ} → Stands x e → Element x e
 element (by-word {k} h) = word k h
 element (by-kind w) = kind w
 element by-flags = flag-list
+element by-numeric-flags = numeric-flag-list
 
 -- ---- a step
 

@@ -19,8 +19,8 @@ use Rattle.grammar.specs.Reading.{verdictFrom}
 use Rattle.grammar.specs.Ranges.{Range, free, keeps}
 use Rattle.grammar.proofs.Equations.{verdict-miss, verdict-ends}
 use Rattle.elements.specs.Marks.{marked, outOf}
-use Rattle.elements.specs.Kinds.{REFERENCE, FLAG-LIST, MAYBE, startsOf, elementRange, elementEntries}
-use Rattle.elements.proofs.KindLaws.{starts-word, not-kept}
+use Rattle.elements.specs.Kinds.{REFERENCE, MAYBE, startsOf, elementRange, elementEntries}
+use Rattle.elements.proofs.KindLaws.{starts-word, not-kept, not-list}
 use Rattle.elements.proofs.MarkLaws.{marked-none}
 use Rattle.elements.proofs.Ways.{either-way, Taken, word-taken, member-one, member-other, each, Kind, width, width-is}
 use Rattle.phrases.specs.Stream.{stream}
@@ -85,7 +85,7 @@ word k h s c next z =
     rw (ne-eqb k MAYBE (λ e. omega arith), starts-word k (omega arith))
     (either-way (member (c .token .class) (k ∷ []))
     (λ m.
-    rw (m, ne-eqb k FLAG-LIST (λ e. omega arith), not-kept k h)
+    rw (m, not-list k h, not-kept k h)
     (let q : k ≡ c .token .class = member-one (c .token .class) k m in
     subst (λ (b : ℕ). One s (t k) 0 c (record { no = 0; token = tokenAt s (c .token .end); bad = b; skip = 0; kept = c .kept })) (marked-none (c .bad))
     (one-taken s (t k) c z 0 (λ p. []) free (omega arith) (subst (λ (j : ℕ). Taken (t k) j (λ p. []) free) q (word-taken k h)))))

@@ -14,7 +14,7 @@ use Rattle.elements.specs.declared.flags.Words.{Words}
 use Rattle.elements.specs.Words.{noWords, withWord, bitsOf}
 use Rattle.phrases.specs.Stream.{stream}
 use Rattle.elements.specs.Marks.{marked, outOf}
-use Rattle.elements.specs.Kinds.{FLAG-LIST, MAYBE, GROUP, startsOf, flagWords, isKept, elementRange, elementEntries}
+use Rattle.elements.specs.Kinds.{MAYBE, GROUP, isFlagList, startsOf, isKept, elementRange, elementEntries}
 use Rattle.elements.specs.Symbols.{elementsOf}
 
 -- ---- what is kept
@@ -93,25 +93,25 @@ taking s x e =
 
 -- ---- FL
 
--- the flag words from the token t on, with those before it; no more than the first number
-unfoldable pub flagsFrom : ℕ → List ℕ → Reader → Token → Words → Reader
-flagsFrom zero s x t w = refusing x t
-flagsFrom (suc n) s x t w =
+-- the flag words of the element e from the token t on, with those before it; no more than the first number
+unfoldable pub flagsFrom : ℕ → List ℕ → Reader → ℕ → Token → Words → Reader
+flagsFrom zero s x e t w = refusing x t
+flagsFrom (suc n) s x e t w =
     let bar = tokenAt s (t .end) in
     let words = withWord w (t .class) in
-    let more = flagsFrom n s x (tokenAt s (bar .end)) words in
+    let more = flagsFrom n s x e (tokenAt s (bar .end)) words in
     let last = ready bar (x .bad) (withEntry (x .kept) (bitsOf words)) in
-    cond (member (t .class) flagWords) (cond (eqb (bar .class) «|») more last) (refusing x t)
+    cond (member (t .class) (startsOf e)) (cond (eqb (bar .class) «|») more last) (refusing x t)
 
 -- there are no more of them than tokens
-unfoldable pub takingFlags : List ℕ → Reader → Reader
-takingFlags s x = flagsFrom (length (stream s (x .token))) s x (x .token) noWords
+unfoldable pub takingFlags : List ℕ → Reader → ℕ → Reader
+takingFlags s x e = flagsFrom (length (stream s (x .token))) s x e (x .token) noWords
 
 -- ---- elements
 
 -- an element other than MAYBE
 abbrev pub fitting : List ℕ → Reader → ℕ → Reader
-fitting s x e = cond (member (x .token .class) (startsOf e)) (cond (eqb e FLAG-LIST) (takingFlags s x) (taking s x e)) (refusing x (x .token))
+fitting s x e = cond (member (x .token .class) (startsOf e)) (cond (isFlagList e) (takingFlags s x e) (taking s x e)) (refusing x (x .token))
 
 -- an element that is not left out, with the element after it
 unfoldable pub reading : List ℕ → Reader → ℕ → ℕ → Reader

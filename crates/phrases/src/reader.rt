@@ -4,8 +4,9 @@ ghost use mathlib.Core.Bool.{true};
 ghost use Prim.Native.Nat.{_+_, _<_, _^_};
 ghost use lib.ListN.{getD};
 ghost use Rattle.phrases.specs.Stream.{Within};
+ghost use Rattle.ll1.specs.ParseTable.{member};
 ghost use Rattle.elements.specs.Marks.{marked, outOf};
-ghost use Rattle.elements.specs.Kinds.{isKept, elementRange};
+ghost use Rattle.elements.specs.Kinds.{isFlagList, startsOf, isKept, elementRange};
 ghost use Rattle.phrases.specs.Phrase.{reader, starting, onward, taking, takingFlags, fitting, phraseFrom};
 use crate::Cursor;
 use crate::SYNTAX;
@@ -52,9 +53,11 @@ fn take_token(src: &[u8], c: Cursor, kept: &mut [u64], want: u8) -> Cursor
     standing(0, token, c.bad, c.count)
 }
 
-// The flag words from the cursor's token on: the cursor at the last of them, or the refusal. The sum of their bits is kept.
-fn take_flags(src: &[u8], c: Cursor, kept: &mut [u64]) -> Cursor
-    ensures { λ r. ⌜ onward (now (src .entry)) (reader r (now (kept .exit))) ≡ takingFlags (now (src .entry)) (reader c (now (kept .entry))) ⌝ }
+// The element's flag words from the cursor's token on, which is one: the cursor at the last of them, or the refusal. The
+// sum of their bits is kept.
+fn take_flags(src: &[u8], c: Cursor, kept: &mut [u64], want: u8) -> Cursor
+    requires { ⌜ (isFlagList want ≡ true) × (member (c .token .class) (startsOf want) ≡ true) ⌝ }
+    ensures { λ r. ⌜ onward (now (src .entry)) (reader r (now (kept .exit))) ≡ takingFlags (now (src .entry)) (reader c (now (kept .entry))) want ⌝ }
 {
     let mut word = c.token;
     let mut words = Words {
@@ -63,9 +66,6 @@ fn take_flags(src: &[u8], c: Cursor, kept: &mut [u64]) -> Cursor
         reset: false,
     };
     loop {
-        if !is_flag(word.class) {
-            return standing(SYNTAX, word, c.bad, c.count);
-        }
         words = flags::with_word(words, word.class);
         let bar = lex::token_at(src, word.end);
         if bar.class != BAR {
@@ -73,6 +73,9 @@ fn take_flags(src: &[u8], c: Cursor, kept: &mut [u64]) -> Cursor
             return standing(0, word, c.bad, count);
         }
         word = lex::token_at(src, bar.end);
+        if !suits(want, word.class) {
+            return standing(SYNTAX, word, c.bad, c.count);
+        }
     }
 }
 
@@ -85,8 +88,8 @@ fn read_element(src: &[u8], c: Cursor, kept: &mut [u64], want: u8) -> Cursor
     if !suits(want, token.class) {
         return standing(SYNTAX, token, c.bad, c.count);
     }
-    if want == FLAG_LIST {
-        return take_flags(src, c, kept);
+    if (want == FLAG_LIST) | (want == NUMERIC_FLAGS) {
+        return take_flags(src, c, kept, want);
     }
     take_token(src, c, kept, want)
 }

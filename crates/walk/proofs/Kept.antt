@@ -1,7 +1,7 @@
 -- What the trees of the grammar's small rules keep: an entry for each name and number, in the words of the rows' definitions.
 -- Assumes nothing.
 use Prim.Native.Nat.{ℕ, zero, suc}
-use mathlib.Core.Path.{_≡_, refl}
+use mathlib.Core.Path.{_≡_, refl, sym, ap, _∙_}
 use mathlib.Core.Bool.{cond}
 use mathlib.Core.List.{List, [], _∷_}
 use mathlib.Core.Option.{some}
@@ -12,13 +12,16 @@ use Rattle.lexemes.specs.Classes.{comma, open-paren, close-paren, NAME, HEX, DE
 use Rattle.ll1.specs.Trees.{token, Trees, nil, leaf, node, Symbol, Alternative, alternativeOf, Fits, fits-nil, fits-leaf, fits-node}
 use Rattle.ll1.proofs.Basics.{clash}
 use Rattle.grammar.specs.Grammar.{rules}
-use Rattle.grammar.specs.Notation.{t, r, plain}
+use Rattle.grammar.specs.Notation.{t, r, plain, one, optional}
 use Rattle.grammar.specs.Rules.{<H8>, <H4>, <H2>, <str>, <id>, <small>, <large>, <zero>, <goto-flags>?, <flags>?, <truth-default>?, <truth>, <step>?, <number-default>?, <option-flags>, <head>, <name>?, <questionid>?, <fl>, <flag>*, <flag>}
+use Rattle.grammar.specs.Rules.{<numeric-flags>?, <numeric-fl>, <numeric-flag>*, <numeric-flag>, <numeric-value>}
 use Rattle.grammar.specs.Parts.{child, chosen, placeAt}
 use Rattle.grammar.specs.Parts.{mark, when}
 use Rattle.grammar.specs.Flags.{flags}
+use Rattle.grammar.proofs.FlagTotals.{flags-between}
 use Rattle.answers.specs.Rows.{nameMark, writtenMark}
 use Rattle.elements.specs.Entries.{nodeEntries, entries}
+use Rattle.elements.proofs.TreeLaws.{entries-node}
 
 -- ---- the alternatives of a rule, read back
 
@@ -81,6 +84,10 @@ pub large-keeps : Keeps <large> numberMark
 unfolding rules nodeEntries
 large-keeps = number-keeps <large> refl (λ i c es. refl)
 
+pub numeric-value-keeps : Keeps <numeric-value> numberMark
+unfolding rules nodeEntries
+numeric-value-keeps = number-keeps <numeric-value> refl (λ i c es. refl)
+
 -- GUID parts
 hex-keeps : (A : ℕ) → getD rules A [] ≡ plain (t HEX ∷ []) ∷ [] → ((i : ℕ) (c : Trees) (es : List ℕ) → nodeEntries A i c es ≡ es) → Keeps A numberMark
 unfolding entries
@@ -129,22 +136,23 @@ name-keeps = either-way (Keeping <name>? (λ i c. ifThere i (mark (placeAt 2 c))
         → entries (node <name>? 1 c g) ≡ mark (placeAt 2 c) ∷ entries g
     there c (fits-leaf (fits-leaf (fits-leaf (fits-leaf fits-nil)))) g = refl
 
--- a word, `=`, a number and a comma
+-- a word, `=`, a part that keeps an entry, and a comma
 assigned :
-    (A B k : ℕ) → getD rules A [] ≡ plain [] ∷ plain (t k ∷ t class.«=» ∷ r B ∷ t comma ∷ []) ∷ []
+    (A B k : ℕ) {e : ℕ → Trees → ℕ} → getD rules A [] ≡ optional (t k ∷ t class.«=» ∷ r B ∷ t comma ∷ [])
     → ((i : ℕ) (c : Trees) (es : List ℕ) → nodeEntries A i c es ≡ es) → ((p : ℕ) (f : Trees) → entries (leaf (token k p) f) ≡ entries f)
-    → Keeps B numberMark → Keeps A (λ i c. ifThere i (mark (placeAt 0 (child 2 c))))
+    → Keeps B e → Keeps A (λ i c. ifThere i (e (chosen 2 c) (child 2 c)))
 unfolding entries
-assigned A B k q plainly silent number = either-way (Keeping A (λ i c. ifThere i (mark (placeAt 0 (child 2 c))))) q absent there
+assigned A B k {e} q plainly silent part = either-way (Keeping A (λ i c. ifThere i (e (chosen 2 c) (child 2 c)))) q absent there
   where
     absent : (c : Trees) → Fits rules [] c → (g : Trees) → entries (node A 0 c g) ≡ 0 ∷ entries g
     absent c fits-nil g = refl
 
     there :
         (c : Trees) → Fits rules (t k ∷ t class.«=» ∷ r B ∷ t comma ∷ []) c → (g : Trees)
-        → entries (node A 1 c g) ≡ mark (placeAt 0 (child 2 c)) ∷ entries g
-    there c (fits-leaf {p = p} (fits-leaf {p = p₁} (fits-node {i = i} {c = n} e h (fits-leaf {p = p₂} fits-nil)))) g =
-        rw (plainly 1 (leaf (token k p) (leaf (token class.«=» p₁) (node B i n (leaf (token comma p₂) nil)))) (entries (leaf (token k p) (leaf (token class.«=» p₁) (node B i n (leaf (token comma p₂) nil))))), silent p (leaf (token class.«=» p₁) (node B i n (leaf (token comma p₂) nil))), number i _ n e h (leaf (token comma p₂) nil))
+        → entries (node A 1 c g) ≡ e (chosen 2 c) (child 2 c) ∷ entries g
+    there c (fits-leaf {p = p} (fits-leaf {p = p₁} (fits-node {i = i} {c = n} a h (fits-leaf {p = p₂} fits-nil)))) g =
+        let after = leaf (token class.«=» p₁) (node B i n (leaf (token comma p₂) nil)) in
+        rw (plainly 1 (leaf (token k p) after) (entries (leaf (token k p) after)), silent p after, part i _ n a h (leaf (token comma p₂) nil))
 
 pub questionid-keeps : Keeps <questionid>? (λ i c. ifThere i (mark (placeAt 0 (child 2 c))))
 unfolding rules entries nodeEntries
@@ -152,54 +160,71 @@ questionid-keeps = assigned <questionid>? <id> class.«questionid» refl (λ i c
 
 pub step-keeps : Keeps <step>? (λ i c. ifThere i (mark (placeAt 0 (child 2 c))))
 unfolding rules entries nodeEntries
-step-keeps = assigned <step>? <large> class.«step» refl (λ i c es. refl) (λ p f. refl) large-keeps
+step-keeps = assigned <step>? <numeric-value> class.«step» refl (λ i c es. refl) (λ p f. refl) numeric-value-keeps
 
 pub default-keeps : Keeps <number-default>? (λ i c. ifThere i (mark (placeAt 0 (child 2 c))))
 unfolding rules entries nodeEntries
-default-keeps = assigned <number-default>? <large> class.«default» refl (λ i c es. refl) (λ p f. refl) large-keeps
+default-keeps = assigned <number-default>? <numeric-value> class.«default» refl (λ i c es. refl) (λ p f. refl) numeric-value-keeps
 
 -- TRUE or FALSE: 2 or 1
 pub truth-keeps : Keeps <truth-default>? (λ i c. ifThere i (cond (eqb (chosen 2 c) 0) 2 1))
 unfolding rules entries nodeEntries
-truth-keeps = either-way (Keeping <truth-default>? (λ i c. ifThere i (cond (eqb (chosen 2 c) 0) 2 1))) refl absent there
+truth-keeps = assigned <truth-default>? <truth> class.«default» refl (λ i c es. refl) (λ p f. refl) truth
   where
-    absent : (c : Trees) → Fits rules [] c → (g : Trees) → entries (node <truth-default>? 0 c g) ≡ 0 ∷ entries g
-    absent c fits-nil g = refl
+    yes-word : (c : Trees) → Fits rules (t class.«TRUE» ∷ []) c → (g : Trees) → entries (node <truth> 0 c g) ≡ 2 ∷ entries g
+    yes-word c (fits-leaf fits-nil) g = refl
+
+    no-word : (c : Trees) → Fits rules (t class.«FALSE» ∷ []) c → (g : Trees) → entries (node <truth> 1 c g) ≡ 1 ∷ entries g
+    no-word c (fits-leaf fits-nil) g = refl
 
     truth : Keeps <truth> (λ i c. cond (eqb i 0) 2 1)
     truth = either-way (Keeping <truth> (λ i c. cond (eqb i 0) 2 1)) refl yes-word no-word
-      where
-        yes-word : (c : Trees) → Fits rules (t class.«TRUE» ∷ []) c → (g : Trees) → entries (node <truth> 0 c g) ≡ 2 ∷ entries g
-        yes-word c (fits-leaf fits-nil) g = refl
 
-        no-word : (c : Trees) → Fits rules (t class.«FALSE» ∷ []) c → (g : Trees) → entries (node <truth> 1 c g) ≡ 1 ∷ entries g
-        no-word c (fits-leaf fits-nil) g = refl
+-- ---- FL
 
-    there :
-        (c : Trees) → Fits rules (t class.«default» ∷ t class.«=» ∷ r <truth> ∷ t comma ∷ []) c → (g : Trees)
-        → entries (node <truth-default>? 1 c g) ≡ cond (eqb (chosen 2 c) 0) 2 1 ∷ entries g
-    there c (fits-leaf (fits-leaf (fits-node {i = i} {c = n} e h (fits-leaf {p = p} fits-nil)))) g = rw (truth i _ n e h (leaf (token comma p) nil))
-
--- FL
-fl-keeps : Keeps <fl> (λ i c. flags (node <fl> i c nil))
-unfolding rules entries nodeEntries
-fl-keeps = only-way (Keeping <fl> (λ i c. flags (node <fl> i c nil))) refl there
+-- rule A: a word by rule C and others by rule B
+list-keeps :
+    (A B C : ℕ) → getD rules A [] ≡ one (r C ∷ r B ∷ []) → ((i : ℕ) (c : Trees) (es : List ℕ) → nodeEntries A i c es ≡ flags c ∷ [])
+    → Keeps A (λ i c. flags c)
+list-keeps A B C q keeps = only-way (Keeping A (λ i c. flags c)) q there
   where
-    there : (c : Trees) → Fits rules (r <flag> ∷ r <flag>* ∷ []) c → (g : Trees) → entries (node <fl> 0 c g) ≡ flags (node <fl> 0 c nil) ∷ entries g
-    there c (fits-node e h (fits-node e₁ h₁ fits-nil)) g = refl
+    there : (c : Trees) → Fits rules (r C ∷ r B ∷ []) c → (g : Trees) → entries (node A 0 c g) ≡ flags c ∷ entries g
+    there c h g = entries-node A 0 g h ∙ rw (keeps 0 c (entries c))
+
+fl-keeps : Keeps <fl> (λ i c. flags c)
+unfolding rules nodeEntries
+fl-keeps = list-keeps <fl> <flag>* <flag> refl (λ i c es. refl)
+
+numeric-fl-keeps : Keeps <numeric-fl> (λ i c. flags c)
+unfolding rules nodeEntries
+numeric-fl-keeps = list-keeps <numeric-fl> <numeric-flag>* <numeric-flag> refl (λ i c es. refl)
+
+-- rule A: [`flags =` FL `,`], with FL by rule B; the flags in it are those of FL
+flags-there :
+    (A B : ℕ) → getD rules A [] ≡ optional (t class.«flags» ∷ t class.«=» ∷ r B ∷ t comma ∷ [])
+    → (i : ℕ) (a : Alternative) (c : Trees) → alternativeOf rules A i ≡ some a → Fits rules (a .symbols) c → ifThere i (flags (child 2 c)) ≡ flags c
+flags-there A B q = either-way (λ i c. ifThere i (flags (child 2 c)) ≡ flags c) q absent there
+  where
+    absent : (c : Trees) → Fits rules [] c → 0 ≡ flags c
+    absent c fits-nil = refl
+
+    there : (c : Trees) → Fits rules (t class.«flags» ∷ t class.«=» ∷ r B ∷ t comma ∷ []) c → flags (child 2 c) ≡ flags c
+    there c (fits-leaf (fits-leaf (fits-node {c = n} e h (fits-leaf {p = p} fits-nil)))) =
+        sym (flags-between (class.«flags» ∷ class.«=» ∷ []) n (token comma p ∷ []) refl refl)
 
 pub flags-keeps : Keeps <flags>? (λ i c. flags c)
 unfolding rules entries nodeEntries
-flags-keeps = either-way (Keeping <flags>? (λ i c. flags c)) refl absent there
-  where
-    absent : (c : Trees) → Fits rules [] c → (g : Trees) → entries (node <flags>? 0 c g) ≡ flags c ∷ entries g
-    absent c fits-nil g = refl
+flags-keeps i a c e h g =
+    assigned <flags>? <fl> class.«flags» refl (λ i c es. refl) (λ p f. refl) fl-keeps i a c e h g
+    ∙ ap (λ n. n ∷ entries g) (flags-there <flags>? <fl> refl i a c e h)
 
-    there :
-        (c : Trees) → Fits rules (t class.«flags» ∷ t class.«=» ∷ r <fl> ∷ t comma ∷ []) c → (g : Trees)
-        → entries (node <flags>? 1 c g) ≡ flags c ∷ entries g
-    there c (fits-leaf (fits-leaf (fits-node {i = i} {c = n} e h (fits-leaf {p = p} fits-nil)))) g = rw (fl-keeps i _ n e h (leaf (token comma p) nil))
+pub numeric-flags-keeps : Keeps <numeric-flags>? (λ i c. flags c)
+unfolding rules entries nodeEntries
+numeric-flags-keeps i a c e h g =
+    assigned <numeric-flags>? <numeric-fl> class.«flags» refl (λ i c es. refl) (λ p f. refl) numeric-fl-keeps i a c e h g
+    ∙ ap (λ n. n ∷ entries g) (flags-there <numeric-flags>? <numeric-fl> refl i a c e h)
 
+-- of a goto: [`, flags =` FL]
 pub goto-flags-keeps : Keeps <goto-flags>? (λ i c. flags c)
 unfolding rules entries nodeEntries
 goto-flags-keeps = either-way (Keeping <goto-flags>? (λ i c. flags c)) refl absent there
@@ -210,7 +235,8 @@ goto-flags-keeps = either-way (Keeping <goto-flags>? (λ i c. flags c)) refl abs
     there :
         (c : Trees) → Fits rules (t comma ∷ t class.«flags» ∷ t class.«=» ∷ r <fl> ∷ []) c → (g : Trees)
         → entries (node <goto-flags>? 1 c g) ≡ flags c ∷ entries g
-    there c (fits-leaf (fits-leaf (fits-leaf (fits-node {i = i} {c = n} e h fits-nil)))) g = rw (fl-keeps i _ n e h nil)
+    there c (fits-leaf (fits-leaf (fits-leaf (fits-node {i = i} {c = n} e h fits-nil)))) g =
+        rw (fl-keeps i _ n e h nil) (ap (λ n. n ∷ entries g) (sym (flags-between (comma ∷ class.«flags» ∷ class.«=» ∷ []) n [] refl refl)))
 
 -- ---- an option's flags, and what a questionref names
 

@@ -12,17 +12,19 @@ use Rattle.lexemes.specs.Classes.{semicolon, comma}
 use Rattle.rows.specs.Flags as flag
 use Rattle.ll1.specs.Trees.{token, Trees, nil, leaf, node, Fits, fits-nil, fits-leaf, fits-node}
 use Rattle.grammar.specs.Grammar.{rules}
-use Rattle.grammar.specs.Rules.{<rule>, <item>, <option>, <form>, <str>, <large>, <head>, <flags>?, <goto-flags>?, <truth-default>?, <step>?, <number-default>?, <option-flags>}
+use Rattle.grammar.specs.Rules.{<rule>, <item>, <option>, <form>, <str>, <large>, <head>, <flags>?, <goto-flags>?, <truth-default>?, <step>?, <number-default>?, <option-flags>, <numeric-flags>?, <numeric-value>}
 use Rattle.grammar.specs.Source.{numberAt}
 use Rattle.grammar.specs.Parts.{child, chosen, placeAt}
 use Rattle.answers.specs.Rows.{Draft}
 use Rattle.grammar.specs.Parts.{mark, when}
-use Rattle.grammar.specs.Flags.{hasFlag, flags}
+use Rattle.grammar.specs.Flags.{flags}
+use Rattle.grammar.proofs.FlagTotals.{flags-le}
 use Rattle.elements.specs.Entries.{entries}
 use Rattle.elements.specs.Symbols.{symbolsOf, phraseSymbols, SUBTITLE, TEXT, LABEL, GOTO, CHECKBOX, NUMERIC, ONE-OF-OPEN, OPTION, FORM-OPEN}
 use Rattle.fields.specs.Phrases.{markedValue, setIf, phraseDraft}
 use Rattle.walk.specs.Meanings.{_⧺_, rowsOwn, keptOf, phraseRow, Rowed, Opening}
-use Rattle.walk.proofs.Kept.{id-keeps, small-keeps, large-keeps, str-keeps, head-keeps, flags-keeps, goto-flags-keeps, truth-keeps, step-keeps, default-keeps, option-flags-keeps}
+use Rattle.walk.proofs.Kept.{id-keeps, small-keeps, large-keeps, numeric-value-keeps, str-keeps, head-keeps, flags-keeps, numeric-flags-keeps}
+use Rattle.walk.proofs.Kept.{goto-flags-keeps, truth-keeps, step-keeps, default-keeps, option-flags-keeps}
 
 -- ---- entries that may be absent
 
@@ -48,19 +50,7 @@ half-truth true false = refl
 half-truth false c = refl
 
 flags-low : (f : Trees) → flags f % 256 ≡ flags f
-flags-low f = by (hasFlag 0 f) (hasFlag 1 f) (hasFlag 2 f)
-  where
-    by :
-        (a b c : Bool)
-        → (when a flag.READ-ONLY + when b flag.INTERACTIVE + when c flag.RESET-REQUIRED) % 256 ≡ when a flag.READ-ONLY + when b flag.INTERACTIVE + when c flag.RESET-REQUIRED
-    by true true true = refl
-    by true true false = refl
-    by true false true = refl
-    by true false false = refl
-    by false true true = refl
-    by false true false = refl
-    by false false true = refl
-    by false false false = refl
+flags-low f = omega (arith, flags-le f)
 
 -- ---- the statements
 
@@ -121,13 +111,13 @@ module _ (s : List ℕ) (parent at n : ℕ) where
       let last = leaf (token class.«endnumeric» q₄) (leaf (token semicolon p) nil) in
       let default = node <number-default>? j₃ d₃ last in
       let step = leaf (token comma q₁) (node <step>? j₂ d₂ default) in
-      let maximum = leaf (token comma p₇) (leaf (token class.«maximum» p₈) (leaf (token class.«=» p₉) (node <large> j₀ d₀ step))) in
-      let minimum = leaf (token class.«minimum» p₄) (leaf (token class.«=» p₅) (node <large> i₆ c₆ maximum)) in
+      let maximum = leaf (token comma p₇) (leaf (token class.«maximum» p₈) (leaf (token class.«=» p₉) (node <numeric-value> j₀ d₀ step))) in
+      let minimum = leaf (token class.«minimum» p₄) (leaf (token class.«=» p₅) (node <numeric-value> i₆ c₆ maximum)) in
       rw (
-        head-keeps (numberAt s) i₁ _ c₁ e₁ h₁ (leaf (token comma p₂) (node <flags>? i₃ c₃ minimum)),
-        flags-keeps i₃ _ c₃ e₃ h₃ minimum,
-        large-keeps i₆ _ c₆ e₆ h₆ maximum,
-        large-keeps j₀ _ d₀ f₀ k₀ step,
+        head-keeps (numberAt s) i₁ _ c₁ e₁ h₁ (leaf (token comma p₂) (node <numeric-flags>? i₃ c₃ minimum)),
+        numeric-flags-keeps i₃ _ c₃ e₃ h₃ minimum,
+        numeric-value-keeps i₆ _ c₆ e₆ h₆ maximum,
+        numeric-value-keeps j₀ _ d₀ f₀ k₀ step,
         step-keeps j₂ _ d₂ f₂ k₂ default,
         default-keeps j₃ _ d₃ f₃ k₃ last,
         own-number c₁,

@@ -10,26 +10,21 @@ use Rattle.lexemes.specs.Classes as class
 use Rattle.rows.specs.Columns as column
 use Rattle.rows.specs.Cells.{withoutPlaces}
 use Rattle.rows.proofs.ColumnLaws.{row-cells}
-use Rattle.rows.specs.Flags as flag
 use Rattle.ll1.specs.Trees.{token, Trees, nil, leaf, node}
 use Rattle.grammar.specs.Rules.{<source>, <form>*, <form>, <item-or-rule>*, <rule>, <item>, <option>*, <item>*, <option>}
 use Rattle.grammar.specs.Parts.{child, chosen, placeAt}
 use Rattle.answers.specs.Expression.{expression}
 use Rattle.answers.specs.Rows.{Draft}
 use Rattle.answers.specs.Stages.{cell}
-use Rattle.answers.specs.Text.{opening, hasFlag}
+use Rattle.answers.specs.Text.{opening}
 use Rattle.again.specs.Matches.{Pairs, no-pairs, pair, final}
 use Rattle.formulas.specs.Shapes.{sign, Shape, s-nil, s-leaf, s-node, part, taken}
 use Rattle.formulas.specs.Formula.{formula}
-use Rattle.roundtrip.proofs.Phrases as row
-use Rattle.roundtrip.proofs.Phrases.{say, subtitleUnder, textUnder, labelUnder, gotoUnder, checkboxUnder, numericUnder, oneOfUnder, conditionUnder, optionUnder, ruleUnder, formUnder, formSetUnder}
+use Rattle.roundtrip.proofs.Phrases.{ending, subtitleUnder, textUnder, labelUnder, gotoUnder, checkboxUnder, numericUnder, oneOfUnder, conditionUnder, optionUnder, ruleUnder, formUnder, formSetUnder}
 
 -- the n-th tree of a shape, of the rule A
 abbrev pub again : ℕ → ℕ → Shape → Shape → Shape
 again A n x f = s-node A (taken n x) (part n x) f
-
-abbrev pub ending : ℕ → Shape
-ending k = say k (say class.semicolon s-nil)
 
 -- ---- the shape
 
@@ -41,20 +36,16 @@ module _ (look : ℕ → List ℕ) where
   abbrev pub itemUnder : ℕ → Trees → Shape → Shape
   itemUnder i c d =
       let r = look (placeAt 0 c) in
-      let f₁ = hasFlag flag.READ-ONLY r in
-      let f₂ = hasFlag flag.INTERACTIVE r in
-      let f₃ = hasFlag flag.RESET-REQUIRED r in
-      let f₄ = hasFlag flag.HAS-DEFAULT r in
       let e = formula look (expression (child 1 c)) in
       let items = again <item>* 3 d (ending class.«endif») in
       getD (
       subtitleUnder r
       ∷ textUnder r
       ∷ labelUnder r
-      ∷ gotoUnder f₁ f₂ f₃ r
-      ∷ checkboxUnder f₁ f₂ f₃ f₄ (eqb (row.cell column.D r) 1) r
-      ∷ numericUnder f₁ f₂ f₃ f₄ r
-      ∷ oneOfUnder f₁ f₂ f₃ r (again <option> 4 d (again <option>* 5 d (ending class.«endoneof»)))
+      ∷ gotoUnder r
+      ∷ checkboxUnder r
+      ∷ numericUnder r
+      ∷ oneOfUnder r (again <option> 4 d (again <option>* 5 d (ending class.«endoneof»)))
       ∷ conditionUnder class.«suppressif» e items
       ∷ conditionUnder class.«grayoutif» e items
       ∷ conditionUnder class.«disableif» e items
@@ -76,7 +67,7 @@ module _ (look : ℕ → List ℕ) where
                         elim (eqb A <item>) [
                           | true ↦ itemUnder i c d
                           | false ↦
-                              elim (eqb A <option>) [ true ↦ optionUnder (hasFlag flag.OPTION-DEFAULT (rowAt c)) (rowAt c) | false ↦ d ]
+                              elim (eqb A <option>) [ true ↦ optionUnder (rowAt c) | false ↦ d ]
                         ]
                   ]
             ]

@@ -2,14 +2,13 @@
 -- Assumes nothing.
 use mathlib.Core.Path.{_≡_, refl, ap, ap₂, sym, _∙_, subst}
 use mathlib.Core.List.{List, [], _∷_, _++_, map, append-nil, append-assoc}
-use mathlib.Core.Bool.{Bool, false}
+use mathlib.Core.Bool.{false}
 use Prim.Native.Nat.{ℕ, suc, _+_, _^_, _≤_, _<_}
 use native.Mathlib.Omega.{arith}
 use lib.ListN.{length}
 use Rattle.lexemes.specs.Lexemes.{signs, reserved, lexemes}
 use Rattle.lexemes.specs.Classes as class
 use Rattle.rows.specs.Columns as column
-use Rattle.rows.specs.Flags as flag
 use Rattle.ll1.specs.Trees.{Trees, nil, node, Symbol, nonterminal, Depth, depth}
 use Rattle.grammar.specs.Rules.{<source>, <form>*, <form>, <item-or-rule>*, <rule>, <item>, <option>*, <item>*, <option>}
 use Rattle.grammar.specs.Source.{numberAt}
@@ -18,7 +17,7 @@ use Rattle.grammar.specs.Parts.{child, chosen, placeAt}
 use Rattle.answers.specs.Expression.{Expression, expression}
 use Rattle.answers.specs.Rows.{Draft, rulesIn, draftsOf, item, form, ruleDraft, formSet, guidHigh, guidLow, guidBytes, expressionRows}
 use Rattle.answers.specs.Stages.{cell}
-use Rattle.answers.specs.Text.{Word, words, opening, hasFlag, printed, around, wordsOf}
+use Rattle.answers.specs.Text.{Word, words, opening, printed, around, wordsOf}
 use Rattle.sound.proofs.Lists.{All}
 use Rattle.formulas.specs.Shapes.{word, Shape, s-nil, s-node, flat, spelling, Over, over-nil, over-node}
 use Rattle.formulas.specs.Fitted.{Fitted, f-nil, f-leaf}
@@ -28,7 +27,7 @@ use Rattle.formulas.specs.Words.{print}
 use Rattle.formulas.proofs.Words.{printed-words}
 use Rattle.formulas.specs.Tree.{Rel}
 use Rattle.formulas.proofs.Shapes.{over-part}
-use Rattle.roundtrip.proofs.Phrases.{say, oneOfUnder, conditionUnder, ruleUnder, formUnder, formSetUnder}
+use Rattle.roundtrip.proofs.Phrases.{say, ending, oneOfUnder, conditionUnder, ruleUnder, formUnder, formSetUnder}
 use Rattle.roundtrip.proofs.PhraseWords.{one-of-words, condition-words, rule-words, form-words, form-set-words}
 use Rattle.roundtrip.proofs.PhraseFits.{one-of-fits, rule-fits, form-fits, form-set-fits, suppressif-fits, grayoutif-fits, disableif-fits}
 use Rattle.roundtrip.proofs.PhraseRows.{lowOf}
@@ -39,7 +38,7 @@ use Rattle.roundtrip.proofs.Core.{core, within, Told}
 use Rattle.roundtrip.proofs.Rebuilt.{anew}
 use Rattle.roundtrip.proofs.Stating.{form-set-symbols, form-symbols, rule-symbols, one-of-symbols, condition-symbols}
 use Rattle.again.specs.Matches.{Settled, Match, Pairs, pair}
-use Rattle.roundtrip.proofs.Canon.{ending, listed, Found, pairs-append, pairs-length}
+use Rattle.roundtrip.proofs.Canon.{listed, Found, pairs-append, pairs-length}
 use Rattle.roundtrip.proofs.CanonSeq.{spell-node, coreShape, over-core, silent-core, open-again, SeqOver, made, Ok, seq-none, seq-node, inside, told-over}
 use Rattle.roundtrip.proofs.CanonItems.{head-of, tail-of, rowOf, leafless}
 
@@ -121,7 +120,7 @@ module _ (t : List ℕ) (look look′ : ℕ → List ℕ) (source : ℕ → ℕ)
 
     -- of a row
     abbrev one-of-shape : List ℕ → Shape
-    one-of-shape r = oneOfUnder (hasFlag flag.READ-ONLY r) (hasFlag flag.INTERACTIVE r) (hasFlag flag.RESET-REQUIRED r) r options
+    one-of-shape r = oneOfUnder r options
 
     pub one-of-ok :
         Told source look one-of → Settled look (item source parent 6 one-of)
@@ -134,7 +133,7 @@ module _ (t : List ℕ) (look look′ : ℕ → List ℕ) (source : ℕ → ℕ)
         record {
           fits = fits;
           spells = subst (λ r. spelling (one-of-shape r) ≡ opening r ++ (wordsOf look one-of ++ words "endoneof ;")) (sym (s .is-row))
-              (one-of-words (flagged flag.READ-ONLY) (flagged flag.INTERACTIVE) (flagged flag.RESET-REQUIRED) (rowOf s) options
+              (one-of-words (rowOf s) options
               ∙ ap (λ ws. opening (rowOf s) ++ ws) (two-words x y (ending class.«endoneof») (told-c .words)));
           over = λ T o.
               let m = one-of-match t look source parent one-of T options s o in
@@ -150,11 +149,8 @@ module _ (t : List ℕ) (look look′ : ℕ → List ℕ) (source : ℕ → ℕ)
         r : List ℕ
         r = look (placeAt 0 c)
 
-        flagged : ℕ → Bool
-        flagged k = hasFlag k (rowOf s)
-
         fits : {σ : List Symbol} {F : Trees} → Fitted d σ F → Fitted d (nonterminal <item> ∷ σ) (node <item> 6 (flat (one-of-shape r)) F)
-        fits h = one-of-fits u (hasFlag flag.READ-ONLY r) (hasFlag flag.INTERACTIVE r) (hasFlag flag.RESET-REQUIRED r) r options (x .fits (y .fits (f-leaf u (f-leaf u f-nil)))) h
+        fits h = one-of-fits u r options (x .fits (y .fits (f-leaf u (f-leaf u f-nil)))) h
 
   -- ---- suppressif, grayoutif or disableif, which is the class k, expression ; item* endif ;
 

@@ -1,4 +1,6 @@
+pub mod Ranged
 pub mod Phrases
+pub mod FlagLists
 pub mod PhraseWords
 pub mod PhraseFits
 pub mod PhraseRows
@@ -6,6 +8,7 @@ pub mod Core
 pub mod Rebuilt
 pub mod Stating
 pub mod Canon
+pub mod FlagsAgain
 pub mod Matches
 pub mod Expressions
 pub mod CanonSeq
@@ -14,7 +17,6 @@ pub mod CanonLists
 pub mod CanonStatements
 pub mod GuidAgain
 pub mod CanonWalk
-pub mod Ranged
 pub mod PhraseRanged
 pub mod RangedWalk
 pub mod Read

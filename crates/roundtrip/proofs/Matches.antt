@@ -3,7 +3,7 @@
 use mathlib.Core.Path.{_≡_, refl, ap, sym, _∙_, subst}
 use mathlib.Core.List.{List, [], _∷_}
 use mathlib.Core.Bool.{Bool, true, false}
-use Prim.Native.Nat.{ℕ, suc, _+_, _-_, _/_, _%_, _^_, _<_}
+use Prim.Native.Nat.{ℕ, _+_, _-_, _^_, _<_}
 use native.Mathlib.Omega.{arith}
 use lib.Dec.{eqb, ltb}
 use lib.ListN.{set, drop}
@@ -15,77 +15,19 @@ use Rattle.rows.specs.Cells.{Entry, _≔_, withoutPlaces}
 use Rattle.rows.specs.Flags as flag
 use Rattle.ll1.specs.Trees.{Trees}
 use Rattle.ll1.proofs.Basics.{clash}
-use Rattle.grammar.specs.Flags as Flags
 use Rattle.grammar.specs.Source.{numberAt}
 use Rattle.grammar.specs.Parts.{child, chosen, placeAt}
 use Rattle.grammar.specs.Parts.{mark, when}
-use Rattle.answers.specs.Rows.{rowWith, value, string, nameMark, item, option, ruleDraft, form, guidHigh, guidLow, guidBytes, formSet}
-use Rattle.grammar.specs.Flags.{flags}
-use Rattle.answers.specs.Rows as Rows
+use Rattle.answers.specs.Rows.{rowWith, value, item, option, ruleDraft, form, guidHigh, guidLow, guidBytes, formSet}
+use Rattle.grammar.specs.Flags.{classes, flags}
 use Rattle.answers.specs.Text.{hasFlag}
 use Rattle.formulas.specs.Shapes.{ruleWord, Shape, Over}
 use Rattle.formulas.specs.Formula.{Formula}
 use Rattle.roundtrip.proofs.Phrases.{cell, subtitleUnder, textUnder, labelUnder, gotoUnder, checkboxUnder, numericUnder, oneOfUnder, optionUnder, ruleUnder, formUnder, formSetUnder}
-use Rattle.roundtrip.proofs.PhraseRows.{flagSum, questionRow, marked, subtitle-is, text-is, label-is, goto-is, checkbox-is, numeric-is, one-of-is, option-is, rule-is, form-is, highOf, lowOf, form-set-is}
+use Rattle.roundtrip.proofs.PhraseRows.{questionRow, gotoHolds, checkboxHolds, numericHolds, oneOfHolds, marked, subtitle-is, text-is, label-is, goto-is, checkbox-is, numeric-is, one-of-is, option-is, rule-is, form-is, highOf, lowOf, form-set-is}
+use Rattle.roundtrip.proofs.FlagsAgain.{bit, again, flags-default-again, flags-again, default-again}
 use Rattle.again.specs.Matches.{Settled, Match}
 use Rattle.again.proofs.Likeness.{numbered-row, draft-row}
-
--- ---- flags read back
-
-abbrev bit : ℕ → ℕ → Bool
-bit f x = eqb (x / f % 2) 1
-
-abbrev again : ℕ → ℕ
-again x = flagSum (bit flag.READ-ONLY x) (bit flag.INTERACTIVE x) (bit flag.RESET-REQUIRED x)
-
-flags-again : (a b c : Bool) → again (flagSum a b c) ≡ flagSum a b c
-flags-again true true true = refl
-flags-again true true false = refl
-flags-again true false true = refl
-flags-again true false false = refl
-flags-again false true true = refl
-flags-again false true false = refl
-flags-again false false true = refl
-flags-again false false false = refl
-
-abbrev with-default : Bool → Bool → Bool → Bool → ℕ
-with-default a b c e = flagSum a b c + when e flag.HAS-DEFAULT
-
-default-again : (a b c e : Bool) → bit flag.HAS-DEFAULT (with-default a b c e) ≡ e
-default-again true true true true = refl
-default-again true true true false = refl
-default-again true true false true = refl
-default-again true true false false = refl
-default-again true false true true = refl
-default-again true false true false = refl
-default-again true false false true = refl
-default-again true false false false = refl
-default-again false true true true = refl
-default-again false true true false = refl
-default-again false true false true = refl
-default-again false true false false = refl
-default-again false false true true = refl
-default-again false false true false = refl
-default-again false false false true = refl
-default-again false false false false = refl
-
-flags-default-again : (a b c e : Bool) → again (with-default a b c e) + when e flag.HAS-DEFAULT ≡ with-default a b c e
-flags-default-again true true true true = refl
-flags-default-again true true true false = refl
-flags-default-again true true false true = refl
-flags-default-again true true false false = refl
-flags-default-again true false true true = refl
-flags-default-again true false true false = refl
-flags-default-again true false false true = refl
-flags-default-again true false false false = refl
-flags-default-again false true true true = refl
-flags-default-again false true true false = refl
-flags-default-again false true false true = refl
-flags-default-again false true false false = refl
-flags-default-again false false true true = refl
-flags-default-again false false true false = refl
-flags-default-again false false false true = refl
-flags-default-again false false false false = refl
 
 truth-again : (e v : Bool) → when e (when (eqb (when e (when v 1)) 1) 1) ≡ when e (when v 1)
 truth-again true true = refl
@@ -182,19 +124,18 @@ module _ (t : List ℕ) (look : ℕ → List ℕ) (source : ℕ → ℕ) (parent
 
   -- ---- questions
 
-  pub goto-match : Settled look (item source parent 3 c) → Over t T (gotoUnder (hasFlag flag.READ-ONLY r) (hasFlag flag.INTERACTIVE r) (hasFlag flag.RESET-REQUIRED r) r) → Match t look (item N parent 3 T) (item source parent 3 c)
+  pub goto-match : Settled look (item source parent 3 c) → Over t T (gotoUnder r) → Match t look (item N parent 3 T) (item source parent 3 c)
   unfolding isQuestion member questions
   goto-match s o =
-      let F = child 4 c in
-      let q = goto-is t (hasFlag flag.READ-ONLY r) (hasFlag flag.INTERACTIVE r) (hasFlag flag.RESET-REQUIRED r) r parent o in
+      let q = goto-is t r parent o in
       let found = set (item source parent 3 c .row) column.OWN (s .own) in
       let e : r ≡ found = numbered-row look s refl in
-      let fl = flags-again (Flags.hasFlag 0 F) (Flags.hasFlag 1 F) (Flags.hasFlag 2 F) in
+      let fl = flags-again (classes (child 4 c)) in
       record {
         whole = refl;
         same =
             ap withoutPlaces (q .row)
-            ∙ subst (λ x. withoutPlaces (asked code.GOTO x (column.FLAGS ≔ again (cell column.FLAGS x) ∷ column.A ≔ cell column.A x ∷ [])) ≡ withoutPlaces x) (sym e)
+            ∙ subst (λ x. withoutPlaces (asked code.GOTO x (gotoHolds x)) ≡ withoutPlaces x) (sym e)
             (λ j. withoutPlaces (set found column.FLAGS (fl j)));
         code-same = refl;
         default = refl;
@@ -203,19 +144,18 @@ module _ (t : List ℕ) (look : ℕ → List ℕ) (source : ℕ → ℕ) (parent
         reference = never;
       }
 
-  pub one-of-match : (x : Shape) → Settled look (item source parent 6 c) → Over t T (oneOfUnder (hasFlag flag.READ-ONLY r) (hasFlag flag.INTERACTIVE r) (hasFlag flag.RESET-REQUIRED r) r x) → Match t look (item N parent 6 T) (item source parent 6 c)
+  pub one-of-match : (x : Shape) → Settled look (item source parent 6 c) → Over t T (oneOfUnder r x) → Match t look (item N parent 6 T) (item source parent 6 c)
   unfolding isQuestion member questions
   one-of-match x s o =
-      let F = child 3 c in
-      let q = one-of-is t (hasFlag flag.READ-ONLY r) (hasFlag flag.INTERACTIVE r) (hasFlag flag.RESET-REQUIRED r) r x parent o in
+      let q = one-of-is t r x parent o in
       let found = set (item source parent 6 c .row) column.OWN (s .own) in
       let e : r ≡ found = numbered-row look s refl in
-      let fl = flags-again (Flags.hasFlag 0 F) (Flags.hasFlag 1 F) (Flags.hasFlag 2 F) in
+      let fl = flags-again (classes (child 3 c)) in
       record {
         whole = refl;
         same =
             ap withoutPlaces (q .row)
-            ∙ subst (λ x. withoutPlaces (asked code.ONE-OF x (column.FLAGS ≔ again (cell column.FLAGS x) ∷ [])) ≡ withoutPlaces x) (sym e)
+            ∙ subst (λ x. withoutPlaces (asked code.ONE-OF x (oneOfHolds x)) ≡ withoutPlaces x) (sym e)
             (λ j. withoutPlaces (set found column.FLAGS (fl j)));
         code-same = refl;
         default = refl;
@@ -224,27 +164,24 @@ module _ (t : List ℕ) (look : ℕ → List ℕ) (source : ℕ → ℕ) (parent
         reference = never;
       }
 
-  pub checkbox-match : Settled look (item source parent 4 c) → Over t T (checkboxUnder (hasFlag flag.READ-ONLY r) (hasFlag flag.INTERACTIVE r) (hasFlag flag.RESET-REQUIRED r) (hasFlag flag.HAS-DEFAULT r) (eqb (cell column.D r) 1) r) → Match t look (item N parent 4 T) (item source parent 4 c)
+  pub checkbox-match : Settled look (item source parent 4 c) → Over t T (checkboxUnder r) → Match t look (item N parent 4 T) (item source parent 4 c)
   unfolding isQuestion member questions
   checkbox-match s o =
-      let F = child 3 c in
       let d = eqb (chosen 4 c) 1 in
       let v = eqb (chosen 2 (child 4 c)) 0 in
-      let b₁ = Flags.hasFlag 0 F in
-      let b₂ = Flags.hasFlag 1 F in
-      let b₃ = Flags.hasFlag 2 F in
-      let x = with-default b₁ b₂ b₃ d in
-      let q = checkbox-is t (hasFlag flag.READ-ONLY r) (hasFlag flag.INTERACTIVE r) (hasFlag flag.RESET-REQUIRED r) (hasFlag flag.HAS-DEFAULT r) (eqb (cell column.D r) 1) r parent o in
+      let ks = classes (child 3 c) in
+      let x = flags (child 3 c) + when d flag.HAS-DEFAULT in
+      let q = checkbox-is t r parent o in
       let found = set (item source parent 4 c .row) column.OWN (s .own) in
       let e : r ≡ found = numbered-row look s refl in
-      let de = default-again b₁ b₂ b₃ d in
-      let fl : again x + when (bit flag.HAS-DEFAULT x) flag.HAS-DEFAULT ≡ x = ap (λ z. again x + when z flag.HAS-DEFAULT) de ∙ flags-default-again b₁ b₂ b₃ d in
+      let de = default-again ks d in
+      let fl : again x + when (bit flag.HAS-DEFAULT x) flag.HAS-DEFAULT ≡ x = λ i. flags-default-again ks d i + when (de i) flag.HAS-DEFAULT in
       let dv : when (bit flag.HAS-DEFAULT x) (when (eqb (when d (when v 1)) 1) 1) ≡ when d (when v 1) = ap (λ z. when z (when (eqb (when d (when v 1)) 1) 1)) de ∙ truth-again d v in
       record {
         whole = refl;
         same =
             ap withoutPlaces (q .row)
-            ∙ subst (λ y. withoutPlaces (asked code.CHECKBOX y (column.FLAGS ≔ (again (cell column.FLAGS y) + when (bit flag.HAS-DEFAULT (cell column.FLAGS y)) flag.HAS-DEFAULT) ∷ column.D ≔ when (bit flag.HAS-DEFAULT (cell column.FLAGS y)) (when (eqb (cell column.D y) 1) 1) ∷ [])) ≡ withoutPlaces y) (sym e)
+            ∙ subst (λ y. withoutPlaces (asked code.CHECKBOX y (checkboxHolds y)) ≡ withoutPlaces y) (sym e)
             (λ j. withoutPlaces (set (set found column.FLAGS (fl j)) column.D (dv j)));
         code-same = refl;
         default = refl;
@@ -253,29 +190,26 @@ module _ (t : List ℕ) (look : ℕ → List ℕ) (source : ℕ → ℕ) (parent
         reference = never;
       }
 
-  pub numeric-match : Settled look (item source parent 5 c) → Over t T (numericUnder (hasFlag flag.READ-ONLY r) (hasFlag flag.INTERACTIVE r) (hasFlag flag.RESET-REQUIRED r) (hasFlag flag.HAS-DEFAULT r) r) → Match t look (item N parent 5 T) (item source parent 5 c)
+  pub numeric-match : Settled look (item source parent 5 c) → Over t T (numericUnder r) → Match t look (item N parent 5 T) (item source parent 5 c)
   unfolding isQuestion member questions
   numeric-match s o =
-      let F = child 3 c in
       let d = eqb (chosen 13 c) 1 in
       let v = value source 2 (child 13 c) in
-      let b₁ = Flags.hasFlag 0 F in
-      let b₂ = Flags.hasFlag 1 F in
-      let b₃ = Flags.hasFlag 2 F in
-      let x = with-default b₁ b₂ b₃ d in
-      let m = numeric-is t (hasFlag flag.READ-ONLY r) (hasFlag flag.INTERACTIVE r) (hasFlag flag.RESET-REQUIRED r) (hasFlag flag.HAS-DEFAULT r) r parent o in
+      let ks = classes (child 3 c) in
+      let x = flags (child 3 c) + when d flag.HAS-DEFAULT in
+      let m = numeric-is t r parent o in
       let q = m .0 in
       let found = set (item source parent 5 c .row) column.OWN (s .own) in
       let e : r ≡ found = numbered-row look s refl in
-      let de = default-again b₁ b₂ b₃ d in
-      let fl : again x + when (bit flag.HAS-DEFAULT x) flag.HAS-DEFAULT ≡ x = ap (λ z. again x + when z flag.HAS-DEFAULT) de ∙ flags-default-again b₁ b₂ b₃ d in
+      let de = default-again ks d in
+      let fl : again x + when (bit flag.HAS-DEFAULT x) flag.HAS-DEFAULT ≡ x = λ i. flags-default-again ks d i + when (de i) flag.HAS-DEFAULT in
       let dv : when (bit flag.HAS-DEFAULT x) (when d v) ≡ when d v = ap (λ z. when z (when d v)) de ∙ when-again d v in
       let default-bit : hasFlag flag.HAS-DEFAULT r ≡ d = ap (λ y. bit flag.HAS-DEFAULT (cell column.FLAGS y)) e ∙ de in
       record {
         whole = refl;
         same =
             ap withoutPlaces (q .row)
-            ∙ subst (λ y. withoutPlaces (asked code.NUMERIC y (column.FLAGS ≔ (again (cell column.FLAGS y) + when (bit flag.HAS-DEFAULT (cell column.FLAGS y)) flag.HAS-DEFAULT) ∷ column.A ≔ cell column.A y ∷ column.B ≔ cell column.B y ∷ column.C ≔ cell column.C y ∷ column.D ≔ when (bit flag.HAS-DEFAULT (cell column.FLAGS y)) (cell column.D y) ∷ [])) ≡ withoutPlaces y) (sym e)
+            ∙ subst (λ y. withoutPlaces (asked code.NUMERIC y (numericHolds y)) ≡ withoutPlaces y) (sym e)
             (λ j. withoutPlaces (set (set found column.FLAGS (fl j)) column.D (dv j)));
         code-same = refl;
         default = m .1 ∙ default-bit ∙ when-mark d (placeAt 0 (child 2 (child 13 c)));
@@ -286,11 +220,11 @@ module _ (t : List ℕ) (look : ℕ → List ℕ) (source : ℕ → ℕ) (parent
 
   -- ---- the other statements
 
-  pub option-match : Settled look (option source parent c) → Over t T (optionUnder (hasFlag flag.OPTION-DEFAULT r) r) → Match t look (option N parent T) (option source parent c)
+  pub option-match : Settled look (option source parent c) → Over t T (optionUnder r) → Match t look (option N parent T) (option source parent c)
   unfolding isQuestion member questions
   option-match s o =
       let d = eqb (chosen 11 c) 1 in
-      let q = option-is t (hasFlag flag.OPTION-DEFAULT r) r parent o in
+      let q = option-is t r parent o in
       let e = draft-row look s refl refl in
       let de = option-again d in
       record {

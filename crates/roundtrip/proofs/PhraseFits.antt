@@ -1,25 +1,30 @@
 -- The shape of each statement fits the grammar, where its depth is allowed.
 -- Assumes nothing.
-use mathlib.Core.Path.{_≡_, refl}
+use mathlib.Core.Path.{_≡_, refl, ap}
 use mathlib.Core.List.{List, [], _∷_}
 use mathlib.Core.Option.{some}
-use mathlib.Core.Bool.{Bool, true, false, not, _||_}
+use mathlib.Core.Bool.{Bool, true, false, not}
 use Prim.Native.Nat.{ℕ, suc, _+_, _≤_}
 use native.Mathlib.Omega.{arith}
+use lib.Dec.{eqb}
+use lib.ListN.{getD, getElem?}
 use Rattle.lexemes.specs.Classes as class
 use Rattle.rows.specs.Columns as column
+use Rattle.rows.specs.Flags as flag
 use Rattle.ll1.specs.Trees.{token, Trees, nil, leaf, node, Symbol, nonterminal, alternativeOf, Depth, depth}
-use Rattle.ll1.proofs.Basics.{clash}
-use Rattle.grammar.specs.Notation.{t, r, plain}
-use Rattle.grammar.specs.Rules.{<source>, <form>*, <guid>, <str>, <form>, <item-or-rule>*, <rule>, <item>, <goto-flags>?, <flags>?, <truth-default>?, <truth>, <step>?, <number-default>?, <option>*, <item>*, <option>, <option-flags>, <head>, <fl>}
+use Rattle.grammar.specs.Notation.{t, r, plain, optional}
+use Rattle.grammar.specs.Rules.{<source>, <form>*, <guid>, <str>, <form>, <item-or-rule>*, <rule>, <item>, <goto-flags>?, <flags>?, <truth-default>?, <truth>, <step>?, <number-default>?, <option>*, <item>*, <option>, <option-flags>, <head>, <numeric-flags>?}
+use Rattle.grammar.specs.Flags.{FlagWord}
 use Rattle.grammar.specs.Grammar.{rules}
 use Rattle.grammar.specs.Derivation.{tooDeep}
+use Rattle.answers.specs.Text.{hasFlag}
 use Rattle.formulas.specs.Shapes.{Shape, s-nil, flat}
 use Rattle.formulas.specs.Fitted.{Fitted, f-nil, f-leaf, f-node}
 use Rattle.formulas.proofs.Fitted.{fine}
 use Rattle.formulas.specs.Formula.{Formula, nest}
 use Rattle.formulas.proofs.Good.{good}
-use Rattle.roundtrip.proofs.Phrases.{cell, say, present, stringUnder, headUnder, flagsUnder, gotoFlagsUnder, otherFlagsUnder, truthUnder, truthDefaultUnder, numberDefaultUnder, optionFlagsUnder, stepUnder, subtitleUnder, textUnder, labelUnder, gotoUnder, checkboxUnder, numericUnder, oneOfUnder, conditionUnder, optionUnder, ruleUnder, formUnder, guidUnder, formSetUnder}
+use Rattle.roundtrip.proofs.Phrases.{cell, say, present, stringUnder, headUnder, rowFlags, FlagRules, flagRules, numericFlagRules, flagsPart, gotoFlagsPart, presentFlags, truthUnder, truthDefaultUnder, numberDefaultUnder, optionFlagsUnder, stepUnder, subtitleUnder, textUnder, labelUnder, gotoUnder, checkboxUnder, numericUnder, oneOfUnder, conditionUnder, optionUnder, ruleUnder, formUnder, guidUnder, formSetUnder}
+use Rattle.roundtrip.proofs.FlagLists.{Listed, flags-are-listed, numeric-flags-are-listed, Known, flags-known, numeric-flags-known, list-fits}
 
 module _ {d : Depth} (u : tooDeep d ≡ false) where
   -- ---- parts
@@ -38,32 +43,18 @@ module _ {d : Depth} (u : tooDeep d ≡ false) where
   unfolding rules
   head-fits r h = f-node refl (f-node refl f-nil (f-node refl (f-leaf u (f-leaf u (number-fits refl (f-leaf u f-nil)))) (f-leaf u (f-leaf u (string-fits (f-leaf u (f-leaf u (f-leaf u (string-fits f-nil))))))))) h
 
-  flags-fit : (a b c : Bool) {σ : List Symbol} {F : Trees} → a || (b || c) ≡ true → Fitted d σ F → Fitted d (nonterminal <fl> ∷ σ) (node <fl> 0 (flat (flagsUnder a b c)) F)
+  goto-flags-fits : (ws : List FlagWord) {σ : List Symbol} {F : Trees} → Known flagRules ws → Fitted d σ F → Fitted d (nonterminal <goto-flags>? ∷ σ) (node <goto-flags>? (presentFlags ws) (flat (gotoFlagsPart ws)) F)
   unfolding rules
-  flags-fit true true true e h = f-node refl (f-node refl (f-leaf u f-nil) (f-node refl (f-leaf u (f-node refl (f-leaf u f-nil) (f-node refl (f-leaf u (f-node refl (f-leaf u f-nil) (f-node refl f-nil f-nil))) f-nil))) f-nil)) h
-  flags-fit true true false e h = f-node refl (f-node refl (f-leaf u f-nil) (f-node refl (f-leaf u (f-node refl (f-leaf u f-nil) (f-node refl f-nil f-nil))) f-nil)) h
-  flags-fit true false true e h = f-node refl (f-node refl (f-leaf u f-nil) (f-node refl (f-leaf u (f-node refl (f-leaf u f-nil) (f-node refl f-nil f-nil))) f-nil)) h
-  flags-fit true false false e h = f-node refl (f-node refl (f-leaf u f-nil) (f-node refl f-nil f-nil)) h
-  flags-fit false true true e h = f-node refl (f-node refl (f-leaf u f-nil) (f-node refl (f-leaf u (f-node refl (f-leaf u f-nil) (f-node refl f-nil f-nil))) f-nil)) h
-  flags-fit false true false e h = f-node refl (f-node refl (f-leaf u f-nil) (f-node refl f-nil f-nil)) h
-  flags-fit false false true e h = f-node refl (f-node refl (f-leaf u f-nil) (f-node refl f-nil f-nil)) h
-  flags-fit false false false e h = clash cc
+  goto-flags-fits [] k h = f-node refl f-nil h
+  goto-flags-fits (w ∷ ws) k h = f-node refl (f-leaf u (f-leaf u (f-leaf u (list-fits flagRules flags-are-listed u w ws k f-nil)))) h
 
-  goto-flags-fits : (a b c : Bool) {σ : List Symbol} {F : Trees} → Fitted d σ F → Fitted d (nonterminal <goto-flags>? ∷ σ) (node <goto-flags>? (present (a || (b || c))) (flat (gotoFlagsUnder a b c)) F)
-  unfolding rules
-  goto-flags-fits a b c {σ} {F} h = by (a || (b || c)) refl
-    where
-      by : (x : Bool) → a || (b || c) ≡ x → Fitted d (nonterminal <goto-flags>? ∷ σ) (node <goto-flags>? (present (a || (b || c))) (flat (gotoFlagsUnder a b c)) F)
-      by true e = rw (e, gotoFlagsUnder) (f-node refl (f-leaf u (f-leaf u (f-leaf u (flags-fit a b c e f-nil)))) h)
-      by false e = rw (e, gotoFlagsUnder) (f-node refl f-nil h)
-
-  other-flags-fits : (a b c : Bool) {σ : List Symbol} {F : Trees} → Fitted d σ F → Fitted d (nonterminal <flags>? ∷ σ) (node <flags>? (present (a || (b || c))) (flat (otherFlagsUnder a b c)) F)
-  unfolding rules
-  other-flags-fits a b c {σ} {F} h = by (a || (b || c)) refl
-    where
-      by : (x : Bool) → a || (b || c) ≡ x → Fitted d (nonterminal <flags>? ∷ σ) (node <flags>? (present (a || (b || c))) (flat (otherFlagsUnder a b c)) F)
-      by true e = rw (e, otherFlagsUnder) (f-node refl (f-leaf u (f-leaf u (flags-fit a b c e (f-leaf u f-nil)))) h)
-      by false e = rw (e, otherFlagsUnder) (f-node refl f-nil h)
+  -- of the other questions, where the rule A is [flags = FL ,]
+  flags-fit :
+      (A : ℕ) (R : FlagRules) (ws : List FlagWord) {σ : List Symbol} {F : Trees}
+      → getD rules A [] ≡ optional (t class.«flags» ∷ t class.«=» ∷ r (R .list) ∷ t class.comma ∷ []) → Listed R → Known R ws → Fitted d σ F
+      → Fitted d (nonterminal A ∷ σ) (node A (presentFlags ws) (flat (flagsPart R ws)) F)
+  flags-fit A R [] e L k h = f-node (ap (λ l. getElem? l 0) e) f-nil h
+  flags-fit A R (w ∷ ws) e L k h = f-node (ap (λ l. getElem? l 1) e) (f-leaf u (f-leaf u (list-fits R L u w ws k (f-leaf u f-nil)))) h
 
   truth-fits : (v : Bool) {σ : List Symbol} {F : Trees} → Fitted d σ F → Fitted d (nonterminal <truth> ∷ σ) (node <truth> (present (not v)) (flat (truthUnder v)) F)
   unfolding rules
@@ -103,27 +94,27 @@ module _ {d : Depth} (u : tooDeep d ≡ false) where
   unfolding rules
   label-fits r h = f-node refl (f-leaf u (number-fits refl (f-leaf u f-nil))) h
 
-  pub goto-fits : (a b c : Bool) (r : List ℕ) {σ : List Symbol} {F : Trees} → Fitted d σ F → Fitted d (nonterminal <item> ∷ σ) (node <item> 3 (flat (gotoUnder a b c r)) F)
+  pub goto-fits : (r : List ℕ) {σ : List Symbol} {F : Trees} → Fitted d σ F → Fitted d (nonterminal <item> ∷ σ) (node <item> 3 (flat (gotoUnder r)) F)
   unfolding rules
-  goto-fits a b c r h = f-node refl (f-leaf u (number-fits refl (f-leaf u (head-fits r (goto-flags-fits a b c (f-leaf u f-nil)))))) h
+  goto-fits r h = f-node refl (f-leaf u (number-fits refl (f-leaf u (head-fits r (goto-flags-fits (rowFlags r) (flags-known r) (f-leaf u f-nil)))))) h
 
-  pub checkbox-fits : (a b c e v : Bool) (r : List ℕ) {σ : List Symbol} {F : Trees} → Fitted d σ F → Fitted d (nonterminal <item> ∷ σ) (node <item> 4 (flat (checkboxUnder a b c e v r)) F)
+  pub checkbox-fits : (r : List ℕ) {σ : List Symbol} {F : Trees} → Fitted d σ F → Fitted d (nonterminal <item> ∷ σ) (node <item> 4 (flat (checkboxUnder r)) F)
   unfolding rules
-  checkbox-fits a b c e v r h = f-node refl (f-leaf u (head-fits r (f-leaf u (other-flags-fits a b c (truth-default-fits e v (f-leaf u (f-leaf u f-nil))))))) h
+  checkbox-fits r h = f-node refl (f-leaf u (head-fits r (f-leaf u (flags-fit <flags>? flagRules (rowFlags r) refl flags-are-listed (flags-known r) (truth-default-fits (hasFlag flag.HAS-DEFAULT r) (eqb (cell column.D r) 1) (f-leaf u (f-leaf u f-nil))))))) h
 
-  pub numeric-fits : (a b c e : Bool) (r : List ℕ) {σ : List Symbol} {F : Trees} → Fitted d σ F → Fitted d (nonterminal <item> ∷ σ) (node <item> 5 (flat (numericUnder a b c e r)) F)
+  pub numeric-fits : (r : List ℕ) {σ : List Symbol} {F : Trees} → Fitted d σ F → Fitted d (nonterminal <item> ∷ σ) (node <item> 5 (flat (numericUnder r)) F)
   unfolding rules
-  numeric-fits a b c e r h = f-node refl (f-leaf u (head-fits r (f-leaf u (other-flags-fits a b c (f-leaf u (f-leaf u (number-fits refl (f-leaf u (f-leaf u (f-leaf u (number-fits refl (f-leaf u (step-fits (cell column.C r) (number-default-fits e (cell column.D r) (f-leaf u (f-leaf u f-nil)))))))))))))))) h
+  numeric-fits r h = f-node refl (f-leaf u (head-fits r (f-leaf u (flags-fit <numeric-flags>? numericFlagRules (rowFlags r) refl numeric-flags-are-listed (numeric-flags-known r) (f-leaf u (f-leaf u (number-fits refl (f-leaf u (f-leaf u (f-leaf u (number-fits refl (f-leaf u (step-fits (cell column.C r) (number-default-fits (hasFlag flag.HAS-DEFAULT r) (cell column.D r) (f-leaf u (f-leaf u f-nil)))))))))))))))) h
 
-  pub one-of-fits : (a b c : Bool) (r : List ℕ) (x : Shape) {σ : List Symbol} {F : Trees} → Fitted d (nonterminal <option> ∷ nonterminal <option>* ∷ t class.«endoneof» ∷ t class.semicolon ∷ []) (flat x) → Fitted d σ F → Fitted d (nonterminal <item> ∷ σ) (node <item> 6 (flat (oneOfUnder a b c r x)) F)
+  pub one-of-fits : (r : List ℕ) (x : Shape) {σ : List Symbol} {F : Trees} → Fitted d (nonterminal <option> ∷ nonterminal <option>* ∷ t class.«endoneof» ∷ t class.semicolon ∷ []) (flat x) → Fitted d σ F → Fitted d (nonterminal <item> ∷ σ) (node <item> 6 (flat (oneOfUnder r x)) F)
   unfolding rules
-  one-of-fits a b c r x g h = f-node refl (f-leaf u (head-fits r (f-leaf u (other-flags-fits a b c g)))) h
+  one-of-fits r x g h = f-node refl (f-leaf u (head-fits r (f-leaf u (flags-fit <flags>? flagRules (rowFlags r) refl flags-are-listed (flags-known r) g)))) h
 
   -- ---- the other statements
 
-  pub option-fits : (e : Bool) (r : List ℕ) {σ : List Symbol} {F : Trees} → Fitted d σ F → Fitted d (nonterminal <option> ∷ σ) (node <option> 0 (flat (optionUnder e r)) F)
+  pub option-fits : (r : List ℕ) {σ : List Symbol} {F : Trees} → Fitted d σ F → Fitted d (nonterminal <option> ∷ σ) (node <option> 0 (flat (optionUnder r)) F)
   unfolding rules
-  option-fits e r h = f-node refl (f-leaf u (f-leaf u (f-leaf u (string-fits (f-leaf u (f-leaf u (f-leaf u (number-fits refl (f-leaf u (f-leaf u (f-leaf u (option-flags-fits e (f-leaf u f-nil))))))))))))) h
+  option-fits r h = f-node refl (f-leaf u (f-leaf u (f-leaf u (string-fits (f-leaf u (f-leaf u (f-leaf u (number-fits refl (f-leaf u (f-leaf u (f-leaf u (option-flags-fits (hasFlag flag.OPTION-DEFAULT r) (f-leaf u f-nil))))))))))))) h
 
   pub form-fits : (r : List ℕ) (x : Shape) {σ : List Symbol} {F : Trees} → Fitted d (nonterminal <item-or-rule>* ∷ t class.«endform» ∷ t class.semicolon ∷ []) (flat x) → Fitted d σ F → Fitted d (nonterminal <form> ∷ σ) (node <form> 0 (flat (formUnder r x)) F)
   unfolding rules

@@ -1,16 +1,20 @@
 -- The shape of each statement is ranged, where the cells of its row are.
 -- Assumes nothing.
-use mathlib.Core.List.{List}
+use mathlib.Core.List.{List, [], _∷_}
 use mathlib.Core.Bool.{Bool, true, false}
 use Prim.Native.Nat.{ℕ, _^_, _<_}
 use native.Mathlib.Omega.{arith}
+use lib.Dec.{eqb}
 use Rattle.lexemes.specs.Classes as class
 use Rattle.rows.specs.Columns as column
+use Rattle.rows.specs.Flags as flag
 use Rattle.grammar.specs.Ranges.{ranges, rangeOf}
-use Rattle.formulas.specs.Shapes.{Shape}
+use Rattle.grammar.specs.Flags.{FlagWord}
+use Rattle.answers.specs.Text.{hasFlag}
+use Rattle.formulas.specs.Shapes.{Shape, s-nil}
 use Rattle.formulas.specs.Formula.{Formula}
-use Rattle.roundtrip.proofs.Phrases.{cell, say, stringUnder, headUnder, gotoFlagsUnder, otherFlagsUnder, truthDefaultUnder, numberDefaultUnder, optionFlagsUnder, stepUnder, subtitleUnder, textUnder, labelUnder, gotoUnder, checkboxUnder, numericUnder, oneOfUnder, conditionUnder, optionUnder, ruleUnder, formUnder, eightUnder, guidUnder, formSetUnder}
-use Rattle.roundtrip.proofs.Canon.{ending}
+use Rattle.roundtrip.proofs.Phrases.{cell, say, ending, stringUnder, headUnder, rowFlags, FlagRules, flagRules, numericFlagRules, flagsPart, gotoFlagsPart, truthDefaultUnder, numberDefaultUnder, optionFlagsUnder, stepUnder, subtitleUnder, textUnder, labelUnder, gotoUnder, checkboxUnder, numericUnder, oneOfUnder, conditionUnder, optionUnder, ruleUnder, formUnder, eightUnder, guidUnder, formSetUnder}
+use Rattle.roundtrip.proofs.FlagLists.{Listed, flags-are-listed, numeric-flags-are-listed, Known, flags-known, numeric-flags-known, list-ranged}
 use Rattle.roundtrip.proofs.Ranged.{Ranged, Fine, formula-ranged}
 
 -- a number from 1 to 65,535
@@ -27,27 +31,13 @@ head-ranged : (r : List ℕ) → Id (cell column.OWN r) → cell column.FIRST r 
 unfolding rangeOf ranges
 head-ranged r ho hf hs = (tt, tt, (tt, (omega arith, (omega arith, ((omega (arith, ho .0), omega (arith, ho .1)), (omega (arith, ho .1), tt), (omega arith, tt)))), (omega arith, (omega arith, (tt, string-ranged (cell column.FIRST r) hf, (omega arith, (omega arith, (omega arith, (tt, string-ranged (cell column.SECOND r) hs, tt)))))))))
 
-goto-flags-ranged : (a b c : Bool) → Ranged (gotoFlagsUnder a b c)
-unfolding rangeOf ranges
-goto-flags-ranged true true true = (omega arith, (omega arith, (omega arith, (tt, (tt, (omega arith, tt), (tt, (omega arith, (tt, (omega arith, tt), (tt, (omega arith, (tt, (omega arith, tt), (tt, tt, tt))), tt))), tt)), tt))))
-goto-flags-ranged true true false = (omega arith, (omega arith, (omega arith, (tt, (tt, (omega arith, tt), (tt, (omega arith, (tt, (omega arith, tt), (tt, tt, tt))), tt)), tt))))
-goto-flags-ranged true false true = (omega arith, (omega arith, (omega arith, (tt, (tt, (omega arith, tt), (tt, (omega arith, (tt, (omega arith, tt), (tt, tt, tt))), tt)), tt))))
-goto-flags-ranged true false false = (omega arith, (omega arith, (omega arith, (tt, (tt, (omega arith, tt), (tt, tt, tt)), tt))))
-goto-flags-ranged false true true = (omega arith, (omega arith, (omega arith, (tt, (tt, (omega arith, tt), (tt, (omega arith, (tt, (omega arith, tt), (tt, tt, tt))), tt)), tt))))
-goto-flags-ranged false true false = (omega arith, (omega arith, (omega arith, (tt, (tt, (omega arith, tt), (tt, tt, tt)), tt))))
-goto-flags-ranged false false true = (omega arith, (omega arith, (omega arith, (tt, (tt, (omega arith, tt), (tt, tt, tt)), tt))))
-goto-flags-ranged false false false = tt
+goto-flags-ranged : (ws : List FlagWord) → Known flagRules ws → Ranged (gotoFlagsPart ws)
+goto-flags-ranged [] k = tt
+goto-flags-ranged (w ∷ ws) k = (omega arith, (omega arith, (omega arith, list-ranged flagRules flags-are-listed w ws s-nil k tt)))
 
-other-flags-ranged : (a b c : Bool) → Ranged (otherFlagsUnder a b c)
-unfolding rangeOf ranges
-other-flags-ranged true true true = (omega arith, (omega arith, (tt, (tt, (omega arith, tt), (tt, (omega arith, (tt, (omega arith, tt), (tt, (omega arith, (tt, (omega arith, tt), (tt, tt, tt))), tt))), tt)), (omega arith, tt))))
-other-flags-ranged true true false = (omega arith, (omega arith, (tt, (tt, (omega arith, tt), (tt, (omega arith, (tt, (omega arith, tt), (tt, tt, tt))), tt)), (omega arith, tt))))
-other-flags-ranged true false true = (omega arith, (omega arith, (tt, (tt, (omega arith, tt), (tt, (omega arith, (tt, (omega arith, tt), (tt, tt, tt))), tt)), (omega arith, tt))))
-other-flags-ranged true false false = (omega arith, (omega arith, (tt, (tt, (omega arith, tt), (tt, tt, tt)), (omega arith, tt))))
-other-flags-ranged false true true = (omega arith, (omega arith, (tt, (tt, (omega arith, tt), (tt, (omega arith, (tt, (omega arith, tt), (tt, tt, tt))), tt)), (omega arith, tt))))
-other-flags-ranged false true false = (omega arith, (omega arith, (tt, (tt, (omega arith, tt), (tt, tt, tt)), (omega arith, tt))))
-other-flags-ranged false false true = (omega arith, (omega arith, (tt, (tt, (omega arith, tt), (tt, tt, tt)), (omega arith, tt))))
-other-flags-ranged false false false = tt
+flags-ranged : (R : FlagRules) → Listed R → (ws : List FlagWord) → Known R ws → Ranged (flagsPart R ws)
+flags-ranged R L [] k = tt
+flags-ranged R L (w ∷ ws) k = (omega arith, (omega arith, list-ranged R L w ws (say class.comma s-nil) k (omega arith, tt)))
 
 truth-default-ranged : (d v : Bool) → Ranged (truthDefaultUnder d v)
 unfolding rangeOf ranges
@@ -86,25 +76,25 @@ pub label-ranged : (r : List ℕ) → cell column.OWN r < 65536 → Ranged (labe
 unfolding rangeOf ranges
 label-ranged r ho = (omega arith, ((omega arith, omega (arith, ho)), (omega (arith, ho), tt), (omega arith, tt)))
 
-pub goto-ranged : (a b c : Bool) (r : List ℕ) → Id (cell column.OWN r) → cell column.FIRST r < 65536 → cell column.SECOND r < 65536 → Id (cell column.A r) → Ranged (gotoUnder a b c r)
+pub goto-ranged : (r : List ℕ) → Id (cell column.OWN r) → cell column.FIRST r < 65536 → cell column.SECOND r < 65536 → Id (cell column.A r) → Ranged (gotoUnder r)
 unfolding rangeOf ranges
-goto-ranged a b c r ho hf hs ha = (omega arith, ((omega (arith, ha .0), omega (arith, ha .1)), (omega (arith, ha .1), tt), (omega arith, (tt, head-ranged r ho hf hs, (tt, goto-flags-ranged a b c, (omega arith, tt))))))
+goto-ranged r ho hf hs ha = (omega arith, ((omega (arith, ha .0), omega (arith, ha .1)), (omega (arith, ha .1), tt), (omega arith, (tt, head-ranged r ho hf hs, (tt, goto-flags-ranged (rowFlags r) (flags-known r), (omega arith, tt))))))
 
-pub checkbox-ranged : (a b c d v : Bool) (r : List ℕ) → Id (cell column.OWN r) → cell column.FIRST r < 65536 → cell column.SECOND r < 65536 → Ranged (checkboxUnder a b c d v r)
+pub checkbox-ranged : (r : List ℕ) → Id (cell column.OWN r) → cell column.FIRST r < 65536 → cell column.SECOND r < 65536 → Ranged (checkboxUnder r)
 unfolding rangeOf ranges
-checkbox-ranged a b c d v r ho hf hs = (omega arith, (tt, head-ranged r ho hf hs, (omega arith, (tt, other-flags-ranged a b c, (tt, truth-default-ranged d v, (omega arith, (omega arith, tt)))))))
+checkbox-ranged r ho hf hs = (omega arith, (tt, head-ranged r ho hf hs, (omega arith, (tt, flags-ranged flagRules flags-are-listed (rowFlags r) (flags-known r), (tt, truth-default-ranged (hasFlag flag.HAS-DEFAULT r) (eqb (cell column.D r) 1), (omega arith, (omega arith, tt)))))))
 
-pub numeric-ranged : (a b c d : Bool) (r : List ℕ) → Id (cell column.OWN r) → cell column.FIRST r < 65536 → cell column.SECOND r < 65536 → cell column.A r < 2 ^ 64 → cell column.B r < 2 ^ 64 → cell column.C r < 2 ^ 64 → cell column.D r < 2 ^ 64 → Ranged (numericUnder a b c d r)
+pub numeric-ranged : (r : List ℕ) → Id (cell column.OWN r) → cell column.FIRST r < 65536 → cell column.SECOND r < 65536 → cell column.A r < 2 ^ 64 → cell column.B r < 2 ^ 64 → cell column.C r < 2 ^ 64 → cell column.D r < 2 ^ 64 → Ranged (numericUnder r)
 unfolding rangeOf ranges
-numeric-ranged a b c d r ho hf hs ha hb hc hd = (omega arith, (tt, head-ranged r ho hf hs, (omega arith, (tt, other-flags-ranged a b c, (omega arith, (omega arith, ((omega arith, omega (arith, ha)), (ha, tt), (omega arith, (omega arith, (omega arith, ((omega arith, omega (arith, hb)), (hb, tt), (omega arith, (tt, step-ranged (cell column.C r) hc, (tt, number-default-ranged d (cell column.D r) hd, (omega arith, (omega arith, tt))))))))))))))))
+numeric-ranged r ho hf hs ha hb hc hd = (omega arith, (tt, head-ranged r ho hf hs, (omega arith, (tt, flags-ranged numericFlagRules numeric-flags-are-listed (rowFlags r) (numeric-flags-known r), (omega arith, (omega arith, ((omega arith, omega (arith, ha)), (ha, tt), (omega arith, (omega arith, (omega arith, ((omega arith, omega (arith, hb)), (hb, tt), (omega arith, (tt, step-ranged (cell column.C r) hc, (tt, number-default-ranged (hasFlag flag.HAS-DEFAULT r) (cell column.D r) hd, (omega arith, (omega arith, tt))))))))))))))))
 
-pub one-of-ranged : (a b c : Bool) (r : List ℕ) (x : Shape) → Id (cell column.OWN r) → cell column.FIRST r < 65536 → cell column.SECOND r < 65536 → Ranged x → Ranged (oneOfUnder a b c r x)
+pub one-of-ranged : (r : List ℕ) (x : Shape) → Id (cell column.OWN r) → cell column.FIRST r < 65536 → cell column.SECOND r < 65536 → Ranged x → Ranged (oneOfUnder r x)
 unfolding rangeOf ranges
-one-of-ranged a b c r x ho hf hs hx = (omega arith, (tt, head-ranged r ho hf hs, (omega arith, (tt, other-flags-ranged a b c, hx))))
+one-of-ranged r x ho hf hs hx = (omega arith, (tt, head-ranged r ho hf hs, (omega arith, (tt, flags-ranged flagRules flags-are-listed (rowFlags r) (flags-known r), hx))))
 
-pub option-ranged : (d : Bool) (r : List ℕ) → cell column.FIRST r < 65536 → cell column.A r < 2 ^ 64 → Ranged (optionUnder d r)
+pub option-ranged : (r : List ℕ) → cell column.FIRST r < 65536 → cell column.A r < 2 ^ 64 → Ranged (optionUnder r)
 unfolding rangeOf ranges
-option-ranged d r hf ha = (omega arith, (omega arith, (omega arith, (tt, string-ranged (cell column.FIRST r) hf, (omega arith, (omega arith, (omega arith, ((omega arith, omega (arith, ha)), (ha, tt), (omega arith, (omega arith, (omega arith, (tt, option-flags-ranged d, (omega arith, tt)))))))))))))
+option-ranged r hf ha = (omega arith, (omega arith, (omega arith, (tt, string-ranged (cell column.FIRST r) hf, (omega arith, (omega arith, (omega arith, ((omega arith, omega (arith, ha)), (ha, tt), (omega arith, (omega arith, (omega arith, (tt, option-flags-ranged (hasFlag flag.OPTION-DEFAULT r), (omega arith, tt)))))))))))))
 
 pub form-ranged : (r : List ℕ) (x : Shape) → Id (cell column.OWN r) → cell column.FIRST r < 65536 → Ranged x → Ranged (formUnder r x)
 unfolding rangeOf ranges

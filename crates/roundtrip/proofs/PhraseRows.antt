@@ -1,8 +1,8 @@
 -- The row of a tree over a statement's shape has the cells that the shape was made from.
 -- Assumes nothing.
-use mathlib.Core.Path.{_≡_, refl, ap, ap₂, _∙_}
+use mathlib.Core.Path.{_≡_, refl, ap, _∙_}
 use mathlib.Core.List.{List, [], _∷_}
-use mathlib.Core.Bool.{Bool, true, false, _&&_, _||_}
+use mathlib.Core.Bool.{Bool, true, false, or-false}
 use Prim.Native.Nat.{ℕ, suc, _+_, _*_, _/_, _%_, _^_}
 use native.Mathlib.Omega.{arith}
 use lib.Dec.{eqb, ltb}
@@ -10,61 +10,69 @@ use lib.ListN.{drop}
 use borrow.Author.Tests.{lt-ltb}
 use Rattle.values.specs.declared.Value.the-variants.{Fits as FitsWord}
 use Rattle.values.specs.Numbers.{valueAt}
+use Rattle.lexemes.specs.Classes as class
 use Rattle.lexemes.specs.Words as words
 use Rattle.rows.specs.Codes as code
 use Rattle.rows.specs.Columns as column
 use Rattle.rows.specs.Cells.{Entry, _≔_}
 use Rattle.rows.specs.Flags as flag
-use Rattle.ll1.specs.Trees.{Trees}
-use Rattle.grammar.specs.Rules.{<flag>}
+use Rattle.ll1.specs.Trees.{token, Trees}
 use Rattle.grammar.specs.Source.{numberAt}
 use Rattle.grammar.specs.Parts.{child, chosen, placeAt}
 use Rattle.answers.specs.Rows.{Draft, rowWith, numeralAt, value, string, writtenNumber, writtenMark, nameMark, item, option, form, guidHigh, guidLow, guidBytes, formSet}
 use Rattle.grammar.specs.Parts.{mark, when}
-use Rattle.grammar.specs.Flags.{hasFlag, flags}
-use Rattle.formulas.specs.Shapes.{decimal, hex, ruleWord, Shape, s-nil, s-leaf, s-node, taken, read-sign, read-decimal, read-rule, read-hex, Over, over-nil, over-leaf, over-node}
+use Rattle.grammar.specs.Flags.{FlagWord, flagWords, classes, total, flags}
+use Rattle.answers.specs.Text.{hasFlag}
+use Rattle.formulas.specs.Shapes.{decimal, hex, ruleWord, Shape, s-nil, s-leaf, flat, taken, read-sign, read-decimal, read-rule, read-hex, Over, over-nil, over-leaf}
 use Rattle.formulas.proofs.Shapes.{over-part, over-taken}
 use Rattle.formulas.specs.Formula.{Formula}
-use Rattle.roundtrip.proofs.Phrases.{cell, present, truthDefaultUnder, numberDefaultUnder, stringUnder, headUnder, gotoFlagsUnder, otherFlagsUnder, subtitleUnder, textUnder, labelUnder, gotoUnder, checkboxUnder, numericUnder, oneOfUnder, optionUnder, ruleUnder, formUnder, eightUnder, guidUnder, formSetUnder}
+use Rattle.roundtrip.proofs.Phrases.{cell, classesOf, rowFlags, FlagRules, flagRules, numericFlagRules, flagsPart, gotoFlagsPart, present, truthDefaultUnder, numberDefaultUnder, stringUnder, headUnder, subtitleUnder, textUnder, labelUnder, gotoUnder, checkboxUnder, numericUnder, oneOfUnder, optionUnder, ruleUnder, formUnder, eightUnder, guidUnder, formSetUnder}
+use Rattle.roundtrip.proofs.FlagLists.{total-same, no-word, list-classes, over-flags}
 
 -- ---- flags
 
-abbrev pub flagSum : Bool → Bool → Bool → ℕ
-flagSum a b c = when a flag.READ-ONLY + when b flag.INTERACTIVE + when c flag.RESET-REQUIRED
+-- of words
+abbrev pub flagTotal : List FlagWord → ℕ
+flagTotal ws = total flagWords (classesOf ws)
 
--- the alternative i of `flag` stands in a shape
-abbrev hasFlagIn : ℕ → Shape → Bool
-hasFlagIn i s-nil = false
-hasFlagIn i (s-leaf l x) = hasFlagIn i x
-hasFlagIn i (s-node A j c x) = (eqb A <flag> && eqb j i) || (hasFlagIn i c || hasFlagIn i x)
+flags-in : (R : FlagRules) (ws : List FlagWord) → flags (flat (flagsPart R ws)) ≡ flagTotal ws
+flags-in R [] = refl
+flags-in R (w ∷ ws) = total-same flagWords (classes (flat (flagsPart R (w ∷ ws)))) (classesOf (w ∷ ws)) (λ k m.
+    rw (no-word class.«flags» k refl m, no-word class.«=» k refl m)
+    (list-classes R k m w ws (token class.comma 0 ∷ []) ∙ rw (no-word class.comma k refl m) (or-false _)))
 
-abbrev flagsIn : Shape → ℕ
-flagsIn x = flagSum (hasFlagIn 0 x) (hasFlagIn 1 x) (hasFlagIn 2 x)
-
-goto-flags-in : (a b c : Bool) → flagsIn (gotoFlagsUnder a b c) ≡ flagSum a b c
-goto-flags-in true true true = refl
-goto-flags-in true true false = refl
-goto-flags-in true false true = refl
-goto-flags-in true false false = refl
-goto-flags-in false true true = refl
-goto-flags-in false true false = refl
-goto-flags-in false false true = refl
-goto-flags-in false false false = refl
-
-other-flags-in : (a b c : Bool) → flagsIn (otherFlagsUnder a b c) ≡ flagSum a b c
-other-flags-in true true true = refl
-other-flags-in true true false = refl
-other-flags-in true false true = refl
-other-flags-in true false false = refl
-other-flags-in false true true = refl
-other-flags-in false true false = refl
-other-flags-in false false true = refl
-other-flags-in false false false = refl
+goto-flags-in : (ws : List FlagWord) → flags (flat (gotoFlagsPart ws)) ≡ flagTotal ws
+goto-flags-in [] = refl
+goto-flags-in (w ∷ ws) = total-same flagWords (classes (flat (gotoFlagsPart (w ∷ ws)))) (classesOf (w ∷ ws)) (λ k m.
+    rw (no-word class.comma k refl m, no-word class.«flags» k refl m, no-word class.«=» k refl m)
+    (list-classes flagRules k m w ws [] ∙ or-false _))
 
 -- the row of a question by its HEAD's number, prompt, help and name, with what else it holds
 abbrev pub questionRow : (k parent place own first second name : ℕ) → List Entry → List ℕ
 questionRow k parent place own first second name entries =
     rowWith k parent place (column.OWN ≔ own ∷ column.FIRST ≔ first ∷ column.SECOND ≔ second ∷ column.NAME ≔ name ∷ entries)
+
+-- and what else the row of a question in the text holds, by the row that it was printed from
+abbrev flagsWithDefault : List ℕ → ℕ
+flagsWithDefault r = flagTotal (rowFlags r) + when (hasFlag flag.HAS-DEFAULT r) flag.HAS-DEFAULT
+
+abbrev pub gotoHolds : List ℕ → List Entry
+gotoHolds r = column.FLAGS ≔ flagTotal (rowFlags r) ∷ column.A ≔ cell column.A r ∷ []
+
+abbrev pub checkboxHolds : List ℕ → List Entry
+checkboxHolds r = column.FLAGS ≔ flagsWithDefault r ∷ column.D ≔ when (hasFlag flag.HAS-DEFAULT r) (when (eqb (cell column.D r) 1) 1) ∷ []
+
+abbrev pub numericHolds : List ℕ → List Entry
+numericHolds r =
+    column.FLAGS ≔ flagsWithDefault r
+    ∷ column.A ≔ cell column.A r
+    ∷ column.B ≔ cell column.B r
+    ∷ column.C ≔ cell column.C r
+    ∷ column.D ≔ when (hasFlag flag.HAS-DEFAULT r) (cell column.D r)
+    ∷ []
+
+abbrev pub oneOfHolds : List ℕ → List Entry
+oneOfHolds r = column.FLAGS ≔ flagTotal (rowFlags r) ∷ []
 
 pub marked : (p : ℕ) → ltb 0 (mark p) ≡ true
 marked p = lt-ltb 0 (suc p) (omega arith)
@@ -76,14 +84,6 @@ module _ (t : List ℕ) where
   pub value-of : (p : ℕ) {v : ℕ} → valueAt t p ≡ FitsWord v → N p ≡ v
   unfolding numberAt
   value-of p h = rw h
-
-  over-flag : (i : ℕ) {T : Trees} {x : Shape} → Over t T x → hasFlag i T ≡ hasFlagIn i x
-  over-flag i over-nil = refl
-  over-flag i (over-leaf r o) = over-flag i o
-  over-flag i (over-node {A = A} {i = j} o₁ o₂) = ap₂ (λ a b. (eqb A <flag> && eqb j i) || (a || b)) (over-flag i o₁) (over-flag i o₂)
-
-  over-flags : {T : Trees} {x : Shape} → Over t T x → flags T ≡ flagsIn x
-  over-flags o = λ i. flagSum (over-flag 0 o i) (over-flag 1 o i) (over-flag 2 o i)
 
   -- ---- parts
 
@@ -158,58 +158,58 @@ module _ (t : List ℕ) where
     pub row : d .row ≡ questionRow k parent place (cell column.OWN r) (cell column.FIRST r) (cell column.SECOND r) 0 entries
     pub written : ltb 0 (d .ownAt) ≡ true
 
-  pub goto-is : (a b c : Bool) (r : List ℕ) (parent : ℕ) {T : Trees} → Over t T (gotoUnder a b c r) → Question (item N parent 3 T) code.GOTO parent (placeAt 0 T) r (column.FLAGS ≔ flagSum a b c ∷ column.A ≔ cell column.A r ∷ [])
-  goto-is a b c r parent {T} o =
+  pub goto-is : (r : List ℕ) (parent : ℕ) {T : Trees} → Over t T (gotoUnder r) → Question (item N parent 3 T) code.GOTO parent (placeAt 0 T) r (gotoHolds r)
+  goto-is r parent {T} o =
       let h = head-is r (over-part 3 o) in
       let g = number-is {v = cell column.A r} (over-part 1 o) in
-      let fl = over-flags (over-part 4 o) ∙ goto-flags-in a b c in
+      let fl = over-flags t (over-part 4 o) ∙ goto-flags-in (rowFlags r) in
       record { row = λ i. questionRow code.GOTO parent (placeAt 0 T) (h .own i) (h .first i) (h .second i) (h .unnamed i) (column.FLAGS ≔ fl i ∷ column.A ≔ g i ∷ []); written = h .written }
 
-  pub checkbox-is : (a b c e v : Bool) (r : List ℕ) (parent : ℕ) {T : Trees} → Over t T (checkboxUnder a b c e v r) → Question (item N parent 4 T) code.CHECKBOX parent (placeAt 0 T) r (column.FLAGS ≔ (flagSum a b c + when e flag.HAS-DEFAULT) ∷ column.D ≔ when e (when v 1) ∷ [])
-  checkbox-is a b c e v r parent {T} o =
+  pub checkbox-is : (r : List ℕ) (parent : ℕ) {T : Trees} → Over t T (checkboxUnder r) → Question (item N parent 4 T) code.CHECKBOX parent (placeAt 0 T) r (checkboxHolds r)
+  checkbox-is r parent {T} o =
       let h = head-is r (over-part 1 o) in
-      let fl = over-flags (over-part 3 o) ∙ other-flags-in a b c in
-      let de = ap (λ k. eqb k 1) (over-taken 4 o) ∙ present-is e in
-      let dv = (λ i. when (de i) (when (eqb (over-taken 2 (over-part 4 o) i) 0) 1)) ∙ truth-is e v in
+      let fl = over-flags t (over-part 3 o) ∙ flags-in flagRules (rowFlags r) in
+      let de = ap (λ k. eqb k 1) (over-taken 4 o) ∙ present-is (hasFlag flag.HAS-DEFAULT r) in
+      let dv = (λ i. when (de i) (when (eqb (over-taken 2 (over-part 4 o) i) 0) 1)) ∙ truth-is (hasFlag flag.HAS-DEFAULT r) (eqb (cell column.D r) 1) in
       record {
         row = λ i. questionRow code.CHECKBOX parent (placeAt 0 T) (h .own i) (h .first i) (h .second i) (h .unnamed i) (column.FLAGS ≔ (fl i + when (de i) flag.HAS-DEFAULT) ∷ column.D ≔ dv i ∷ []);
         written = h .written;
       }
 
-  pub numeric-is : (a b c e : Bool) (r : List ℕ) (parent : ℕ) {T : Trees} → Over t T (numericUnder a b c e r)
-      → Question (item N parent 5 T) code.NUMERIC parent (placeAt 0 T) r (column.FLAGS ≔ (flagSum a b c + when e flag.HAS-DEFAULT) ∷ column.A ≔ cell column.A r ∷ column.B ≔ cell column.B r ∷ column.C ≔ cell column.C r ∷ column.D ≔ when e (cell column.D r) ∷ []) × (ltb 0 (item N parent 5 T .defaultAt) ≡ e)
-  numeric-is a b c e r parent {T} o =
+  pub numeric-is : (r : List ℕ) (parent : ℕ) {T : Trees} → Over t T (numericUnder r)
+      → Question (item N parent 5 T) code.NUMERIC parent (placeAt 0 T) r (numericHolds r) × (ltb 0 (item N parent 5 T .defaultAt) ≡ hasFlag flag.HAS-DEFAULT r)
+  numeric-is r parent {T} o =
       let h = head-is r (over-part 1 o) in
-      let fl = over-flags (over-part 3 o) ∙ other-flags-in a b c in
+      let fl = over-flags t (over-part 3 o) ∙ flags-in numericFlagRules (rowFlags r) in
       let ha = number-is {v = cell column.A r} (over-part 6 o) in
       let hb = number-is {v = cell column.B r} (over-part 10 o) in
       let hs = number-is {v = cell column.C r} (over-part 2 (over-part 12 o)) in
-      let de = ap (λ k. eqb k 1) (over-taken 13 o) ∙ present-is e in
-      let dv = ap (λ z. when z (value N 2 (child 13 T))) de ∙ default-is e (cell column.D r) (over-part 13 o) in
+      let de = ap (λ k. eqb k 1) (over-taken 13 o) ∙ present-is (hasFlag flag.HAS-DEFAULT r) in
+      let dv = ap (λ z. when z (value N 2 (child 13 T))) de ∙ default-is (hasFlag flag.HAS-DEFAULT r) (cell column.D r) (over-part 13 o) in
       let hc : when (eqb (chosen 12 T) 1) (value N 2 (child 12 T)) ≡ cell column.C r = λ i. when (eqb (over-taken 12 o i) 1) (hs i) in (
         record {
           row = λ i. questionRow code.NUMERIC parent (placeAt 0 T) (h .own i) (h .first i) (h .second i) (h .unnamed i) (column.FLAGS ≔ (fl i + when (de i) flag.HAS-DEFAULT) ∷ column.A ≔ ha i ∷ column.B ≔ hb i ∷ column.C ≔ hc i ∷ column.D ≔ dv i ∷ []);
           written = h .written;
         },
-        ap (λ z. ltb 0 (when z (mark (numeralAt N 2 (child 13 T))))) de ∙ marked-when e (numeralAt N 2 (child 13 T)),
+        ap (λ z. ltb 0 (when z (mark (numeralAt N 2 (child 13 T))))) de ∙ marked-when (hasFlag flag.HAS-DEFAULT r) (numeralAt N 2 (child 13 T)),
       )
 
-  pub one-of-is : (a b c : Bool) (r : List ℕ) (x : Shape) (parent : ℕ) {T : Trees} → Over t T (oneOfUnder a b c r x) → Question (item N parent 6 T) code.ONE-OF parent (placeAt 0 T) r (column.FLAGS ≔ flagSum a b c ∷ [])
-  one-of-is a b c r x parent {T} o =
+  pub one-of-is : (r : List ℕ) (x : Shape) (parent : ℕ) {T : Trees} → Over t T (oneOfUnder r x) → Question (item N parent 6 T) code.ONE-OF parent (placeAt 0 T) r (oneOfHolds r)
+  one-of-is r x parent {T} o =
       let h = head-is r (over-part 1 o) in
-      let fl = over-flags (over-part 3 o) ∙ other-flags-in a b c in
+      let fl = over-flags t (over-part 3 o) ∙ flags-in flagRules (rowFlags r) in
       record { row = λ i. questionRow code.ONE-OF parent (placeAt 0 T) (h .own i) (h .first i) (h .second i) (h .unnamed i) (column.FLAGS ≔ fl i ∷ []); written = h .written }
 
   -- ---- the other statements
 
-  pub option-is : (e : Bool) (r : List ℕ) (parent : ℕ) {T : Trees} → Over t T (optionUnder e r)
-      → (option N parent T .row ≡ rowWith code.OPTION parent (placeAt 0 T) (column.FIRST ≔ cell column.FIRST r ∷ column.FLAGS ≔ when e flag.OPTION-DEFAULT ∷ column.A ≔ cell column.A r ∷ [])) × (ltb 0 (option N parent T .defaultAt) ≡ e)
-  option-is e r parent {T} o =
+  pub option-is : (r : List ℕ) (parent : ℕ) {T : Trees} → Over t T (optionUnder r)
+      → (option N parent T .row ≡ rowWith code.OPTION parent (placeAt 0 T) (column.FIRST ≔ cell column.FIRST r ∷ column.FLAGS ≔ when (hasFlag flag.OPTION-DEFAULT r) flag.OPTION-DEFAULT ∷ column.A ≔ cell column.A r ∷ [])) × (ltb 0 (option N parent T .defaultAt) ≡ hasFlag flag.OPTION-DEFAULT r)
+  option-is r parent {T} o =
       let h = string-is (cell column.FIRST r) (over-part 3 o) in
       let ha = number-is {v = cell column.A r} (over-part 7 o) in
-      let de = ap (λ k. eqb k 1) (over-taken 11 o) ∙ present-is e in (
+      let de = ap (λ k. eqb k 1) (over-taken 11 o) ∙ present-is (hasFlag flag.OPTION-DEFAULT r) in (
         λ i. rowWith code.OPTION parent (placeAt 0 T) (column.FIRST ≔ h i ∷ column.FLAGS ≔ when (de i) flag.OPTION-DEFAULT ∷ column.A ≔ ha i ∷ []),
-        ap (λ z. ltb 0 (when z (mark (placeAt 0 (child 11 T))))) de ∙ marked-when e (placeAt 0 (child 11 T)),
+        ap (λ z. ltb 0 (when z (mark (placeAt 0 (child 11 T))))) de ∙ marked-when (hasFlag flag.OPTION-DEFAULT r) (placeAt 0 (child 11 T)),
       )
 
   -- its name is R and its number

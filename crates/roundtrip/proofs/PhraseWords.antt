@@ -1,48 +1,68 @@
 -- The shape of each statement spells the statement's phrase.
 -- Assumes nothing.
-use mathlib.Core.Path.{_≡_, refl, ap, _∙_}
-use mathlib.Core.List.{List, [], _∷_, _++_, map, map-append}
+use mathlib.Core.Path.{_≡_, refl, ap, sym, _∙_}
+use mathlib.Core.List.{List, [], _∷_, _++_, map, map-append, append-assoc}
 use mathlib.Core.Bool.{Bool, true, false}
 use Prim.Native.Nat.{ℕ}
 use native.Mathlib.Omega.{arith}
+use lib.Dec.{eqb}
 use Rattle.lexemes.specs.Lexemes.{signs, reserved, lexemes}
 use Rattle.lexemes.specs.Classes as class
 use Rattle.rows.specs.Columns as column
-use Rattle.answers.specs.Text.{Word, words, decimalDigits, decimal, ruleName, string, head, flagList, framed, subtitle, text, label, form, formSet}
-use Rattle.formulas.specs.Shapes.{sign, word, Shape, s-nil, lexed, spelling}
+use Rattle.rows.specs.Flags as flag
+use Rattle.answers.specs.Text.{Word, words, decimalDigits, decimal, ruleName, string, head, flagList, hasFlag, framed, flags, subtitle, text, label, goto, checkbox, numeric, oneOf, option, form, formSet}
+use Rattle.grammar.specs.Flags.{FlagWord}
+use Rattle.formulas.specs.Shapes.{Lexed, sign, word, Shape, s-nil, lexed, spelling}
 use Rattle.formulas.specs.Formula.{Formula}
 use Rattle.formulas.specs.Words.{print}
 use Rattle.formulas.specs.Tree.{tree}
 use Rattle.formulas.proofs.Good.{good}
-use Rattle.roundtrip.proofs.Phrases.{cell, say, subtitleUnder, textUnder, labelUnder, gotoUnder, checkboxUnder, numericUnder, oneOfUnder, conditionUnder, optionUnder, ruleUnder, formUnder, formSetUnder}
+use Rattle.roundtrip.proofs.Phrases.{cell, say, ending, rowFlags, FlagRules, flagRules, numericFlagRules, flagsUnder, flagsPart, gotoFlagsPart, truthDefault, optionFlags, numbersShape, subtitleUnder, textUnder, labelUnder, gotoUnder, checkboxUnder, numericUnder, oneOfUnder, conditionUnder, optionUnder, ruleUnder, formUnder, formSetUnder}
+use Rattle.roundtrip.proofs.FlagLists.{list-words}
 
--- ---- the phrases with flags and defaults, by what is present
+-- ---- FL, with other words after it
 
-abbrev gotoWords : Bool → Bool → Bool → List ℕ → List Word
-gotoWords a b c r = words "goto" ++ decimal (cell column.A r) ++ words "," ++ head r ++ framed (words ", flags =") (flagList a b c) [] ++ words ";"
+flags-words : (R : FlagRules) (ws : List FlagWord) (ls : List Lexed) → map word (lexed (flagsPart R ws) ++ ls) ≡ framed (words "flags =") (flagList ws) (words ",") ++ map word ls
+unfolding lexemes signs reserved
+flags-words R [] ls = refl
+flags-words R (w ∷ ws) ls = ap (λ l. words "flags =" ++ l) (
+    ap (map word) (append-assoc (lexed (flagsUnder R w ws)) (sign class.comma ∷ []) ls) ∙ list-words R w ws (sign class.comma ∷ ls)
+    ∙ sym (append-assoc (flagList (w ∷ ws)) (words ",") (map word ls)))
+
+goto-flags-words : (ws : List FlagWord) (ls : List Lexed) → map word (lexed (gotoFlagsPart ws) ++ ls) ≡ framed (words ", flags =") (flagList ws) [] ++ map word ls
+unfolding lexemes signs reserved
+goto-flags-words [] ls = refl
+goto-flags-words (w ∷ ws) ls = ap (λ l. words ", flags =" ++ l) (
+    ap (map word) (append-assoc (lexed (flagsUnder flagRules w ws)) [] ls) ∙ list-words flagRules w ws ls
+    ∙ sym (append-assoc (flagList (w ∷ ws)) [] (map word ls)))
+
+-- ---- what follows FL, after other words
+
+-- a default that may be absent
+abbrev defaultWords : Bool → List Word → List Word
+defaultWords d v = elim d [ true ↦ words "default =" ++ v ++ words "," | false ↦ [] ]
 
 abbrev truthWords : Bool → List Word
 truthWords v = elim v [ true ↦ words "TRUE" | false ↦ words "FALSE" ]
 
-abbrev defaultWords : Bool → List Word → List Word
-defaultWords d v = elim d [ true ↦ words "default =" ++ v ++ words "," | false ↦ [] ]
+truth-after : (ws : List Word) (d v : Bool) → ws ++ spelling (truthDefault d v (ending class.«endcheckbox»)) ≡ ws ++ defaultWords d (truthWords v) ++ words "endcheckbox ;"
+unfolding lexemes signs reserved
+truth-after [] true true = refl
+truth-after [] true false = refl
+truth-after [] false v = refl
+truth-after (w ∷ ws) d v = ap (λ l. w ∷ l) (truth-after ws d v)
 
-abbrev checkboxWords : Bool → Bool → Bool → Bool → Bool → List ℕ → List Word
-checkboxWords a b c d v r = words "checkbox" ++ head r ++ words "," ++ framed (words "flags =") (flagList a b c) (words ",") ++ defaultWords d (truthWords v) ++ words "endcheckbox ;"
-
-abbrev numericWords : Bool → Bool → Bool → Bool → List ℕ → List Word
-numericWords a b c d r =
-    words "numeric" ++ head r ++ words "," ++ framed (words "flags =") (flagList a b c) (words ",")
-    ++ words "minimum =" ++ decimal (cell column.A r) ++ words ", maximum =" ++ decimal (cell column.B r)
+-- a numeric's numbers
+abbrev numbersAfter : List Word → Bool → List ℕ → List Word
+numbersAfter ws d r =
+    ws ++ words "minimum =" ++ decimal (cell column.A r) ++ words ", maximum =" ++ decimal (cell column.B r)
     ++ words ", step =" ++ decimal (cell column.C r) ++ words "," ++ defaultWords d (decimal (cell column.D r)) ++ words "endnumeric ;"
 
-abbrev oneOfWords : Bool → Bool → Bool → List ℕ → List Word
-oneOfWords a b c r = words "oneof" ++ head r ++ words "," ++ framed (words "flags =") (flagList a b c) (words ",")
-
-abbrev optionWords : Bool → List ℕ → List Word
-optionWords d r =
-    words "option text =" ++ string (cell column.FIRST r) ++ words ", value =" ++ decimal (cell column.A r)
-    ++ words ", flags =" ++ elim d [ true ↦ words "DEFAULT" | false ↦ words "0" ] ++ words ";"
+numbers-after : (ws : List Word) (d : Bool) (r : List ℕ) → ws ++ spelling (numbersShape d r) ≡ numbersAfter ws d r
+unfolding lexemes signs reserved
+numbers-after [] true r = refl
+numbers-after [] false r = refl
+numbers-after (w ∷ ws) d r = ap (λ l. w ∷ l) (numbers-after ws d r)
 
 -- ---- items
 
@@ -58,88 +78,41 @@ pub label-words : (r : List ℕ) → spelling (labelUnder r) ≡ label r
 unfolding lexemes signs reserved
 label-words r = refl
 
-pub goto-words : (a b c : Bool) (r : List ℕ) → spelling (gotoUnder a b c r) ≡ gotoWords a b c r
+pub goto-words : (r : List ℕ) → spelling (gotoUnder r) ≡ goto r
 unfolding lexemes signs reserved
-goto-words true true true r = refl
-goto-words true true false r = refl
-goto-words true false true r = refl
-goto-words true false false r = refl
-goto-words false true true r = refl
-goto-words false true false r = refl
-goto-words false false true r = refl
-goto-words false false false r = refl
+goto-words r = ap (λ l. words "goto" ++ decimal (cell column.A r) ++ words "," ++ head r ++ l) (goto-flags-words (rowFlags r) (sign class.semicolon ∷ []))
 
-pub checkbox-words : (a b c d v : Bool) (r : List ℕ) → spelling (checkboxUnder a b c d v r) ≡ checkboxWords a b c d v r
+pub checkbox-words : (r : List ℕ) → spelling (checkboxUnder r) ≡ checkbox r
 unfolding lexemes signs reserved
-checkbox-words true true true true true r = refl
-checkbox-words true true true true false r = refl
-checkbox-words true true true false true r = refl
-checkbox-words true true true false false r = refl
-checkbox-words true true false true true r = refl
-checkbox-words true true false true false r = refl
-checkbox-words true true false false true r = refl
-checkbox-words true true false false false r = refl
-checkbox-words true false true true true r = refl
-checkbox-words true false true true false r = refl
-checkbox-words true false true false true r = refl
-checkbox-words true false true false false r = refl
-checkbox-words true false false true true r = refl
-checkbox-words true false false true false r = refl
-checkbox-words true false false false true r = refl
-checkbox-words true false false false false r = refl
-checkbox-words false true true true true r = refl
-checkbox-words false true true true false r = refl
-checkbox-words false true true false true r = refl
-checkbox-words false true true false false r = refl
-checkbox-words false true false true true r = refl
-checkbox-words false true false true false r = refl
-checkbox-words false true false false true r = refl
-checkbox-words false true false false false r = refl
-checkbox-words false false true true true r = refl
-checkbox-words false false true true false r = refl
-checkbox-words false false true false true r = refl
-checkbox-words false false true false false r = refl
-checkbox-words false false false true true r = refl
-checkbox-words false false false true false r = refl
-checkbox-words false false false false true r = refl
-checkbox-words false false false false false r = refl
+checkbox-words r =
+    let d = hasFlag flag.HAS-DEFAULT r in
+    let v = eqb (cell column.D r) 1 in
+    ap (λ l. words "checkbox" ++ head r ++ words "," ++ l) (
+    flags-words flagRules (rowFlags r) (lexed (truthDefault d v (ending class.«endcheckbox»))) ∙ truth-after (flags (words "flags =") (words ",") r) d v)
 
-pub numeric-words : (a b c d : Bool) (r : List ℕ) → spelling (numericUnder a b c d r) ≡ numericWords a b c d r
+pub numeric-words : (r : List ℕ) → spelling (numericUnder r) ≡ numeric r
 unfolding lexemes signs reserved
-numeric-words true true true true r = refl
-numeric-words true true true false r = refl
-numeric-words true true false true r = refl
-numeric-words true true false false r = refl
-numeric-words true false true true r = refl
-numeric-words true false true false r = refl
-numeric-words true false false true r = refl
-numeric-words true false false false r = refl
-numeric-words false true true true r = refl
-numeric-words false true true false r = refl
-numeric-words false true false true r = refl
-numeric-words false true false false r = refl
-numeric-words false false true true r = refl
-numeric-words false false true false r = refl
-numeric-words false false false true r = refl
-numeric-words false false false false r = refl
+numeric-words r =
+    let d = hasFlag flag.HAS-DEFAULT r in
+    ap (λ l. words "numeric" ++ head r ++ words "," ++ l) (
+    flags-words numericFlagRules (rowFlags r) (lexed (numbersShape d r)) ∙ numbers-after (flags (words "flags =") (words ",") r) d r)
 
-pub one-of-words : (a b c : Bool) (r : List ℕ) (x : Shape) → spelling (oneOfUnder a b c r x) ≡ oneOfWords a b c r ++ spelling x
+pub one-of-words : (r : List ℕ) (x : Shape) → spelling (oneOfUnder r x) ≡ oneOf r ++ spelling x
 unfolding lexemes signs reserved
-one-of-words true true true r x = refl
-one-of-words true true false r x = refl
-one-of-words true false true r x = refl
-one-of-words true false false r x = refl
-one-of-words false true true r x = refl
-one-of-words false true false r x = refl
-one-of-words false false true r x = refl
-one-of-words false false false r x = refl
+one-of-words r x = ap (λ l. words "oneof" ++ head r ++ words "," ++ l) (flags-words flagRules (rowFlags r) (lexed x))
 
 -- ---- the other statements
 
-pub option-words : (d : Bool) (r : List ℕ) → spelling (optionUnder d r) ≡ optionWords d r
+option-ending : (d : Bool) → spelling (optionFlags d (say class.semicolon s-nil)) ≡ elim d [ true ↦ words "DEFAULT" | false ↦ words "0" ] ++ words ";"
 unfolding lexemes signs reserved decimalDigits
-option-words true r = refl
-option-words false r = refl
+option-ending true = refl
+option-ending false = refl
+
+pub option-words : (r : List ℕ) → spelling (optionUnder r) ≡ option r
+unfolding lexemes signs reserved
+option-words r =
+    ap (λ l. words "option text =" ++ string (cell column.FIRST r) ++ words ", value =" ++ decimal (cell column.A r) ++ words ", flags =" ++ l)
+    (option-ending (hasFlag flag.OPTION-DEFAULT r))
 
 pub form-words : (r : List ℕ) (x : Shape) → spelling (formUnder r x) ≡ form r ++ spelling x
 unfolding lexemes signs reserved
@@ -160,4 +133,4 @@ condition-words k e x = ap (λ ws. word (sign k) ∷ ws) (expression-words e (sa
 
 pub rule-words : (r : List ℕ) (e : Formula) → spelling (ruleUnder r e) ≡ words "rule" ++ ruleName (cell column.OWN r) ++ words "," ++ (map word (print 9 e) ++ words "endrule ;")
 unfolding lexemes signs reserved
-rule-words r e = ap (λ ws. words "rule" ++ ruleName (cell column.OWN r) ++ words "," ++ ws) (expression-words e (say class.«endrule» (say class.semicolon s-nil)))
+rule-words r e = ap (λ ws. words "rule" ++ ruleName (cell column.OWN r) ++ words "," ++ ws) (expression-words e (ending class.«endrule»))

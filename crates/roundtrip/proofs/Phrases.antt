@@ -1,12 +1,16 @@
 -- The shape of each statement of a resolved text, from the cells of its row.
 -- Assumes nothing.
-use mathlib.Core.List.{List}
-use mathlib.Core.Bool.{Bool, true, false, not, _||_}
-use Prim.Native.Nat.{ℕ, _/_, _%_, _^_}
+use mathlib.Core.List.{List, [], _∷_, map}
+use mathlib.Core.Bool.{Bool, true, false, not}
+use Prim.Native.Nat.{ℕ, suc, _/_, _%_, _^_}
+use lib.Dec.{eqb}
 use lib.ListN.{getD}
 use Rattle.lexemes.specs.Classes as class
 use Rattle.rows.specs.Columns as column
-use Rattle.grammar.specs.Rules.{<guid>, <guid-end>, <eight>, <H8>, <H4>, <H2>, <str>, <id>, <small>, <large>, <zero>, <goto-flags>?, <flags>?, <truth-default>?, <truth>, <step>?, <number-default>?, <option-flags>, <head>, <name>?, <questionid>?, <fl>, <flag>*, <flag>}
+use Rattle.rows.specs.Flags as flag
+use Rattle.grammar.specs.Rules.{<guid>, <guid-end>, <eight>, <H8>, <H4>, <H2>, <str>, <id>, <small>, <large>, <zero>, <goto-flags>?, <flags>?, <truth-default>?, <truth>, <step>?, <number-default>?, <option-flags>, <head>, <name>?, <questionid>?, <fl>, <flag>*, <flag>, <numeric-flags>?, <numeric-fl>, <numeric-flag>*, <numeric-flag>, <numeric-value>}
+use Rattle.grammar.specs.Flags.{FlagWord, flagWords}
+use Rattle.answers.specs.Text.{hasFlag, setIn}
 use Rattle.formulas.specs.Shapes.{sign, hex, rule-name, Shape, s-nil, s-leaf, s-node}
 use Rattle.formulas.specs.Formula.{Formula}
 use Rattle.formulas.specs.Tree.{numeralShape, tree}
@@ -17,6 +21,10 @@ cell c r = getD r c 0
 -- a sign or reserved word
 abbrev pub say : ℕ → Shape → Shape
 say k f = s-leaf (sign k) f
+
+-- the last word of a statement, and `;`
+abbrev pub ending : ℕ → Shape
+ending k = say k (say class.semicolon s-nil)
 
 -- STR: STRING_TOKEN ( N )
 abbrev pub stringUnder : ℕ → Shape
@@ -36,52 +44,75 @@ headShape r f = s-node <head> 0 (headUnder r) f
 
 -- ---- FL
 
-abbrev pub flagShape : ℕ → ℕ → Shape → Shape
-flagShape i k f = s-node <flag> i (say k s-nil) f
+abbrev pub classesOf : List FlagWord → List ℕ
+classesOf ws = map (λ w. w .class) ws
 
-abbrev readOnly : Shape → Shape
-readOnly f = flagShape 0 class.«READ_ONLY» f
+-- the words that a row sets
+abbrev pub rowFlags : List ℕ → List FlagWord
+rowFlags r = setIn r flagWords
 
-abbrev interactive : Shape → Shape
-interactive f = flagShape 1 class.«INTERACTIVE» f
+-- the rules of an FL: the list, the words after its first, each with its `|`, and a word; and the classes of its words
+pub record FlagRules : Type 0 where
+  pub list : ℕ
+  pub more : ℕ
+  pub word : ℕ
+  pub classes : List ℕ
 
-abbrev resetRequired : Shape → Shape
-resetRequired f = flagShape 2 class.«RESET_REQUIRED» f
+abbrev pub flagRules : FlagRules
+flagRules = record { list = <fl>; more = <flag>*; word = <flag>; classes = classesOf flagWords }
 
-abbrev lastFlag : Shape
-lastFlag = s-node <flag>* 0 s-nil s-nil
+-- a numeric's
+abbrev pub numericFlagRules : FlagRules
+numericFlagRules = record { list = <numeric-fl>; more = <numeric-flag>*; word = <numeric-flag>; classes = classesOf flagWords }
 
-abbrev nextFlag : (Shape → Shape) → Shape → Shape
-nextFlag x f = s-node <flag>* 1 (say class.«|» (x f)) s-nil
+-- the place of a class among the classes of the words, from 0: its alternative
+abbrev pub placeIn : List ℕ → ℕ → ℕ
+placeIn [] k = 0
+placeIn (j ∷ ks) k = elim (eqb j k) [ true ↦ 0 | false ↦ suc (placeIn ks k) ]
 
-abbrev pub flagsUnder : Bool → Bool → Bool → Shape
-flagsUnder true true true = readOnly (nextFlag interactive (nextFlag resetRequired lastFlag))
-flagsUnder true true false = readOnly (nextFlag interactive lastFlag)
-flagsUnder true false true = readOnly (nextFlag resetRequired lastFlag)
-flagsUnder true false false = readOnly lastFlag
-flagsUnder false true true = interactive (nextFlag resetRequired lastFlag)
-flagsUnder false true false = interactive lastFlag
-flagsUnder false false true = resetRequired lastFlag
-flagsUnder false false false = s-nil
+module _ (R : FlagRules) where
+  abbrev pub flagShape : FlagWord → Shape → Shape
+  flagShape w f = s-node (R .word) (placeIn (R .classes) (w .class)) (say (w .class) s-nil) f
 
--- the alternative of a part that may be absent
+  abbrev pub moreFlags : List FlagWord → Shape
+  moreFlags [] = s-node (R .more) 0 s-nil s-nil
+  moreFlags (w ∷ ws) = s-node (R .more) 1 (say class.«|» (flagShape w (moreFlags ws))) s-nil
+
+  -- one word or more
+  abbrev pub flagsUnder : FlagWord → List FlagWord → Shape
+  flagsUnder w ws = flagShape w (moreFlags ws)
+
+  abbrev pub flagsShape : FlagWord → List FlagWord → Shape → Shape
+  flagsShape w ws f = s-node (R .list) 0 (flagsUnder w ws) f
+
+  -- [flags = FL ,]
+  abbrev pub flagsPart : List FlagWord → Shape
+  flagsPart [] = s-nil
+  flagsPart (w ∷ ws) = say class.«flags» (say class.«=» (flagsShape w ws (say class.comma s-nil)))
+
+-- [, flags = FL]
+abbrev pub gotoFlagsPart : List FlagWord → Shape
+gotoFlagsPart [] = s-nil
+gotoFlagsPart (w ∷ ws) = say class.comma (say class.«flags» (say class.«=» (flagsShape flagRules w ws s-nil)))
+
+-- the alternative of a part that may be absent: a list's, and any other's
+abbrev pub presentFlags : List FlagWord → ℕ
+presentFlags [] = 0
+presentFlags (w ∷ ws) = 1
+
 abbrev pub present : Bool → ℕ
 present true = 1
 present false = 0
 
--- of a goto
-abbrev pub gotoFlagsUnder : Bool → Bool → Bool → Shape
-gotoFlagsUnder a b c = elim (a || (b || c)) [ true ↦ say class.comma (say class.«flags» (say class.«=» (s-node <fl> 0 (flagsUnder a b c) s-nil))) | false ↦ s-nil ]
+-- of a goto, of a checkbox and a oneof, of a numeric
+abbrev pub gotoFlags : List FlagWord → Shape → Shape
+gotoFlags ws f = s-node <goto-flags>? (presentFlags ws) (gotoFlagsPart ws) f
 
-abbrev pub gotoFlags : Bool → Bool → Bool → Shape → Shape
-gotoFlags a b c f = s-node <goto-flags>? (present (a || (b || c))) (gotoFlagsUnder a b c) f
+abbrev pub otherFlags : List FlagWord → Shape → Shape
+otherFlags ws f = s-node <flags>? (presentFlags ws) (flagsPart flagRules ws) f
 
--- of the other questions
-abbrev pub otherFlagsUnder : Bool → Bool → Bool → Shape
-otherFlagsUnder a b c = elim (a || (b || c)) [ true ↦ say class.«flags» (say class.«=» (s-node <fl> 0 (flagsUnder a b c) (say class.comma s-nil))) | false ↦ s-nil ]
-
-abbrev pub otherFlags : Bool → Bool → Bool → Shape → Shape
-otherFlags a b c f = s-node <flags>? (present (a || (b || c))) (otherFlagsUnder a b c) f
+abbrev pub numericFlags : List FlagWord → Shape → Shape
+numericFlags ws f = s-node <numeric-flags>? (presentFlags ws) (flagsPart numericFlagRules ws) f
 
 -- ---- defaults
 
@@ -100,7 +131,7 @@ abbrev pub truthDefault : Bool → Bool → Shape → Shape
 truthDefault d v f = s-node <truth-default>? (present d) (truthDefaultUnder d v) f
 
 abbrev pub numberDefaultUnder : Bool → ℕ → Shape
-numberDefaultUnder true v = say class.«default» (say class.«=» (numeralShape <large> v (say class.comma s-nil)))
+numberDefaultUnder true v = say class.«default» (say class.«=» (numeralShape <numeric-value> v (say class.comma s-nil)))
 numberDefaultUnder false v = s-nil
 
 abbrev pub numberDefault : Bool → ℕ → Shape → Shape
@@ -114,7 +145,7 @@ abbrev pub optionFlags : Bool → Shape → Shape
 optionFlags d f = s-node <option-flags> (present d) (optionFlagsUnder d) f
 
 abbrev pub stepUnder : ℕ → Shape
-stepUnder v = say class.«step» (say class.«=» (numeralShape <large> v (say class.comma s-nil)))
+stepUnder v = say class.«step» (say class.«=» (numeralShape <numeric-value> v (say class.comma s-nil)))
 
 abbrev pub stepShape : ℕ → Shape → Shape
 stepShape v f = s-node <step>? 1 (stepUnder v) f
@@ -134,20 +165,24 @@ abbrev pub labelUnder : List ℕ → Shape
 labelUnder r = say class.«label» (numeralShape <small> (cell column.OWN r) (say class.semicolon s-nil))
 
 -- goto N , HEAD [, flags = FL] ;
-abbrev pub gotoUnder : Bool → Bool → Bool → List ℕ → Shape
-gotoUnder a b c r = say class.«goto» (numeralShape <id> (cell column.A r) (say class.comma (headShape r (gotoFlags a b c (say class.semicolon s-nil)))))
+abbrev pub gotoUnder : List ℕ → Shape
+gotoUnder r = say class.«goto» (numeralShape <id> (cell column.A r) (say class.comma (headShape r (gotoFlags (rowFlags r) (say class.semicolon s-nil)))))
 
 -- checkbox HEAD , [flags = FL ,] [default = TRUE or FALSE ,] endcheckbox ;
-abbrev pub checkboxUnder : Bool → Bool → Bool → Bool → Bool → List ℕ → Shape
-checkboxUnder a b c d v r = say class.«checkbox» (headShape r (say class.comma (otherFlags a b c (truthDefault d v (say class.«endcheckbox» (say class.semicolon s-nil))))))
+abbrev pub checkboxUnder : List ℕ → Shape
+checkboxUnder r = say class.«checkbox» (headShape r (say class.comma (otherFlags (rowFlags r) (truthDefault (hasFlag flag.HAS-DEFAULT r) (eqb (cell column.D r) 1) (ending class.«endcheckbox»)))))
 
--- numeric HEAD , [flags = FL ,] minimum = N , maximum = N , step = N , [default = N ,] endnumeric ;
-abbrev pub numericUnder : Bool → Bool → Bool → Bool → List ℕ → Shape
-numericUnder a b c d r = say class.«numeric» (headShape r (say class.comma (otherFlags a b c (say class.«minimum» (say class.«=» (numeralShape <large> (cell column.A r) (say class.comma (say class.«maximum» (say class.«=» (numeralShape <large> (cell column.B r) (say class.comma (stepShape (cell column.C r) (numberDefault d (cell column.D r) (say class.«endnumeric» (say class.semicolon s-nil)))))))))))))))
+-- minimum = N , maximum = N , step = N , [default = N ,] endnumeric ;
+abbrev pub numbersShape : Bool → List ℕ → Shape
+numbersShape d r = say class.«minimum» (say class.«=» (numeralShape <numeric-value> (cell column.A r) (say class.comma (say class.«maximum» (say class.«=» (numeralShape <numeric-value> (cell column.B r) (say class.comma (stepShape (cell column.C r) (numberDefault d (cell column.D r) (ending class.«endnumeric»))))))))))
+
+-- numeric HEAD , [flags = FL ,] and its numbers
+abbrev pub numericUnder : List ℕ → Shape
+numericUnder r = say class.«numeric» (headShape r (say class.comma (numericFlags (rowFlags r) (numbersShape (hasFlag flag.HAS-DEFAULT r) r))))
 
 -- oneof HEAD , [flags = FL ,] and what follows
-abbrev pub oneOfUnder : Bool → Bool → Bool → List ℕ → Shape → Shape
-oneOfUnder a b c r x = say class.«oneof» (headShape r (say class.comma (otherFlags a b c x)))
+abbrev pub oneOfUnder : List ℕ → Shape → Shape
+oneOfUnder r x = say class.«oneof» (headShape r (say class.comma (otherFlags (rowFlags r) x)))
 
 -- suppressif, grayoutif or disableif, expression ; and what follows
 abbrev pub conditionUnder : ℕ → Formula → Shape → Shape
@@ -156,12 +191,12 @@ conditionUnder k e x = say k (tree e 9 (say class.semicolon x))
 -- ---- the other statements
 
 -- option text = STR , value = N , flags = (N or DEFAULT) ;
-abbrev pub optionUnder : Bool → List ℕ → Shape
-optionUnder d r = say class.«option» (say class.«text» (say class.«=» (stringShape (cell column.FIRST r) (say class.comma (say class.«value» (say class.«=» (numeralShape <large> (cell column.A r) (say class.comma (say class.«flags» (say class.«=» (optionFlags d (say class.semicolon s-nil))))))))))))
+abbrev pub optionUnder : List ℕ → Shape
+optionUnder r = say class.«option» (say class.«text» (say class.«=» (stringShape (cell column.FIRST r) (say class.comma (say class.«value» (say class.«=» (numeralShape <large> (cell column.A r) (say class.comma (say class.«flags» (say class.«=» (optionFlags (hasFlag flag.OPTION-DEFAULT r) (say class.semicolon s-nil))))))))))))
 
 -- rule NAME , expression endrule ;
 abbrev pub ruleUnder : List ℕ → Formula → Shape
-ruleUnder r e = say class.«rule» (s-leaf (rule-name (cell column.OWN r)) (say class.comma (tree e 9 (say class.«endrule» (say class.semicolon s-nil)))))
+ruleUnder r e = say class.«rule» (s-leaf (rule-name (cell column.OWN r)) (say class.comma (tree e 9 (ending class.«endrule»))))
 
 -- form formid = N , title = STR ; and what follows
 abbrev pub formUnder : List ℕ → Shape → Shape

@@ -16,7 +16,6 @@ use Rattle.lexemes.proofs.Lists.{either}
 use Rattle.rows.specs.Codes as code
 use Rattle.rows.specs.Codes.{member, questions, isQuestion}
 use Rattle.rows.specs.Columns as column
-use Rattle.rows.specs.Flags as flag
 use Rattle.ll1.specs.Trees.{token, Trees, nil, leaf, node, Symbol, terminal, nonterminal, Alternative, alternativeOf, Fits, fits-nil, fits-leaf, fits-node}
 use Rattle.ll1.proofs.Basics.{clash}
 use Rattle.grammar.specs.Rules.{<source>, <form>*, <form>, <item-or-rule>*, <rule>, <item>, <option>*, <item>*, <option>, <head>}
@@ -28,7 +27,6 @@ use Rattle.answers.specs.Expression.{Expression, number, constant, question-nam
 use Rattle.answers.specs.Rows.{Draft, rulesIn, draftsOf, expressionRows, item, ruleDraft}
 use Rattle.grammar.specs.Parts.{when}
 use Rattle.answers.specs.Stages.{cell, is, asks}
-use Rattle.answers.specs.Text.{hasFlag}
 use Rattle.sound.proofs.Lists.{All, none, more}
 use Rattle.sound.proofs.Kept.{Kept, kept-nil, kept-leaf, kept-node, Node, part, id-range, small-range, string-range}
 use Rattle.formulas.specs.Expressions.{ruleAt}
@@ -40,8 +38,8 @@ use Rattle.roundtrip.proofs.Rebuilt.{anew, by-parts}
 use Rattle.roundtrip.proofs.Stating.{form-set-symbols, form-symbols, rule-symbols, one-of-symbols, condition-symbols, Stating, is-form-set, is-no-forms, is-more-forms, is-form, is-no-items-or-rules, is-item-first, is-rule-first, is-rule, is-subtitle, is-text, is-label, is-goto, is-checkbox, is-numeric, is-one-of, is-suppress, is-gray-out, is-disable, is-no-options, is-more-options, is-no-items, is-more-items, is-option, stating}
 use Rattle.again.specs.Matches.{Settled}
 use Rattle.again.proofs.Likeness.{own-cell}
-use Rattle.roundtrip.proofs.Phrases.{conditionUnder}
-use Rattle.roundtrip.proofs.Canon.{ending, under, canon, listed}
+use Rattle.roundtrip.proofs.Phrases.{ending, conditionUnder}
+use Rattle.roundtrip.proofs.Canon.{under, canon, listed}
 use Rattle.roundtrip.proofs.CanonItems.{head-of, tail-of, rowOf}
 use Rattle.roundtrip.proofs.GuidAgain.{high-small}
 use Rattle.roundtrip.proofs.Ranged.{Ranged, Fine}
@@ -133,12 +131,9 @@ module _ (s : List ℕ) (look : ℕ → List ℕ) where
 
   -- ---- the statements, by their alternatives
 
-  -- the row that is found, and its flags
+  -- the row that is found
   abbrev found : Trees → List ℕ
   found c = look (placeAt 0 c)
-
-  abbrev given : ℕ → Trees → Bool
-  given k c = hasFlag k (found c)
 
   subtitle-case : {c : Trees} → Node s <item> 0 c → Stated <item> 0 c
   unfolding rules isQuestion member questions rangeOf ranges
@@ -163,7 +158,7 @@ module _ (s : List ℕ) (look : ℕ → List ℕ) where
   goto-case {c} x parent at n all =
       let z = head-of all .0 in
       let h = part s x 3 <head> refl in
-      goto-ranged (given flag.READ-ONLY c) (given flag.INTERACTIVE c) (given flag.RESET-REQUIRED c) (found c) (own-id z refl)
+      goto-ranged (found c) (own-id z refl)
       (omega (arith, cell-is column.FIRST z, string-range s h 4 refl))
       (omega (arith, cell-is column.SECOND z, string-range s h 8 refl))
       (omega (arith, cell-is column.A z, z .a-same refl, id-range s x 1 refl))
@@ -173,7 +168,7 @@ module _ (s : List ℕ) (look : ℕ → List ℕ) where
   checkbox-case {c} x parent at n all =
       let z = head-of all .0 in
       let h = part s x 1 <head> refl in
-      checkbox-ranged (given flag.READ-ONLY c) (given flag.INTERACTIVE c) (given flag.RESET-REQUIRED c) (given flag.HAS-DEFAULT c) (eqb (getD (found c) column.D 0) 1) (found c) (own-id z refl)
+      checkbox-ranged (found c) (own-id z refl)
       (omega (arith, cell-is column.FIRST z, string-range s h 4 refl))
       (omega (arith, cell-is column.SECOND z, string-range s h 8 refl))
 
@@ -182,7 +177,7 @@ module _ (s : List ℕ) (look : ℕ → List ℕ) where
   numeric-case {c} x parent at n all =
       let z = head-of all .0 in
       let h = part s x 1 <head> refl in
-      numeric-ranged (given flag.READ-ONLY c) (given flag.INTERACTIVE c) (given flag.RESET-REQUIRED c) (given flag.HAS-DEFAULT c) (found c) (own-id z refl)
+      numeric-ranged (found c) (own-id z refl)
       (omega (arith, cell-is column.FIRST z, string-range s h 4 refl))
       (omega (arith, cell-is column.SECOND z, string-range s h 8 refl))
       (omega (arith, cell-is column.A z, z .a-same refl, number-small s (placeAt 0 (child 6 c))))
@@ -194,7 +189,7 @@ module _ (s : List ℕ) (look : ℕ → List ℕ) where
   unfolding rules isQuestion member questions rangeOf ranges
   option-case {c} x parent at n all =
       let z = head-of all .0 in
-      option-ranged (given flag.OPTION-DEFAULT c) (found c) (omega (arith, cell-is column.FIRST z, string-range s x 3 refl))
+      option-ranged (found c) (omega (arith, cell-is column.FIRST z, string-range s x 3 refl))
       (omega (arith, cell-is column.A z, z .a-same refl, number-small s (placeAt 0 (child 7 c))))
 
   -- ---- those with statements or an expression under them
@@ -206,8 +201,7 @@ module _ (s : List ℕ) (look : ℕ → List ℕ) where
       let z = head-of all .0 in
       let h = part s x 1 <head> refl in
       let y = two-parts <option> (chosen 4 c) <option>* (chosen 5 c) (child 4 c) (child 5 c) at (at + 1) n (of-core v at (at + 1) n (tail-of all)) in
-      one-of-ranged (given flag.READ-ONLY c) (given flag.INTERACTIVE c) (given flag.RESET-REQUIRED c) (found c)
-      (listed look <option> 4 c (listed look <option>* 5 c (ending class.«endoneof»))) (own-id z refl)
+      one-of-ranged (found c) (listed look <option> 4 c (listed look <option>* 5 c (ending class.«endoneof»))) (own-id z refl)
       (omega (arith, cell-is column.FIRST z, string-range s h 4 refl))
       (omega (arith, cell-is column.SECOND z, string-range s h 8 refl))
       (tt, node-at 4 <option> e refl refl at (at + 1) n (y .0), (tt, node-at 5 <option>* e refl refl at _ _ (y .1), ending-ranged class.«endoneof» (omega arith)))) v x

@@ -1,6 +1,6 @@
 -- The alternatives of the rules that state something, each with its symbols.
 -- Assumes nothing.
-use mathlib.Core.Path.{_≡_, refl, subst}
+use mathlib.Core.Path.{_≡_, subst}
 use mathlib.Core.List.{List, [], _∷_}
 use mathlib.Core.Option.{some}
 use mathlib.Core.Bool.{true, false}
@@ -12,7 +12,7 @@ use Rattle.lexemes.proofs.Lists.{either}
 use Rattle.ll1.specs.Trees.{Symbol, Alternative, alternativeOf}
 use Rattle.ll1.proofs.Basics.{clash}
 use Rattle.grammar.specs.Notation.{t, r, plain, condition}
-use Rattle.grammar.specs.Rules.{<source>, <form>*, <guid>, <str>, <id>, <small>, <large>, <form>, <item-or-rule>*, <rule>, <item>, <goto-flags>?, <flags>?, <truth-default>?, <step>?, <number-default>?, <option>*, <item>*, <option>, <option-flags>, <head>, <expression>}
+use Rattle.grammar.specs.Rules.{<source>, <form>*, <guid>, <str>, <id>, <small>, <large>, <form>, <item-or-rule>*, <rule>, <item>, <goto-flags>?, <flags>?, <truth-default>?, <step>?, <number-default>?, <option>*, <item>*, <option>, <option-flags>, <head>, <expression>, <numeric-flags>?, <numeric-value>}
 use Rattle.grammar.specs.Grammar.{rules}
 use Rattle.grammar.proofs.Statements.{states}
 use Rattle.formulas.proofs.Inverse.{alternative-is, no-alternative}
@@ -59,8 +59,8 @@ checkbox-symbols = t class.«checkbox» ∷ r <head> ∷ t class.comma ∷ r <fl
 -- numeric HEAD , [flags = FL ,] minimum = N , maximum = N , [step = N ,] [default = N ,] endnumeric ;
 abbrev pub numeric-symbols : List Symbol
 numeric-symbols =
-    t class.«numeric» ∷ r <head> ∷ t class.comma ∷ r <flags>? ∷ t class.«minimum» ∷ t class.«=» ∷ r <large> ∷ t class.comma
-    ∷ t class.«maximum» ∷ t class.«=» ∷ r <large> ∷ t class.comma
+    t class.«numeric» ∷ r <head> ∷ t class.comma ∷ r <numeric-flags>? ∷ t class.«minimum» ∷ t class.«=» ∷ r <numeric-value> ∷ t class.comma
+    ∷ t class.«maximum» ∷ t class.«=» ∷ r <numeric-value> ∷ t class.comma
     ∷ r <step>? ∷ r <number-default>? ∷ t class.«endnumeric» ∷ t class.semicolon ∷ []
 
 -- oneof HEAD , [flags = FL ,] option+ endoneof ;

@@ -1,7 +1,7 @@
 -- The row of each statement is sound, where its trees fit the grammar and its numbers keep their ranges.
 -- Assumes nothing.
 use mathlib.Core.Path.{_≡_, refl}
-use mathlib.Core.List.{List}
+use mathlib.Core.List.{List, [], _∷_}
 use mathlib.Core.Bool.{Bool, true, false}
 use Prim.Native.Nat.{ℕ, zero, suc, _+_, _≤_, _<_}
 use native.Mathlib.Omega.{arith}
@@ -13,6 +13,7 @@ use Rattle.rows.specs.Codes.{member, questions, isQuestion}
 use Rattle.rows.specs.Draft.{HALF}
 use Rattle.rows.specs.Flags as flag
 use Rattle.ll1.specs.Trees.{Trees}
+use Rattle.ll1.specs.ParseTable as table
 use Rattle.ll1.proofs.Basics.{clash}
 use Rattle.grammar.specs.Rules.{<source>, <form>, <rule>, <item>, <number-default>?, <option>, <head>, <name>?, <questionid>?}
 use Rattle.grammar.specs.Grammar.{rules}
@@ -20,7 +21,7 @@ use Rattle.grammar.specs.Source.{numberAt}
 use Rattle.answers.specs.Answer.{LONGEST}
 use Rattle.grammar.specs.Parts.{child, chosen, placeAt}
 use Rattle.grammar.specs.Parts.{when, mark}
-use Rattle.grammar.specs.Flags.{hasFlag, flags}
+use Rattle.grammar.specs.Flags.{FlagWord, flagWords, classes, total, flags}
 use Rattle.answers.specs.Rows.{value, item, option, ruleDraft, form, formSet}
 use Rattle.drafts.specs.Sound.{SoundRow}
 use Rattle.sound.proofs.Kept.{Node, part, place-at, mark-at, id-range, string-range}
@@ -32,14 +33,17 @@ when-le : (t : Bool) (n m : ℕ) → n ≤ m → when t n ≤ m
 when-le true n m h = h
 when-le false n m h = omega arith
 
+-- no more than the values of all the words
+abbrev values : List FlagWord → ℕ
+values [] = 0
+values (w ∷ ws) = w .value + values ws
+
+total-le : (ws : List FlagWord) (ks : List ℕ) → total ws ks ≤ values ws
+total-le [] ks = omega arith
+total-le (w ∷ ws) ks = omega (arith, when-le (table.member (w .class) ks) (w .value) (w .value) (omega arith), total-le ws ks)
+
 flags-le : (f : Trees) → flags f ≤ 21
-flags-le f =
-    omega (
-      arith,
-      when-le (hasFlag 0 f) flag.READ-ONLY 1 (omega arith),
-      when-le (hasFlag 1 f) flag.INTERACTIVE 4 (omega arith),
-      when-le (hasFlag 2 f) flag.RESET-REQUIRED 16 (omega arith),
-    )
+flags-le f = total-le flagWords (classes f)
 
 -- for what a row of this code does not have to say
 never : {P : Type 0} → false ≡ true → P

@@ -1,2 +1,3 @@
--- The laws of `print`: a phrase element by element.
+-- The laws of `print`: flag words, and a phrase element by element.
+pub mod FlagLaws
 pub mod PhraseLaws

@@ -4,44 +4,23 @@ use Prim.Native.Nat.{ℕ, zero, suc, _+_, _-_, _/_, _%_, _^_, _≤_, _<_}
 use native.Mathlib.Numerals.{add-one}
 use native.Mathlib.Omega.{arith}
 use mathlib.Core.Path.{_≡_, refl, sym, ap, _∙_}
-use mathlib.Core.Bool.{Bool, true, false, cond, _&&_, _||_}
+use mathlib.Core.Bool.{Bool, true, false, cond}
 use mathlib.Core.List.{List, [], _∷_, _++_}
 use lib.Dec.{eqb}
 use lib.ListN.{length, getD, drop, List·getD-eq-default, drop-of-length-le}
 use lib.Seq.{drop-cons, drop-drop, getD-drop}
 use borrow.Author.Tests.{ne-eqb, lt-ltb, le-ltb}
-use Rattle.lexemes.specs.Classes.{«|», «READ_ONLY», «INTERACTIVE», «RESET_REQUIRED», «TRUE», «FALSE», NAME}
+use Rattle.lexemes.specs.Classes.{«name», «questionid», «step», «default», «TRUE», «FALSE», NAME}
 use Rattle.lexemes.specs.Lexemes.{lexemes, signs, reserved}
-use Rattle.elements.specs.Kinds.{MAYBE, GROUP}
-use Rattle.answers.specs.Text.{Word, lexeme, decimal, flagList, truth, textOf}
+use Rattle.elements.specs.Kinds.{OPTION-FLAGS, TRUTH, FLAG-LIST, NUMERIC-FLAGS, H8, H4, H2, MAYBE, GROUP}
+use Rattle.answers.specs.Text.{Word, lexeme, decimal, truth, textOf}
 use Rattle.print.specs.declared.phrase.Progress.{Progress}
 use Rattle.spellings.specs.Output.{Prints}
-use Rattle.print.specs.Phrase.{flagWords, elementWords, shownBy, anyFlag, hasDefault, GUID, valueFrom, oneMore, added, skipAfter, passedAfter, phraseFrom, shownIn, elementIn}
+use Rattle.print.specs.Phrase.{elementWords, shownBy, anyFlag, hasDefault, GUID, valueFrom, oneMore, added, skipAfter, passedAfter, phraseFrom, shownIn, elementIn}
 use Rattle.print.specs.Steps.{leftOf, Entered, Stepped}
 use Rattle.spellings.proofs.Outputs.{prints-none, prints-then, text-append, as-words}
 
 -- ---- what an element is printed as
-
-abbrev wordIf : Bool → ℕ → List Word
-wordIf there k = cond there (lexeme k) []
-
-flag-list : (a b c : Bool) → wordIf a «READ_ONLY» ++ (wordIf (a && (b || c)) «|» ++ (wordIf b «INTERACTIVE» ++ (wordIf (b && c) «|» ++ wordIf c «RESET_REQUIRED»))) ≡ flagList a b c
-unfolding lexemes signs reserved
-flag-list true true true = refl
-flag-list true true false = refl
-flag-list true false true = refl
-flag-list true false false = refl
-flag-list false true true = refl
-flag-list false true false = refl
-flag-list false false true = refl
-flag-list false false false = refl
-
-pub prints-flags : {o o₁ o₂ o₃ o₄ o₅ : List ℕ} {at r₁ r₂ r₃ r₄ r₅ : ℕ} (set : ℕ) {a b c : Bool} → a ≡ eqb (set / 1 % 2) 1 → b ≡ eqb (set / 4 % 2) 1 → c ≡ eqb (set / 16 % 2) 1
-    → Prints o at (wordIf a «READ_ONLY») o₁ r₁ → Prints o₁ r₁ (wordIf (a && (b || c)) «|») o₂ r₂ → Prints o₂ r₂ (wordIf b «INTERACTIVE») o₃ r₃
-    → Prints o₃ r₃ (wordIf (b && c) «|») o₄ r₄ → Prints o₄ r₄ (wordIf c «RESET_REQUIRED») o₅ r₅ → Prints o at (flagWords set) o₅ r₅
-unfolding flagWords
-prints-flags set {a} {b} {c} e f g p q r s t =
-    rw (← e, ← f, ← g) (as-words (flag-list a b c) (prints-then p (prints-then q (prints-then r (prints-then s t)))))
 
 pub truth-true : {v : ℕ} → v ≡ 1 → lexeme «TRUE» ≡ truth v
 unfolding lexemes signs reserved
@@ -51,13 +30,24 @@ pub truth-false : {v : ℕ} → (v ≡ 1 → ⊥) → lexeme «FALSE» ≡ truth
 unfolding lexemes signs reserved
 truth-false {v} h = rw (ne-eqb v 1 h, truth)
 
-pub other-element : (e v : ℕ) → ((((((((Unit {0}) × (e ≡ 72 → ⊥)) × (e ≡ 131 → ⊥)) × (e ≡ 133 → ⊥)) × (e ≡ 134 → ⊥)) × (e ≡ 135 → ⊥)) × (e ≡ 136 → ⊥)) × (e ≡ 137 → ⊥)) → decimal v ≡ elementWords e v
+pub other-element : (e v : ℕ)
+    → ((((((((Unit {0}) × (e ≡ NAME → ⊥)) × (e ≡ OPTION-FLAGS → ⊥)) × (e ≡ TRUTH → ⊥)) × (e ≡ FLAG-LIST → ⊥)) × (e ≡ NUMERIC-FLAGS → ⊥)) × (e ≡ H8 → ⊥)) × (e ≡ H4 → ⊥)) × (e ≡ H2 → ⊥)
+    → decimal v ≡ elementWords e v
 unfolding elementWords
 other-element e v h =
-    rw (ne-eqb e 72 (h .0 .0 .0 .0 .0 .0 .1), ne-eqb e 131 (h .0 .0 .0 .0 .0 .1), ne-eqb e 133 (h .0 .0 .0 .0 .1), ne-eqb e 134 (h .0 .0 .0 .1), ne-eqb e 135 (h .0 .0 .1), ne-eqb e 136 (h .0 .1), ne-eqb e 137 (h .1))
+    rw (
+      ne-eqb e NAME (h .0 .0 .0 .0 .0 .0 .0 .1),
+      ne-eqb e OPTION-FLAGS (h .0 .0 .0 .0 .0 .0 .1),
+      ne-eqb e TRUTH (h .0 .0 .0 .0 .0 .1),
+      ne-eqb e FLAG-LIST (h .0 .0 .0 .0 .1),
+      ne-eqb e NUMERIC-FLAGS (h .0 .0 .0 .1),
+      ne-eqb e H8 (h .0 .0 .1),
+      ne-eqb e H4 (h .0 .1),
+      ne-eqb e H2 (h .1),
+    )
 
-pub other-shown : (f d : Bool) (w : ℕ) → ((((Unit {0}) × (w ≡ 57 → ⊥)) × (w ≡ 62 → ⊥)) × (w ≡ 66 → ⊥)) × (w ≡ 37 → ⊥) → f ≡ shownBy f d w
-other-shown f d w h = rw (ne-eqb w 57 (h .0 .0 .0 .1), ne-eqb w 62 (h .0 .0 .1), ne-eqb w 66 (h .0 .1), ne-eqb w 37 (h .1))
+pub other-shown : (f d : Bool) (w : ℕ) → ((((Unit {0}) × (w ≡ «name» → ⊥)) × (w ≡ «questionid» → ⊥)) × (w ≡ «step» → ⊥)) × (w ≡ «default» → ⊥) → f ≡ shownBy f d w
+other-shown f d w h = rw (ne-eqb w «name» (h .0 .0 .0 .1), ne-eqb w «questionid» (h .0 .0 .1), ne-eqb w «step» (h .0 .1), ne-eqb w «default» (h .1))
 
 -- ---- values
 

@@ -1,14 +1,15 @@
 -- Printing a phrase from a row: the elements that are read, one after another (document 01, Resolved text).
 -- Assumes nothing.
 use Prim.Native.Nat.{ℕ, _+_, _-_, _/_, _%_, _^_}
-use mathlib.Core.Bool.{Bool, true, false, cond, _||_}
+use mathlib.Core.Bool.{Bool, true, false, cond}
 use mathlib.Core.List.{List, [], _∷_, _++_}
 use lib.Dec.{eqb, ltb}
 use lib.ListN.{getD}
-use Rattle.lexemes.specs.Classes.{«name», «questionid», «step», «default», «DEFAULT», NAME}
+use Rattle.lexemes.specs.Classes.{«|», «name», «questionid», «step», «default», «DEFAULT», NAME}
 use Rattle.rows.specs.Columns as column
 use Rattle.rows.specs.Flags as flag
-use Rattle.elements.specs.Kinds.{OPTION-FLAGS, TRUTH, FLAG-LIST, H8, H4, H2, MAYBE, GROUP}
+use Rattle.grammar.specs.Flags.{FlagWord, flagWord, flagWords}
+use Rattle.elements.specs.Kinds.{OPTION-FLAGS, TRUTH, isFlagList, H8, H4, H2, MAYBE, GROUP}
 use Rattle.answers.specs.Text.{Word, decimal, hex, ruleName, lexeme, flagList, truth}
 
 -- ---- one element
@@ -17,9 +18,22 @@ use Rattle.answers.specs.Text.{Word, decimal, hex, ruleName, lexeme, flagList, 
 abbrev pub bit : ℕ → ℕ → Bool
 bit flag set = eqb (set / flag % 2) 1
 
--- FL: the flag words of a row's flags, in document 01's order
-unfoldable pub flagWords : ℕ → List Word
-flagWords set = flagList (bit flag.READ-ONLY set) (bit flag.INTERACTIVE set) (bit flag.RESET-REQUIRED set)
+-- the words of a table whose flags are set
+unfoldable pub setIn : ℕ → List FlagWord → List FlagWord
+setIn set [] = []
+setIn set (w ∷ ws) = let more = setIn set ws in cond (bit (w .value) set) (w ∷ more) more
+
+-- FL: the words of a row's flags, in document 01's order
+unfoldable pub setWords : ℕ → List Word
+setWords set = flagList (setIn set flagWords)
+
+-- the flag word at a place of the table
+abbrev pub wordAt : ℕ → FlagWord
+wordAt i = getD flagWords i (flagWord 0 0)
+
+-- a word where it is there, after a bar where any stands before it
+abbrev pub afterBar : Bool → Bool → ℕ → List Word
+afterBar any there k = cond there (cond any (lexeme «|») [] ++ lexeme k) []
 
 -- an option's flags: `0` or `DEFAULT`
 unfoldable pub optionFlags : ℕ → List Word
@@ -31,7 +45,7 @@ elementWords e v =
     cond (eqb e NAME) (ruleName v)
     (cond (eqb e OPTION-FLAGS) (optionFlags v)
     (cond (eqb e TRUTH) (truth v)
-    (cond (eqb e FLAG-LIST) (flagWords v)
+    (cond (isFlagList e) (setWords v)
     (cond (eqb e H8) (hex 8 v)
     (cond (eqb e H4) (hex 4 v)
     (cond (eqb e H2) (hex 2 v)
@@ -48,9 +62,14 @@ shownBy any-flag has-default w =
     (cond (eqb w «step») true
     (cond (eqb w «default») has-default any-flag)))
 
+-- some word stands in a list
+abbrev pub filled : List FlagWord → Bool
+filled [] = false
+filled (w ∷ ws) = true
+
 -- by a row's flags
 abbrev pub anyFlag : ℕ → Bool
-anyFlag set = (bit flag.READ-ONLY set || bit flag.INTERACTIVE set) || bit flag.RESET-REQUIRED set
+anyFlag set = filled (setIn set flagWords)
 
 abbrev pub hasDefault : ℕ → Bool
 hasDefault set = bit flag.HAS-DEFAULT set

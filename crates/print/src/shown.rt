@@ -8,53 +8,66 @@ use spellings::numerals::put_rule_name;
 use spellings::words::put_word;
 use spellings::words::put_word_if;
 ghost use mathlib.Core.Path.{_≡_};
+ghost use Prim.Native.Nat.{_<_};
+ghost use lib.ListN.{length};
+ghost use Rattle.grammar.specs.Flags.{flagWord, flagWords};
 ghost use Rattle.answers.specs.Text.{truth};
 ghost use Rattle.spellings.specs.Output.{Prints};
-ghost use Rattle.print.specs.Phrase.{bit, flagWords, optionFlags, elementWords, shownBy, anyFlag, hasDefault};
+ghost use Rattle.print.specs.Phrase.{bit, wordAt, afterBar, setWords, optionFlags, elementWords, shownBy, anyFlag, hasDefault};
 
-// The flag READ_ONLY is set; so of the others.
-fn is_read_only(set: u64) -> bool
-    ensures { λ r. ⌜ r ≡ bit 1 set ⌝ }
+// A flag, by its value, is set.
+fn is_set(set: u64, flag: u64) -> bool
+    requires { ⌜ 0 < flag ⌝ }
+    ensures { λ r. ⌜ r ≡ bit flag set ⌝ }
 {
-    set / flags::READ_ONLY % 2 == 1
+    set / flag % 2 == 1
 }
 
-fn is_interactive(set: u64) -> bool
-    ensures { λ r. ⌜ r ≡ bit 4 set ⌝ }
+// A flag word: its class and its value.
+struct FlagWord(u8, u64);
+
+// How many flag words there are, each at its place in document 01's order.
+const FLAG_WORDS: usize = 3;
+
+// The flag word at a place.
+fn flag_word(i: usize) -> FlagWord
+    requires { ⌜ i < length flagWords ⌝ }
+    ensures { λ r. ⌜ flagWord (r .0) (r .1) ≡ wordAt i ⌝ }
+    ensures { λ r. ⌜ 0 < r .1 ⌝ }
 {
-    set / flags::INTERACTIVE % 2 == 1
+    match i {
+        0 => FlagWord(READ_ONLY, flags::READ_ONLY),
+        1 => FlagWord(INTERACTIVE, flags::INTERACTIVE),
+        _ => FlagWord(RESET_REQUIRED, flags::RESET_REQUIRED),
+    }
 }
 
-fn is_reset_required(set: u64) -> bool
-    ensures { λ r. ⌜ r ≡ bit 16 set ⌝ }
+// A flag word where it is there, after `|` where another stands before it.
+fn put_flag(out: &mut [u8], at: usize, any: bool, there: bool, class: u8) -> usize
+    ensures { λ r. ⌜ Prints (now (out .entry)) at (afterBar any there class) (now (out .exit)) r ⌝ }
 {
-    set / flags::RESET_REQUIRED % 2 == 1
+    if there {
+        let word = put_word_if(out, at, any, BAR);
+        return put_word(out, word, class);
+    }
+    at
 }
 
-fn has_default(set: u64) -> bool
-    ensures { λ r. ⌜ r ≡ bit 256 set ⌝ }
-{
-    set / flags::HAS_DEFAULT % 2 == 1
-}
-
-fn is_default(set: u64) -> bool
-    ensures { λ r. ⌜ r ≡ bit 16 set ⌝ }
-{
-    set / flags::OPTION_DEFAULT % 2 == 1
-}
-
-// FL: the flag words, in document 01's order, with `|` between.
+// FL: the flag words that are set, in document 01's order, with `|` between.
 fn put_flags(out: &mut [u8], at: usize, set: u64) -> usize
-    ensures { λ r. ⌜ Prints (now (out .entry)) at (flagWords set) (now (out .exit)) r ⌝ }
+    ensures { λ r. ⌜ Prints (now (out .entry)) at (setWords set) (now (out .exit)) r ⌝ }
 {
-    let first = is_read_only(set);
-    let second = is_interactive(set);
-    let third = is_reset_required(set);
-    let a = put_word_if(out, at, first, READ_ONLY);
-    let b = put_word_if(out, a, first & (second | third), BAR);
-    let c = put_word_if(out, b, second, INTERACTIVE);
-    let d = put_word_if(out, c, second & third, BAR);
-    put_word_if(out, d, third, RESET_REQUIRED)
+    let mut at = at;
+    let mut any = false;
+    let mut i = 0;
+    while i < FLAG_WORDS {
+        let word = flag_word(i);
+        let there = is_set(set, word.1);
+        at = put_flag(out, at, any, there, word.0);
+        any = any | there;
+        i += 1;
+    }
+    at
 }
 
 fn put_truth(out: &mut [u8], at: usize, value: u64) -> usize
@@ -70,7 +83,7 @@ fn put_truth(out: &mut [u8], at: usize, value: u64) -> usize
 fn put_option_flags(out: &mut [u8], at: usize, set: u64) -> usize
     ensures { λ r. ⌜ Prints (now (out .entry)) at (optionFlags set) (now (out .exit)) r ⌝ }
 {
-    if is_default(set) {
+    if is_set(set, flags::OPTION_DEFAULT) {
         return put_word(out, at, DEFAULT);
     }
     put_decimal(out, at, 0)
@@ -85,6 +98,7 @@ pub fn put_element(out: &mut [u8], at: usize, want: u8, value: u64) -> usize
         OPTION_FLAGS => put_option_flags(out, at, value),
         TRUTH => put_truth(out, at, value),
         FLAG_LIST => put_flags(out, at, value),
+        NUMERIC_FLAGS => put_flags(out, at, value),
         H8 => put_hex(out, at, value, 8),
         H4 => put_hex(out, at, value, 4),
         H2 => put_hex(out, at, value, 2),
@@ -101,7 +115,11 @@ pub fn shows(word: u8, set: u64) -> bool
         KW_NAME => false,
         KW_QUESTIONID => true,
         KW_STEP => true,
-        KW_DEFAULT => has_default(set),
-        _ => { is_read_only(set) | is_interactive(set) | is_reset_required(set) }
+        KW_DEFAULT => is_set(set, flags::HAS_DEFAULT),
+        _ => {
+            is_set(set, flags::READ_ONLY)
+                | is_set(set, flags::INTERACTIVE)
+                | is_set(set, flags::RESET_REQUIRED)
+        }
     }
 }

@@ -7,14 +7,16 @@ use mathlib.Core.List.{List, [], _∷_, _++_, append-assoc, append-nil}
 use lib.Dec.{eqb}
 use lib.ListN.{getD, take, drop}
 use borrow.Author.Tests.{ne-eqb, eqb-true}
+use Rattle.lexemes.specs.Classes.{«DEFAULT»}
 use Rattle.lexemes.specs.Lexemes.{lexemes, signs, reserved}
 use Rattle.rows.specs.Columns as column
 use Rattle.rows.specs.Flags as flag
+use Rattle.grammar.specs.Flags.{FlagWord, flagWords}
 use Rattle.elements.specs.Kinds.{LARGE}
 use Rattle.answers.specs.Text as text
 use Rattle.rows.specs.Codes.{member, questions, isQuestion}
 use Rattle.answers.specs.Text.{Word, words, decimal, decimalDigits, head, flagList, framed, Phrase, _prints_, opening, phraseAmong}
-use Rattle.print.specs.Phrase.{bit, flagWords, optionFlags, elementWords, shownBy, anyFlag, hasDefault, valueFrom, added, skipAfter, passedAfter, phraseFrom, elementIn, phraseWords}
+use Rattle.print.specs.Phrase.{bit, setIn, setWords, optionFlags, elementWords, shownBy, filled, anyFlag, hasDefault, valueFrom, added, skipAfter, passedAfter, phraseFrom, elementIn, phraseWords}
 use Rattle.statements.specs.Statements.{conditionWords, closing, operandWords}
 use Rattle.elements.specs.Symbols as phrase
 use Rattle.statements.proofs.Sources as source
@@ -54,7 +56,7 @@ module _ (r : List ℕ) where
   unfolding phraseWords phraseFrom added skipAfter passedAfter elementWords valueFrom lexemes signs reserved
   form-set-words = refl
 
-  option-flags : (b : Bool) → cond b (text.lexeme 23) (decimal 0) ≡ elim b [ true ↦ words "DEFAULT" | false ↦ words "0" ]
+  option-flags : (b : Bool) → cond b (text.lexeme «DEFAULT») (decimal 0) ≡ elim b [ true ↦ words "DEFAULT" | false ↦ words "0" ]
   unfolding lexemes signs reserved decimalDigits
   option-flags true = refl
   option-flags false = refl
@@ -68,23 +70,9 @@ module _ (r : List ℕ) where
 
 -- ---- questions: flags where there are any, a default where it is written
 
-abbrev filled : List Word → Bool
-filled [] = false
-filled (w ∷ ws) = true
-
-framed-filled : (before l after : List Word) → cond (filled l) (before ++ l ++ after) [] ≡ framed before l after
-framed-filled before [] after = refl
-framed-filled before (w ∷ ws) after = refl
-
-filled-list : (a b c : Bool) → (a || b) || c ≡ filled (flagList a b c)
-filled-list true true true = refl
-filled-list true true false = refl
-filled-list true false true = refl
-filled-list true false false = refl
-filled-list false true true = refl
-filled-list false true false = refl
-filled-list false false true = refl
-filled-list false false false = refl
+framed-list : (before after : List Word) (ws : List FlagWord) → cond (filled ws) (before ++ flagList ws ++ after) [] ≡ framed before (flagList ws) after
+framed-list before after [] = refl
+framed-list before after (w ∷ ws) = refl
 
 -- a part that may be absent, and what follows it
 abbrev partThen : Bool → List Word → List Word → List Word → List Word → List Word
@@ -112,13 +100,10 @@ module _ (r : List ℕ) where
   abbrev set : ℕ
   set = getD r column.FLAGS 0
 
-  flags-are : (before after later : List Word) → partThen (anyFlag set) before (flagWords set) after later ≡ text.flags before after r ++ later
-  unfolding flagWords
+  flags-are : (before after later : List Word) → partThen (anyFlag set) before (setWords set) after later ≡ text.flags before after r ++ later
+  unfolding setWords setIn
   flags-are before after later =
-      part-then (anyFlag set) before (flagWords set) after later
-      ∙ ap (λ (l : List Word). l ++ later)
-      (ap (λ (b : Bool). cond b (before ++ flagWords set ++ after) []) (filled-list (bit flag.READ-ONLY set) (bit flag.INTERACTIVE set) (bit flag.RESET-REQUIRED set))
-      ∙ framed-filled before (flagWords set) after)
+      part-then (anyFlag set) before (setWords set) after later ∙ ap (λ (l : List Word). l ++ later) (framed-list before after (setIn set flagWords))
 
   default-is : (v later : List Word) → partThen (hasDefault set) (words "default =") v (words ",") later ≡ text.default v r ++ later
   default-is v later = part-then (hasDefault set) (words "default =") v (words ",") later ∙ ap (λ (l : List Word). l ++ later) (default-list (hasDefault set) v)
@@ -127,7 +112,7 @@ module _ (r : List ℕ) where
   abbrev gotoStart : List Word
   gotoStart = words "goto" ++ decimal (getD r column.A 0) ++ words "," ++ head r
 
-  goto-shape : (f d : Bool) → phraseFrom (shownBy f d) (elementIn source.goto-sources r) phrase.gotoElements 0 0 ≡ gotoStart ++ partThen f (words ", flags =") (flagWords set) [] (words ";")
+  goto-shape : (f d : Bool) → phraseFrom (shownBy f d) (elementIn source.goto-sources r) phrase.gotoElements 0 0 ≡ gotoStart ++ partThen f (words ", flags =") (setWords set) [] (words ";")
   unfolding phraseFrom added skipAfter passedAfter elementWords valueFrom lexemes signs reserved
   goto-shape true d = refl
   goto-shape false d = refl
@@ -145,7 +130,7 @@ module _ (r : List ℕ) where
   abbrev checkboxDefault : Bool → List Word
   checkboxDefault d = partThen d (words "default =") (text.truth (getD r column.D 0)) (words ",") (words "endcheckbox ;")
 
-  checkbox-shape : (f d : Bool) → phraseFrom (shownBy f d) (elementIn source.checkbox-sources r) phrase.checkboxElements 0 0 ≡ checkboxStart ++ partThen f (words "flags =") (flagWords set) (words ",") (checkboxDefault d)
+  checkbox-shape : (f d : Bool) → phraseFrom (shownBy f d) (elementIn source.checkbox-sources r) phrase.checkboxElements 0 0 ≡ checkboxStart ++ partThen f (words "flags =") (setWords set) (words ",") (checkboxDefault d)
   unfolding phraseFrom added skipAfter passedAfter elementWords valueFrom lexemes signs reserved
   checkbox-shape true true = refl
   checkbox-shape true false = refl
@@ -170,7 +155,7 @@ module _ (r : List ℕ) where
   numericLimits later =
       words "minimum =" ++ (decimal (getD r column.A 0) ++ (words ", maximum =" ++ (decimal (getD r column.B 0) ++ (words ", step =" ++ (decimal (getD r column.C 0) ++ (words "," ++ later))))))
 
-  numeric-shape : (f d : Bool) → phraseFrom (shownBy f d) (elementIn source.numeric-sources r) phrase.numericElements 0 0 ≡ numericStart ++ partThen f (words "flags =") (flagWords set) (words ",") (numericLimits (numericDefault d))
+  numeric-shape : (f d : Bool) → phraseFrom (shownBy f d) (elementIn source.numeric-sources r) phrase.numericElements 0 0 ≡ numericStart ++ partThen f (words "flags =") (setWords set) (words ",") (numericLimits (numericDefault d))
   unfolding phraseFrom added skipAfter passedAfter elementWords valueFrom lexemes signs reserved
   numeric-shape true true = refl
   numeric-shape true false = refl
@@ -188,7 +173,7 @@ module _ (r : List ℕ) where
   abbrev oneOfStart : List Word
   oneOfStart = words "oneof" ++ head r ++ words ","
 
-  one-of-shape : (f d : Bool) → phraseFrom (shownBy f d) (elementIn source.one-of-sources r) phrase.oneOfOpenElements 0 0 ≡ oneOfStart ++ partThen f (words "flags =") (flagWords set) (words ",") []
+  one-of-shape : (f d : Bool) → phraseFrom (shownBy f d) (elementIn source.one-of-sources r) phrase.oneOfOpenElements 0 0 ≡ oneOfStart ++ partThen f (words "flags =") (setWords set) (words ",") []
   unfolding phraseFrom added skipAfter passedAfter elementWords valueFrom lexemes signs reserved
   one-of-shape true d = refl
   one-of-shape false d = refl

@@ -8,18 +8,20 @@ use mathlib.Core.List.{List, [], _∷_, _++_}
 use lib.Dec.{eqb, ltb}
 use lib.ListN.{length, getD, length-append}
 use Rattle.lexemes.specs.Words.{same}
-use Rattle.lexemes.specs.Classes.{NAME}
+use Rattle.lexemes.specs.Classes.{«DEFAULT», NAME}
 use Rattle.lexemes.proofs.Lists.{either}
 use Rattle.rows.specs.Columns as column
 use Rattle.rows.specs.Table.{cellAt}
+use Rattle.grammar.specs.Flags.{FlagWord, flagWords}
 use Rattle.answers.specs.Expression.{Expression, constantClass, operatorClass, level}
 use Rattle.answers.specs.Text as text
-use Rattle.answers.specs.Text.{Word, words, decimal, decimalDigits, hex, hexDigits, ruleName, lexeme, flagList, truth, grouped, printed, opening, textOf, Phrase, _prints_, phraseAmong, statements}
-use Rattle.print.specs.Phrase.{bit, flagWords, optionFlags, elementWords, GUID, valueFrom, added, skipAfter, passedAfter, phraseFrom, shownIn, elementIn, phraseWords}
+use Rattle.answers.specs.Text.{Word, words, decimal, decimalDigits, hex, hexDigits, ruleName, lexeme, barred, flagList, truth, grouped, printed, opening, textOf, Phrase, _prints_, phraseAmong, statements}
+use Rattle.print.specs.Phrase.{bit, setIn, setWords, optionFlags, elementWords, GUID, valueFrom, added, skipAfter, passedAfter, phraseFrom, shownIn, elementIn, phraseWords}
 use Rattle.statements.specs.Statements.{closing, expressionEnd}
 use Rattle.spellings.proofs.Outputs.{text-append}
 use Rattle.spellings.proofs.DigitLaws.{digits-few}
 use Rattle.spellings.proofs.SpellingLaws.{lexeme-short}
+use Rattle.elements.specs.Kinds.{OPTION-FLAGS, TRUTH, isFlagList, H8, H4, H2, MAYBE}
 use Rattle.elements.specs.Symbols as phrase
 use Rattle.statements.proofs.Sources as source
 use Rattle.statements.proofs.StatementLaws.{form-words, rule-words, subtitle-words, text-words, label-words, form-set-words, option-words, goto-words, checkbox-words, numeric-words, one-of-words}
@@ -64,16 +66,39 @@ hex-short k v = size-word (48 ∷ 120 ∷ hexDigits k v) ∙ omega (arith, hex-l
 
 -- ---- elements
 
-flags-short : (a b c : Bool) → size (flagList a b c) ≤ 41
+-- a list of flag words: each with its gap, and a bar
+bar-short : size (words "|") ≤ 2
 unfolding textOf same
-flags-short true true true = omega arith
-flags-short true true false = omega arith
-flags-short true false true = omega arith
-flags-short true false false = omega arith
-flags-short false true true = omega arith
-flags-short false true false = omega arith
-flags-short false false true = omega arith
-flags-short false false false = omega arith
+bar-short = omega arith
+
+barred-short : (ws : List FlagWord) → size (barred ws) ≤ 19 * length ws
+barred-short [] = omega (arith, size-none)
+barred-short (w ∷ ws) =
+    omega (
+      arith,
+      size-append (words "|") (lexeme (w .class) ++ barred ws),
+      size-append (lexeme (w .class)) (barred ws),
+      bar-short,
+      lexeme-short (w .class),
+      barred-short ws,
+    )
+
+list-short : (ws : List FlagWord) → size (flagList ws) ≤ 19 * length ws
+list-short [] = omega (arith, size-none)
+list-short (w ∷ ws) = omega (arith, size-append (lexeme (w .class)) (barred ws), lexeme-short (w .class), barred-short ws)
+
+set-few : (set : ℕ) (ws : List FlagWord) → length (setIn set ws) ≤ length ws
+unfolding setIn
+set-few set [] = omega arith
+set-few set (w ∷ ws) = by (bit (w .value) set) (set-few set ws)
+  where
+    by : (there : Bool) → length (setIn set ws) ≤ length ws → length (cond there (w ∷ setIn set ws) (setIn set ws)) ≤ suc (length ws)
+    by true h = omega arith
+    by false h = omega arith
+
+flags-short : (set : ℕ) → size (setWords set) ≤ 57
+unfolding setWords
+flags-short set = omega (arith, list-short (setIn set flagWords), set-few set flagWords)
 
 truth-short : (v : ℕ) → size (truth v) ≤ 6
 unfolding textOf same
@@ -81,18 +106,18 @@ truth-short v = either (eqb v 1) (λ e. rw (e, truth) (omega arith)) (λ e. rw (
 
 option-short : (v : ℕ) → size (optionFlags v) ≤ 21
 unfolding optionFlags
-option-short v = either-short 21 (bit 16 v) _ _ (omega (arith, lexeme-short 23)) (decimal-short 0 (omega arith))
+option-short v = either-short 21 (bit 16 v) _ _ (omega (arith, lexeme-short «DEFAULT»)) (decimal-short 0 (omega arith))
 
 element-short : (e v : ℕ) → v < 2 ^ 64 → size (elementWords e v) ≤ 64
-unfolding elementWords flagWords
+unfolding elementWords
 element-short e v h =
-    either-short 64 (eqb e 72) _ _ (omega (arith, rule-short v h))
-    (either-short 64 (eqb e 131) _ _ (omega (arith, option-short v))
-    (either-short 64 (eqb e 133) _ _ (omega (arith, truth-short v))
-    (either-short 64 (eqb e 134) _ _ (omega (arith, flags-short (bit 1 v) (bit 4 v) (bit 16 v)))
-    (either-short 64 (eqb e 135) _ _ (omega (arith, hex-short 8 v))
-    (either-short 64 (eqb e 136) _ _ (omega (arith, hex-short 4 v))
-    (either-short 64 (eqb e 137) _ _ (omega (arith, hex-short 2 v)) (omega (arith, decimal-short v h))))))))
+    either-short 64 (eqb e NAME) _ _ (omega (arith, rule-short v h))
+    (either-short 64 (eqb e OPTION-FLAGS) _ _ (omega (arith, option-short v))
+    (either-short 64 (eqb e TRUTH) _ _ (omega (arith, truth-short v))
+    (either-short 64 (isFlagList e) _ _ (omega (arith, flags-short v))
+    (either-short 64 (eqb e H8) _ _ (omega (arith, hex-short 8 v))
+    (either-short 64 (eqb e H4) _ _ (omega (arith, hex-short 4 v))
+    (either-short 64 (eqb e H2) _ _ (omega (arith, hex-short 2 v)) (omega (arith, decimal-short v h))))))))
 
 -- ---- phrases
 
@@ -127,7 +152,7 @@ module _ (shown : ℕ → Bool) (element : ℕ → ℕ → List Word) (each : (e
   unfolding phraseFrom added
   phrase-short [] skip passed = omega (arith, size-none)
   phrase-short (e ∷ p) skip passed =
-      let one : size (added shown element skip passed e) ≤ 64 = either-short 64 (eqb skip 0) _ _ (either-short 64 (eqb e 138) _ _ (omega (arith, size-none)) (either-short 64 (ltb e NAME) _ _ (omega (arith, lexeme-short e)) (each e passed))) (omega (arith, size-none)) in
+      let one : size (added shown element skip passed e) ≤ 64 = either-short 64 (eqb skip 0) _ _ (either-short 64 (eqb e MAYBE) _ _ (omega (arith, size-none)) (either-short 64 (ltb e NAME) _ _ (omega (arith, lexeme-short e)) (each e passed))) (omega (arith, size-none)) in
       let more = phrase-short p (skipAfter shown element skip e (getD p 0 0)) (passedAfter shown element skip passed e (getD p 0 0)) in
       omega (arith, size-append (added shown element skip passed e) (phraseFrom shown element p (skipAfter shown element skip e (getD p 0 0)) (passedAfter shown element skip passed e (getD p 0 0))))
 

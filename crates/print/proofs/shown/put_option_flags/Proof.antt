@@ -6,8 +6,8 @@ use borrow.Author.Needs.{needs}
 use Rattle.print.proofs.shown.put_option_flags.Statement.{statement}
 use Rattle.print.proofs.shown.put_option_flags.Tie as tie
 
-is-default-requires : tie.Need-is-default-requires
-is-default-requires c κs = search needs
+is-set-requires : tie.Need-is-set-requires
+is-set-requires c κs = search needs
 
 put-word-requires : tie.Need-put-word-requires
 put-word-requires c κs = search needs
@@ -17,7 +17,7 @@ same-length c = search needs
 
 returns : tie.Need-returns
 unfolding optionFlags
-returns c = rw (sym (c .before .before .before .before .before .is-default .ensures) ∙ c .before .before .before .before .if1 .taken) (c .before .before .put-word .ensures)
+returns c = rw (sym (c .before .before .before .before .before .is-set .ensures) ∙ c .before .before .before .before .if1 .taken) (c .before .before .put-word .ensures)
 
 put-decimal-requires : tie.Need-put-decimal-requires
 put-decimal-requires c κs = search needs
@@ -27,13 +27,13 @@ same-length-2 c = search needs
 
 returns-2 : tie.Need-returns-2
 unfolding optionFlags
-returns-2 c = rw (sym (c .before .before .before .before .before .is-default .ensures) ∙ c .before .before .before .before .if1 .left) (c .before .before .put-decimal .ensures)
+returns-2 c = rw (sym (c .before .before .before .before .before .is-set .ensures) ∙ c .before .before .before .before .if1 .left) (c .before .before .put-decimal .ensures)
 
 pub put-option-flags-spec : {M : Type 1} → statement M
 put-option-flags-spec =
     tie.close
     (tie.spec
-    is-default-requires
+    is-set-requires
     put-word-requires
     same-length
     returns

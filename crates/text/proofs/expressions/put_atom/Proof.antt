@@ -1,6 +1,7 @@
 -- `text::expressions::put_atom` meets its contract.
 -- Assumes nothing.
 use borrow.Author.Tests.{lt-ltb, le-ltb}
+use Rattle.lexemes.specs.Classes.{NAME}
 use Rattle.text.specs.Operators.{atomWords}
 use borrow.Author.Needs.{needs}
 use Rattle.text.proofs.expressions.put_atom.Statement.{statement}
@@ -18,7 +19,7 @@ returns c =
     let pre = c .before .before .before .before .before .before .before .pre in
     let if1 = c .before .before .before .before .if1 in
     let put-word = c .before .before .put-word in
-    rw (← pre, lt-ltb _ 72 (if1 .taken)) (put-word .ensures)
+    rw (← pre, lt-ltb _ NAME (if1 .taken)) (put-word .ensures)
 
 put-operand-requires : tie.Need-put-operand-requires
 put-operand-requires c κs = search needs
@@ -32,7 +33,7 @@ returns-2 c =
     let pre = c .before .before .before .before .before .before .before .pre in
     let if1 = c .before .before .before .before .if1 in
     let put-operand = c .before .before .put-operand in
-    rw (← pre, le-ltb _ 72 (if1 .left)) (put-operand .ensures)
+    rw (← pre, le-ltb _ NAME (if1 .left)) (put-operand .ensures)
 
 pub put-atom-spec : {M : Type 1} → statement M
 put-atom-spec =

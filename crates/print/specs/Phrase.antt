@@ -8,20 +8,11 @@ use lib.ListN.{getD}
 use Rattle.lexemes.specs.Classes.{«|», «name», «questionid», «step», «default», «DEFAULT», NAME}
 use Rattle.rows.specs.Columns as column
 use Rattle.rows.specs.Flags as flag
-use Rattle.grammar.specs.Flags.{FlagWord, flagWord, flagWords}
+use Rattle.grammar.specs.Flags.{FlagWord, flagWord, flagWords, setIn}
 use Rattle.elements.specs.Kinds.{OPTION-FLAGS, TRUTH, isFlagList, H8, H4, H2, MAYBE, GROUP}
 use Rattle.answers.specs.Text.{Word, decimal, hex, ruleName, lexeme, flagList, truth}
 
 -- ---- one element
-
--- a flag, by its value, is set
-abbrev pub bit : ℕ → ℕ → Bool
-bit flag set = eqb (set / flag % 2) 1
-
--- the words of a table whose flags are set
-unfoldable pub setIn : ℕ → List FlagWord → List FlagWord
-setIn set [] = []
-setIn set (w ∷ ws) = let more = setIn set ws in cond (bit (w .value) set) (w ∷ more) more
 
 -- FL: the words of a row's flags, in document 01's order
 unfoldable pub setWords : ℕ → List Word
@@ -37,7 +28,7 @@ afterBar any there k = cond there (cond any (lexeme «|») [] ++ lexeme k) []
 
 -- an option's flags: `0` or `DEFAULT`
 unfoldable pub optionFlags : ℕ → List Word
-optionFlags set = cond (bit flag.OPTION-DEFAULT set) (lexeme «DEFAULT») (decimal 0)
+optionFlags set = cond (flag.isSet flag.OPTION-DEFAULT set) (lexeme «DEFAULT») (decimal 0)
 
 -- an element that is no sign and no reserved word, of the value
 unfoldable pub elementWords : ℕ → ℕ → List Word
@@ -72,7 +63,7 @@ abbrev pub anyFlag : ℕ → Bool
 anyFlag set = filled (setIn set flagWords)
 
 abbrev pub hasDefault : ℕ → Bool
-hasDefault set = bit flag.HAS-DEFAULT set
+hasDefault set = flag.isSet flag.HAS-DEFAULT set
 
 -- ---- values
 

@@ -10,15 +10,16 @@ use spellings::words::put_word_if;
 ghost use mathlib.Core.Path.{_≡_};
 ghost use Prim.Native.Nat.{_<_};
 ghost use lib.ListN.{length};
+ghost use Rattle.rows.specs.Flags.{isSet};
 ghost use Rattle.grammar.specs.Flags.{flagWord, flagWords};
 ghost use Rattle.answers.specs.Text.{truth};
 ghost use Rattle.spellings.specs.Output.{Prints};
-ghost use Rattle.print.specs.Phrase.{bit, wordAt, afterBar, setWords, optionFlags, elementWords, shownBy, anyFlag, hasDefault};
+ghost use Rattle.print.specs.Phrase.{wordAt, afterBar, setWords, optionFlags, elementWords, shownBy, anyFlag, hasDefault};
 
 // A flag, by its value, is set.
 fn is_set(set: u64, flag: u64) -> bool
     requires { ⌜ 0 < flag ⌝ }
-    ensures { λ r. ⌜ r ≡ bit flag set ⌝ }
+    ensures { λ r. ⌜ r ≡ isSet flag set ⌝ }
 {
     set / flag % 2 == 1
 }

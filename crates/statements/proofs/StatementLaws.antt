@@ -11,12 +11,12 @@ use Rattle.lexemes.specs.Classes.{«DEFAULT»}
 use Rattle.lexemes.specs.Lexemes.{lexemes, signs, reserved}
 use Rattle.rows.specs.Columns as column
 use Rattle.rows.specs.Flags as flag
-use Rattle.grammar.specs.Flags.{FlagWord, flagWords}
+use Rattle.grammar.specs.Flags.{FlagWord, flagWords, setIn}
 use Rattle.elements.specs.Kinds.{LARGE}
 use Rattle.answers.specs.Text as text
 use Rattle.rows.specs.Codes.{member, questions, isQuestion}
 use Rattle.answers.specs.Text.{Word, words, decimal, decimalDigits, head, flagList, framed, Phrase, _prints_, opening, phraseAmong}
-use Rattle.print.specs.Phrase.{bit, setIn, setWords, optionFlags, elementWords, shownBy, filled, anyFlag, hasDefault, valueFrom, added, skipAfter, passedAfter, phraseFrom, elementIn, phraseWords}
+use Rattle.print.specs.Phrase.{setWords, optionFlags, elementWords, shownBy, filled, anyFlag, hasDefault, valueFrom, added, skipAfter, passedAfter, phraseFrom, elementIn, phraseWords}
 use Rattle.statements.specs.Statements.{conditionWords, closing, operandWords}
 use Rattle.elements.specs.Symbols as phrase
 use Rattle.statements.proofs.Sources as source
@@ -66,7 +66,7 @@ module _ (r : List ℕ) where
 
   pub option-words : phraseWords phrase.optionElements source.option-sources r ≡ text.option r
   unfolding phraseWords phraseFrom added skipAfter passedAfter elementWords valueFrom lexemes signs reserved optionFlags
-  option-words = ap optionWith (option-flags (bit flag.OPTION-DEFAULT (getD r column.FLAGS 0)))
+  option-words = ap optionWith (option-flags (flag.isSet flag.OPTION-DEFAULT (getD r column.FLAGS 0)))
 
 -- ---- questions: flags where there are any, a default where it is written
 
@@ -101,7 +101,7 @@ module _ (r : List ℕ) where
   set = getD r column.FLAGS 0
 
   flags-are : (before after later : List Word) → partThen (anyFlag set) before (setWords set) after later ≡ text.flags before after r ++ later
-  unfolding setWords setIn
+  unfolding setWords
   flags-are before after later =
       part-then (anyFlag set) before (setWords set) after later ∙ ap (λ (l : List Word). l ++ later) (framed-list before after (setIn set flagWords))
 

@@ -12,11 +12,12 @@ use Rattle.lexemes.specs.Classes.{«DEFAULT», NAME}
 use Rattle.lexemes.proofs.Lists.{either}
 use Rattle.rows.specs.Columns as column
 use Rattle.rows.specs.Table.{cellAt}
-use Rattle.grammar.specs.Flags.{FlagWord, flagWords}
+use Rattle.rows.specs.Flags as flag
+use Rattle.grammar.specs.Flags.{FlagWord, flagWords, setIn}
 use Rattle.answers.specs.Expression.{Expression, constantClass, operatorClass, level}
 use Rattle.answers.specs.Text as text
 use Rattle.answers.specs.Text.{Word, words, decimal, decimalDigits, hex, hexDigits, ruleName, lexeme, barred, flagList, truth, grouped, printed, opening, textOf, Phrase, _prints_, phraseAmong, statements}
-use Rattle.print.specs.Phrase.{bit, setIn, setWords, optionFlags, elementWords, GUID, valueFrom, added, skipAfter, passedAfter, phraseFrom, shownIn, elementIn, phraseWords}
+use Rattle.print.specs.Phrase.{setWords, optionFlags, elementWords, GUID, valueFrom, added, skipAfter, passedAfter, phraseFrom, shownIn, elementIn, phraseWords}
 use Rattle.statements.specs.Statements.{closing, expressionEnd}
 use Rattle.spellings.proofs.Outputs.{text-append}
 use Rattle.spellings.proofs.DigitLaws.{digits-few}
@@ -88,9 +89,8 @@ list-short [] = omega (arith, size-none)
 list-short (w ∷ ws) = omega (arith, size-append (lexeme (w .class)) (barred ws), lexeme-short (w .class), barred-short ws)
 
 set-few : (set : ℕ) (ws : List FlagWord) → length (setIn set ws) ≤ length ws
-unfolding setIn
 set-few set [] = omega arith
-set-few set (w ∷ ws) = by (bit (w .value) set) (set-few set ws)
+set-few set (w ∷ ws) = by (flag.isSet (w .value) set) (set-few set ws)
   where
     by : (there : Bool) → length (setIn set ws) ≤ length ws → length (cond there (w ∷ setIn set ws) (setIn set ws)) ≤ suc (length ws)
     by true h = omega arith
@@ -106,7 +106,7 @@ truth-short v = either (eqb v 1) (λ e. rw (e, truth) (omega arith)) (λ e. rw (
 
 option-short : (v : ℕ) → size (optionFlags v) ≤ 21
 unfolding optionFlags
-option-short v = either-short 21 (bit 16 v) _ _ (omega (arith, lexeme-short «DEFAULT»)) (decimal-short 0 (omega arith))
+option-short v = either-short 21 (flag.isSet flag.OPTION-DEFAULT v) _ _ (omega (arith, lexeme-short «DEFAULT»)) (decimal-short 0 (omega arith))
 
 element-short : (e v : ℕ) → v < 2 ^ 64 → size (elementWords e v) ≤ 64
 unfolding elementWords

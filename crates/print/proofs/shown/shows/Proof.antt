@@ -4,6 +4,7 @@ use mathlib.Core.Path.{_∙_}
 use Rattle.print.proofs.FlagLaws.{any-flag}
 use Rattle.print.proofs.PhraseLaws.{other-shown}
 use borrow.Author.Needs.{needs}
+use Rattle.print.specs.Phrase.{anyFlag, hasDefault}
 use Rattle.print.proofs.shown.shows.Statement.{statement}
 use Rattle.print.proofs.shown.shows.Tie as tie
 
@@ -32,7 +33,10 @@ returns-4 : tie.Need-returns-4
 returns-4 c = rw (c .before .match .keys4) (c .is-set .ensures)
 
 returns-5 : tie.Need-returns-5
-returns-5 c = rw (c .before .before .is-set2 .ensures, c .before .is-set3 .ensures, c .is-set4 .ensures) (any-flag _ ∙ other-shown _ _ _ (c .before .before .before .match .rest))
+returns-5 c =
+    let set = c .before .before .before .before .args .set in
+    rw (c .before .before .is-set2 .ensures, c .before .is-set3 .ensures, c .is-set4 .ensures)
+    (any-flag set ∙ other-shown (anyFlag set) (hasDefault set) _ (c .before .before .before .match .rest))
 
 pub shows-spec : {M : Type 1} → statement M
 shows-spec =

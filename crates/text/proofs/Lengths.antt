@@ -8,18 +8,21 @@ use mathlib.Core.List.{List, [], _∷_, _++_}
 use lib.Dec.{eqb, ltb}
 use lib.ListN.{length, getD, length-append}
 use Rattle.lexemes.specs.Words.{same}
-use Rattle.lexemes.specs.Classes.{NAME}
+use Rattle.lexemes.specs.Classes.{«DEFAULT», NAME}
 use Rattle.lexemes.proofs.Lists.{either}
 use Rattle.rows.specs.Columns as column
+use Rattle.rows.specs.Flags as flag
 use Rattle.rows.specs.Table.{cellAt}
 use Rattle.answers.specs.Expression.{Expression, constantClass, operatorClass, level}
 use Rattle.answers.specs.Text as text
 use Rattle.answers.specs.Text.{Word, words, decimal, decimalDigits, hex, hexDigits, ruleName, lexeme, flagList, truth, grouped, printed, opening, textOf, Phrase, _prints_, phraseAmong, statements}
 use Rattle.print.specs.Phrase.{bit, flagWords, optionFlags, elementWords, GUID, valueFrom, added, skipAfter, passedAfter, phraseFrom, shownIn, elementIn, phraseWords}
 use Rattle.statements.specs.Statements.{closing, expressionEnd}
+use Rattle.spellings.specs.Spelling.{ROOM}
 use Rattle.spellings.proofs.Outputs.{text-append}
 use Rattle.spellings.proofs.DigitLaws.{digits-few}
 use Rattle.spellings.proofs.SpellingLaws.{lexeme-short}
+use Rattle.elements.specs.Kinds.{OPTION-FLAGS, TRUTH, FLAG-LIST, H8, H4, H2, MAYBE}
 use Rattle.elements.specs.Symbols as phrase
 use Rattle.statements.proofs.Sources as source
 use Rattle.statements.proofs.StatementLaws.{form-words, rule-words, subtitle-words, text-words, label-words, form-set-words, option-words, goto-words, checkbox-words, numeric-words, one-of-words}
@@ -79,20 +82,20 @@ truth-short : (v : ℕ) → size (truth v) ≤ 6
 unfolding textOf same
 truth-short v = either (eqb v 1) (λ e. rw (e, truth) (omega arith)) (λ e. rw (e, truth) (omega arith))
 
-option-short : (v : ℕ) → size (optionFlags v) ≤ 21
+option-short : (v : ℕ) → size (optionFlags v) ≤ ROOM
 unfolding optionFlags
-option-short v = either-short 21 (bit 16 v) _ _ (omega (arith, lexeme-short 23)) (decimal-short 0 (omega arith))
+option-short v = either-short ROOM (bit flag.OPTION-DEFAULT v) _ _ (lexeme-short «DEFAULT») (omega (arith, decimal-short 0 (omega arith)))
 
 element-short : (e v : ℕ) → v < 2 ^ 64 → size (elementWords e v) ≤ 64
 unfolding elementWords flagWords
 element-short e v h =
-    either-short 64 (eqb e 72) _ _ (omega (arith, rule-short v h))
-    (either-short 64 (eqb e 131) _ _ (omega (arith, option-short v))
-    (either-short 64 (eqb e 133) _ _ (omega (arith, truth-short v))
-    (either-short 64 (eqb e 134) _ _ (omega (arith, flags-short (bit 1 v) (bit 4 v) (bit 16 v)))
-    (either-short 64 (eqb e 135) _ _ (omega (arith, hex-short 8 v))
-    (either-short 64 (eqb e 136) _ _ (omega (arith, hex-short 4 v))
-    (either-short 64 (eqb e 137) _ _ (omega (arith, hex-short 2 v)) (omega (arith, decimal-short v h))))))))
+    either-short 64 (eqb e NAME) _ _ (omega (arith, rule-short v h))
+    (either-short 64 (eqb e OPTION-FLAGS) _ _ (omega (arith, option-short v))
+    (either-short 64 (eqb e TRUTH) _ _ (omega (arith, truth-short v))
+    (either-short 64 (eqb e FLAG-LIST) _ _ (omega (arith, flags-short (bit flag.READ-ONLY v) (bit flag.INTERACTIVE v) (bit flag.RESET-REQUIRED v)))
+    (either-short 64 (eqb e H8) _ _ (omega (arith, hex-short 8 v))
+    (either-short 64 (eqb e H4) _ _ (omega (arith, hex-short 4 v))
+    (either-short 64 (eqb e H2) _ _ (omega (arith, hex-short 2 v)) (omega (arith, decimal-short v h))))))))
 
 -- ---- phrases
 
@@ -127,7 +130,7 @@ module _ (shown : ℕ → Bool) (element : ℕ → ℕ → List Word) (each : (e
   unfolding phraseFrom added
   phrase-short [] skip passed = omega (arith, size-none)
   phrase-short (e ∷ p) skip passed =
-      let one : size (added shown element skip passed e) ≤ 64 = either-short 64 (eqb skip 0) _ _ (either-short 64 (eqb e 138) _ _ (omega (arith, size-none)) (either-short 64 (ltb e NAME) _ _ (omega (arith, lexeme-short e)) (each e passed))) (omega (arith, size-none)) in
+      let one : size (added shown element skip passed e) ≤ 64 = either-short 64 (eqb skip 0) _ _ (either-short 64 (eqb e MAYBE) _ _ (omega (arith, size-none)) (either-short 64 (ltb e NAME) _ _ (omega (arith, lexeme-short e)) (each e passed))) (omega (arith, size-none)) in
       let more = phrase-short p (skipAfter shown element skip e (getD p 0 0)) (passedAfter shown element skip passed e (getD p 0 0)) in
       omega (arith, size-append (added shown element skip passed e) (phraseFrom shown element p (skipAfter shown element skip e (getD p 0 0)) (passedAfter shown element skip passed e (getD p 0 0))))
 

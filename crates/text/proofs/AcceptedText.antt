@@ -8,6 +8,7 @@ use mathlib.Core.List.{List, [], _∷_, _++_}
 use lib.ListN.{length, getD}
 use Rattle.lexemes.proofs.Lists.{either-less}
 use Rattle.rows.specs.Codes as code
+use Rattle.rows.specs.Columns as column
 use Rattle.rows.specs.Table.{wholeRows, cellAt}
 use Rattle.rows.specs.Rows.{laid}
 use Rattle.rows.proofs.CellLaws.{cell-inside, cell-outside, cell-past}
@@ -95,7 +96,7 @@ module _ (s : List ℕ) (n : ℕ) (tree : Trees) where
 cells-small : (t : List ℕ) → ((i : ℕ) → getD t i 0 < 2 ^ 64) → (n c : ℕ) → cellAt t n c < 2 ^ 64
 cells-small t h n c =
     either-less n (wholeRows t)
-    (λ l. either-less c 12 (λ m. rw (← cell-inside t n c l m) (h (n * 12 + c))) (λ m. rw (cell-past t n c m) (omega arith)))
+    (λ l. either-less c column.ROW (λ m. rw (← cell-inside t n c l m) (h (n * column.ROW + c))) (λ m. rw (cell-past t n c m) (omega arith)))
     (λ l. rw (cell-outside t n c l) (omega arith))
 
 moved : {t u x y : List ℕ} {k j : ℕ} → t ≡ u → k ≡ j → x ≡ y → HasText u j y → HasText t k x

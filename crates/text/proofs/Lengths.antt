@@ -111,9 +111,9 @@ value-small : (r : List ℕ) → Small r → (s : ℕ) → valueFrom r s < 2 ^ 6
 unfolding valueFrom
 value-small r h s = number-if (ltb s GUID) _ _ (h s) (among (s - GUID))
   where
-    among : (k : ℕ) → getD (getD r 6 0 / 2 ^ 32 ∷ getD r 6 0 / 2 ^ 16 % 2 ^ 16 ∷ getD r 6 0 % 2 ^ 16
-        ∷ getD r 7 0 / 256 ^ 7 % 256 ∷ getD r 7 0 / 256 ^ 6 % 256 ∷ getD r 7 0 / 256 ^ 5 % 256 ∷ getD r 7 0 / 256 ^ 4 % 256 ∷ getD r 7 0 / 256 ^ 3 % 256 ∷ getD r 7 0 / 256 ^ 2 % 256 ∷ getD r 7 0 / 256 % 256 ∷ []) k (getD r 7 0 / 256 ^ 0 % 256) < 2 ^ 64
-    among zero = omega (arith, h 6)
+    among : (k : ℕ) → getD (getD r column.A 0 / 2 ^ 32 ∷ getD r column.A 0 / 2 ^ 16 % 2 ^ 16 ∷ getD r column.A 0 % 2 ^ 16
+        ∷ getD r column.B 0 / 256 ^ 7 % 256 ∷ getD r column.B 0 / 256 ^ 6 % 256 ∷ getD r column.B 0 / 256 ^ 5 % 256 ∷ getD r column.B 0 / 256 ^ 4 % 256 ∷ getD r column.B 0 / 256 ^ 3 % 256 ∷ getD r column.B 0 / 256 ^ 2 % 256 ∷ getD r column.B 0 / 256 % 256 ∷ []) k (getD r column.B 0 / 256 ^ 0 % 256) < 2 ^ 64
+    among zero = omega (arith, h column.A)
     among (suc zero) = omega arith
     among (suc (suc zero)) = omega arith
     among (suc (suc (suc zero))) = omega arith
@@ -147,7 +147,7 @@ Shorts (k prints f ∷ l) r = (size (f r) ≤ 4096) × Shorts l r
 
 among-short : (l : List Phrase) (r : List ℕ) → Shorts l r → size (phraseAmong l r) ≤ 4096
 among-short [] r h = omega (arith, size-none)
-among-short (k prints f ∷ l) r h = either (eqb (getD r 0 0) k) (λ e. rw (e, phraseAmong) (h .0)) (λ e. rw (e, phraseAmong) (among-short l r (h .1)))
+among-short (k prints f ∷ l) r h = either (eqb (getD r column.CODE 0) k) (λ e. rw (e, phraseAmong) (h .0)) (λ e. rw (e, phraseAmong) (among-short l r (h .1)))
 
 phrase-small : (r elements sources : List ℕ) → Small r → length elements ≤ 64 → (ws : List Word) → phraseWords elements sources r ≡ ws → size ws ≤ 4096
 phrase-small r elements sources h l ws e = omega (arith, words-short elements sources r h, ap size e)

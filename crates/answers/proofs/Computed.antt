@@ -3,7 +3,7 @@
 use mathlib.Core.List.{List, [], _∷_}
 use mathlib.Core.Bool.{cond}
 use lib.Dec.{eqb}
-use Prim.Native.Nat.{ℕ}
+use Prim.Native.Nat.{ℕ, _*_}
 use Rattle.lexemes.specs.Lexemes.{signs, reserved, lexemes}
 use Rattle.lexemes.specs.Words.{run, all, same, placeAmong, sameWord}
 use Rattle.lex.specs.Tokens.{isGap, inComment, gap, wordClass, wordToken, signClass, signToken, tokenFrom, tokenAfterGap, tokensWithin, tokensFrom, tokens, badAmong, firstBad}
@@ -11,6 +11,7 @@ use Rattle.values.specs.Numbers.{isHex}
 use Rattle.values.specs.Numbers.{valueFrom, numeral, valueAt, digitsAt}
 use Rattle.numbers.specs.Numbers.{picked, freeFrom, fill, numbered, mem}
 use Rattle.rows.specs.Codes.{member, questions, isQuestion}
+use Rattle.rows.specs.Columns.{ROW}
 use Rattle.ll1.specs.Machine as machine
 use Rattle.ll1.specs.Parser as parser
 use Rattle.grammar.specs.Grammar.{productions, rules}
@@ -39,7 +40,7 @@ outcomeIn n s =
 
 -- reading it into ten rows
 abbrev pub outcome : List ℕ → Outcome
-outcome s = outcomeIn 120 s
+outcome s = outcomeIn (10 * ROW) s
 
 -- the rows alone
 unfoldable pub rowsRead : List ℕ → List (List ℕ)

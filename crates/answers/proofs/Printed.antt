@@ -3,9 +3,10 @@
 -- Assumes nothing.
 use mathlib.Core.Path.{_≡_, refl}
 use mathlib.Core.List.{List, [], _∷_, _++_, map}
-use Prim.Native.Nat.{ℕ}
+use Prim.Native.Nat.{ℕ, _*_}
 use Prim.Native.String.{String}
 use Rattle.lexemes.specs.Lexemes.{bytes}
+use Rattle.rows.specs.Columns.{ROW}
 use Rattle.answers.specs.Resolution.{Resolution}
 use Rattle.answers.proofs.Computed.{resolvedIn, textRead}
 use Rattle.answers.proofs.Decided.{framed-bytes}
@@ -51,21 +52,21 @@ printed-as-decided = refl
 
 -- ---- texts that do not fit
 
--- the frame without a fragment has two rows, and its text 237 bytes; it is resolved through n numbers into m bytes
+-- the frame without a fragment has two rows, and its text 237 bytes; it is resolved through n rows into m bytes
 abbrev resolving : ℕ → ℕ → Resolution
-resolving n m = resolvedIn n m (framed-bytes []) .answer
+resolving n m = resolvedIn (n * ROW) m (framed-bytes []) .answer
 
 -- D59, D60: one byte too few
-pub one-byte-short : resolving 120 236 ≡ record { number = 13; place = 0; rows = 237; free = 0; bytes = 0 }
+pub one-byte-short : resolving 10 236 ≡ record { number = 13; place = 0; rows = 237; free = 0; bytes = 0 }
 unfolding resolvedIn
 one-byte-short = refl
 
 -- D61: a table and an output that are both too short
-pub both-short : resolving 12 0 ≡ record { number = 6; place = 0; rows = 2; free = 0; bytes = 0 }
+pub both-short : resolving 1 0 ≡ record { number = 6; place = 0; rows = 2; free = 0; bytes = 0 }
 unfolding resolvedIn
 both-short = refl
 
 -- D59: as many bytes as the text has
-pub just-enough : resolving 120 237 .number ≡ 0
+pub just-enough : resolving 10 237 .number ≡ 0
 unfolding resolvedIn
 just-enough = refl

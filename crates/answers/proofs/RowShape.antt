@@ -1,4 +1,4 @@
--- "A row is twelve 64-bit numbers" (document 01, Rows): each row of a derivation has twelve.
+-- "A row is twelve 64-bit numbers" (document 01, Rows): each row of a derivation has as many.
 -- Assumes nothing.
 use mathlib.Core.Path.{_≡_, refl, _∙_}
 use mathlib.Core.List.{List, [], _∷_, _++_, map}
@@ -23,7 +23,7 @@ use Rattle.answers.specs.Stages.{settled, finished}
 use Rattle.grammar.proofs.Alternatives.{everywhere, at-alternative}
 use Rattle.answers.proofs.Settling.{settling-leaves}
 
--- each has twelve numbers
+-- each has ROW numbers
 pub data Wide : List Draft → Type 0 where
   no-wide : Wide []
   add-wide : {d : Draft} {ds : List Draft} → length (d .row) ≡ ROW → Wide ds → Wide (d ∷ ds)

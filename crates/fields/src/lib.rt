@@ -1,7 +1,7 @@
 // Draft rows: of a word alone, and of a phrase from the entries that it keeps. While a source is read, the upper halves
-// of columns 3, 4 and 5 hold marks: in column 3 that of a form's number, of a question's written number and of what a
-// reference names; in column 4 that of a goto's form number, a numeric's maximum and an option's value; in column 5
-// that of a numeric's default and of an option's word DEFAULT. A mark is a place plus one, or 0 for none.
+// of the columns FIRST, SECOND and FLAGS hold marks: FIRST that of a form's number, of a question's written number and of
+// what a reference names; SECOND that of a goto's form number, a numeric's maximum and an option's value; FLAGS that of a
+// numeric's default and of an option's word DEFAULT. A mark is a place plus one, or 0 for none.
 pub mod codes;
 mod form_set;
 pub mod operators;

@@ -130,13 +130,13 @@ module _ {ws₀ t₀ ws t : List ℕ} {n at i : ℕ} (v : Numbering ws₀ t₀ n
         let yes : isQuestionRow (rowAt t i) ≡ true = sym question ∙ both .0 in
         let none : cellAt t i column.OWN ≡ 0 = sym f ∙ eqb-true q 0 (both .1) in
         let r : List ℕ = set (rowAt t i) column.OWN m in
-        let twelve : length r ≡ column.ROW = length-set (rowAt t i) column.OWN m ∙ length-row t i in
+        let wide : length r ≡ column.ROW = length-set (rowAt t i) column.OWN m ∙ length-row t i in
         let after : List (List ℕ) = rowsFrom (withRow t i r) (i + 1) (n - (i + 1)) in
-        let split : rowsFrom t i (n - i) ≡ rowAt t i ∷ after = rows-after t i n r twelve h in
+        let split : rowsFrom t i (n - i) ≡ rowAt t i ∷ after = rows-after t i n r wide h in
         rw (c, d)
         record {
           inside = omega arith;
-          long = length-with-row t i r twelve ∙ v .long;
+          long = length-with-row t i r wide ∙ v .long;
           table = v .table
               ∙ rw (split, owns-question (rowAt t i) after yes, given-next ws at (ownsIn after) none free l, with-question (rowAt t i) after m (given (withUsed ws m) (m + 1) (ownsIn after)) yes)
               (put-cons t i r (withOwns (given (withUsed ws m) (m + 1) (ownsIn after)) after));

@@ -44,13 +44,13 @@ module _ {f : List ℕ → List ℕ} {t₀ t : List ℕ} {n i : ℕ} (v : Mappin
   unfolding map
   mapping-next keeps h e =
       let r = f (rowAt t i) in
-      let twelve : length r ≡ column.ROW = keeps (rowAt t i) (length-row t i) in
+      let wide : length r ≡ column.ROW = keeps (rowAt t i) (length-row t i) in
       rw e
       record {
         inside = omega arith;
-        long = length-with-row t i r twelve ∙ v .long;
+        long = length-with-row t i r wide ∙ v .long;
         same = v .same
-            ∙ rw (rows-after t i n r twelve h) (put-cons t i r (map f (rowsFrom (withRow t i r) (i + 1) (n - (i + 1)))));
+            ∙ rw (rows-after t i n r wide h) (put-cons t i r (map f (rowsFrom (withRow t i r) (i + 1) (n - (i + 1)))));
       }
 
   pub mapping-end : n ≤ i → t ≡ put t₀ 0 (map f (rowsFrom t₀ 0 n))

@@ -14,6 +14,7 @@ use Rattle.lexemes.specs.Classes.{«name», «questionid», «step», «default
 use Rattle.lexemes.specs.Lexemes.{lexemes, signs, reserved}
 use Rattle.elements.specs.Kinds.{OPTION-FLAGS, TRUTH, FLAG-LIST, NUMERIC-FLAGS, H8, H4, H2, MAYBE, GROUP}
 use Rattle.answers.specs.Text.{Word, lexeme, decimal, truth, textOf}
+use Rattle.rows.specs.Columns as column
 use Rattle.print.specs.declared.phrase.Progress.{Progress}
 use Rattle.spellings.specs.Output.{Prints}
 use Rattle.print.specs.Phrase.{elementWords, shownBy, anyFlag, hasDefault, GUID, valueFrom, oneMore, added, skipAfter, passedAfter, phraseFrom, shownIn, elementIn}
@@ -61,12 +62,12 @@ guidParts a b =
     ∷ b / 256 ^ 7 % 256 ∷ b / 256 ^ 6 % 256 ∷ b / 256 ^ 5 % 256 ∷ b / 256 ^ 4 % 256 ∷ b / 256 ^ 3 % 256 ∷ b / 256 ^ 2 % 256 ∷ b / 256 % 256
     ∷ []
 
-pub last-byte : (r : List ℕ) (s : ℕ) → GUID + 10 ≤ s → getD r 7 0 % 256 ≡ valueFrom r s
+pub last-byte : (r : List ℕ) (s : ℕ) → GUID + 10 ≤ s → getD r column.B 0 % 256 ≡ valueFrom r s
 unfolding valueFrom
 last-byte r s h =
-    rw (le-ltb s GUID (omega arith)) (same ∙ sym (List·getD-eq-default (guidParts (getD r 6 0) (getD r 7 0)) (getD r 7 0 / 256 ^ 0 % 256) {n = s - GUID} (omega arith)))
+    rw (le-ltb s GUID (omega arith)) (same ∙ sym (List·getD-eq-default (guidParts (getD r column.A 0) (getD r column.B 0)) (getD r column.B 0 / 256 ^ 0 % 256) {n = s - GUID} (omega arith)))
   where
-    same : getD r 7 0 % 256 ≡ getD r 7 0 / 256 ^ 0 % 256
+    same : getD r column.B 0 % 256 ≡ getD r column.B 0 / 256 ^ 0 % 256
     same = omega arith
 
 -- ---- steps
@@ -110,7 +111,7 @@ module _ (r pattern : List ℕ) (p q : Progress) (h : p .next < length pattern) 
   entered : (p .next < q .next) → ((sources : List ℕ) → leftOf sources r pattern p ≡ leftOf sources r pattern q) → Entered r pattern p q
   entered f l = record { steps = λ sources o. record { added = []; prints = rw a (prints-none o (p .at)); left = l sources; further = f } }
 
-  module _ {shown : Bool} {set w : ℕ} (f : set ≡ getD r 5 0) (g : w ≡ getD pattern (p .next + 1) 0) (s : shown ≡ shownBy (anyFlag set) (hasDefault set) w) where
+  module _ {shown : Bool} {set w : ℕ} (f : set ≡ getD r column.FLAGS 0) (g : w ≡ getD pattern (p .next + 1) 0) (s : shown ≡ shownBy (anyFlag set) (hasDefault set) w) where
     fate-is : fate ≡ shown
     fate-is = sym (s ∙ rw (f, g))
 

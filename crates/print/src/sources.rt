@@ -8,24 +8,24 @@ ghost use Rattle.rows.specs.Table.{rowAt};
 ghost use Rattle.print.specs.Phrase.{GUID, valueFrom};
 
 // The columns as bytes.
-const OWN_NUMBER: u8 = 2;
+const OWN_NUMBER: u8 = OWN as u8;
 
-const FIRST_STRING: u8 = 3;
+const FIRST_STRING: u8 = FIRST as u8;
 
-const SECOND_STRING: u8 = 4;
+const SECOND_STRING: u8 = SECOND as u8;
 
-const FLAG_SET: u8 = 5;
+const FLAG_SET: u8 = FLAGS as u8;
 
-const FIRST_VALUE: u8 = 6;
+const FIRST_VALUE: u8 = A as u8;
 
-const SECOND_VALUE: u8 = 7;
+const SECOND_VALUE: u8 = B as u8;
 
-const THIRD_VALUE: u8 = 8;
+const THIRD_VALUE: u8 = C as u8;
 
-const FOURTH_VALUE: u8 = 9;
+const FOURTH_VALUE: u8 = D as u8;
 
 // No question's name is printed.
-const NO_NAME: u8 = 10;
+const NO_NAME: u8 = NAME as u8;
 
 // The sources from here on are the parts of a GUID, of 32, 16 and 16 bits, and its eight bytes, in order.
 const GUID: u8 = 64;

@@ -1,6 +1,7 @@
 // Reads a source from standard input, and prints its resolved text or a line that tells the refusal.
 use libc::STDIN_FILENO;
 use libc::STDOUT_FILENO;
+use rows::columns::ROW;
 use text::Answer;
 use text::TOO_FEW_ROWS;
 use text::TOO_LONG;
@@ -8,8 +9,8 @@ use text::TOO_LONG;
 // One more than the longest source has.
 const INPUT: usize = 65537;
 
-// The numbers of 512 rows.
-const TABLE: usize = 6144;
+// 512 rows.
+const TABLE: usize = 512 * ROW;
 
 const OUTPUT: usize = 65536;
 

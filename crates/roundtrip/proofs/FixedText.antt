@@ -1,7 +1,7 @@
 -- A resolver that prints one fixed text does not meet demand 2, although resolving its text again changes no byte: two sources that reading answers
 -- alike differ in their rows, and one text has the rows of one source only.
 -- Assumes nothing.
-use Prim.Native.Nat.{ℕ}
+use Prim.Native.Nat.{ℕ, _*_}
 use native.Mathlib.Omega.{arith}
 use mathlib.Core.Path.{_≡_, refl, sym, ap, ap₂, _∙_}
 use mathlib.Core.List.{List, []}
@@ -24,9 +24,9 @@ use Rattle.answers.proofs.Decided.{framed-bytes}
 use Rattle.roundtrip.specs.Demand2.{besidesPlaces, ReadsAgain}
 use Rattle.roundtrip.proofs.Demand2.{resolved}
 
--- the numbers of 512 rows, and the bytes of an output
+-- 512 rows, and the bytes of an output
 abbrev n : ℕ
-n = 6144
+n = 512 * column.ROW
 
 abbrev m : ℕ
 m = 65536

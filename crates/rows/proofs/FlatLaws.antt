@@ -11,7 +11,7 @@ use Rattle.rows.specs.Table.{rowAt, withRow, cellAt, withCell}
 use Rattle.rows.specs.Rows.{AreRows, no-rows, add-row}
 use Rattle.rows.proofs.RowLaws.{row-of-parts, with-row-of-parts}
 
--- ---- each has twelve numbers
+-- ---- each has ROW numbers
 
 pub are-rows-append : {rs qs : List (List ℕ)} → AreRows rs → AreRows qs → AreRows (rs ++ qs)
 are-rows-append no-rows v = v

@@ -42,7 +42,7 @@ module _ (t : List ℕ) (n : ℕ) where
   pasted-row r h l =
       rw (take-all ROW r (omega arith), append-assoc (take (n * ROW) t) r (drop (n * ROW + ROW) t)) (sym (with-row-inside r h))
 
-  -- every row has twelve numbers
+  -- every row has ROW numbers
   pub length-row : length (rowAt t n) ≡ ROW
   length-row =
       inside-or-not

@@ -1,4 +1,4 @@
--- A table of rows: the numbers that the caller lends, twelve to a row (document 01, "Rows").
+-- A table of rows: the numbers that the caller lends, ROW to a row (document 01, "Rows").
 use Prim.Native.Nat.{ℕ, _+_, _-_, _*_, _/_}
 use mathlib.Core.Bool.{cond}
 use mathlib.Core.List.{List, _++_}

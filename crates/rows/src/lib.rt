@@ -1,4 +1,4 @@
-// The table of rows: numbers that the caller lends, twelve to a row (document 01, "Rows"). Where a table has no
+// The table of rows: numbers that the caller lends, ROW to a row (document 01, "Rows"). Where a table has no
 // such row or cell, reading gives 0 and writing changes nothing.
 pub mod codes;
 pub mod columns;

@@ -1,4 +1,4 @@
--- Short texts, written by their first and their last bytes.
+-- Short texts, written by their first and their last bytes, and those between them.
 -- Assumes nothing.
 use Prim.Native.Nat.{ℕ, zero, suc, _+_, _-_, _/_, _%_, _≤_, _<_}
 use native.Mathlib.Numerals.{add-one}
@@ -6,11 +6,11 @@ use native.Mathlib.Omega.{arith}
 use mathlib.Core.Path.{_≡_, refl, sym, ap, _∙_}
 use mathlib.Core.List.{List, [], _∷_, _++_}
 use lib.ListN.{length, take, drop, set, length-set, length-append, length-drop, drop-of-length-le, getD, take-append-drop}
-use lib.Seq.{sets, sets-eq, set-set, take-at, drop-cons, getD-take, length-take-le}
+use lib.Seq.{sets, sets-eq, set-set, take-append-le, take-at, drop-cons, getD-take, length-take-le}
 use borrow.Author.Tests.{lt-ltb, le-ltb}
 use Rattle.spellings.specs.declared.texts.Spelling.{Spelling}
 use Rattle.spellings.specs.Output.{MOST, endOf, Puts}
-use Rattle.spellings.specs.Spelling.{lowBytes, part, spelt, Written}
+use Rattle.spellings.specs.Spelling.{ROOM, lowBytes, part, spelt, Written}
 use Rattle.spellings.proofs.Outputs.{sets-append, set-sets, sets-out, few-bytes, all-bytes}
 
 -- ---- the lowest bytes of a number
@@ -58,49 +58,73 @@ pub more-bytes : (a b x y at : ℕ) (o : List ℕ) {o₁ o₂ : List ℕ} → o�
 more-bytes a b x y at o e f g =
     f ∙ rw (e, g) (sym (rw (← low-append a b x) (sets-append o at (lowBytes a x) (lowBytes b (shifted a x)) ∙ rw (low-length a x))))
 
--- the first m bytes of n, then the last m
-overlap : (m n x y at : ℕ) (o : List ℕ) {o₁ o₂ : List ℕ} → m ≤ n → n ≤ m + m → o₁ ≡ sets o at (lowBytes m x) → o₂ ≡ sets o₁ (at + n - m) (lowBytes m y) → o₂ ≡ sets o at (lowBytes (n - m) x ++ lowBytes m y)
-overlap m n x y at o {o₁} {o₂} h l e f =
+-- the bytes xs, then ys, which are m, as the last ones of n
+overlap : (m n at : ℕ) (xs ys o : List ℕ) {o₁ o₂ : List ℕ} → length ys ≡ m → m ≤ n → length xs ≤ n → n ≤ length xs + m → o₁ ≡ sets o at xs → o₂ ≡ sets o₁ (at + n - m) ys → o₂ ≡ sets o at (take (n - m) xs ++ ys)
+overlap m n at xs ys o {o₁} {o₂} z h k l e f =
     let i : at + n - m ≡ at + (n - m) = omega arith in
-    let later : List ℕ = drop (n - m) (lowBytes m x) in
-    let first : lowBytes m x ≡ lowBytes (n - m) x ++ later = sym (take-append-drop (n - m) (lowBytes m x)) ∙ rw (low-take (n - m) m x (omega arith)) in
-    let len : length later ≡ m - (n - m) = length-drop (n - m) (lowBytes m x) ∙ rw (low-length m x) in
-    let split : o₁ ≡ sets (sets o at (lowBytes (n - m) x)) (at + (n - m)) later = e ∙ ap (λ (l : List ℕ). sets o at l) first ∙ sets-append o at (lowBytes (n - m) x) later ∙ rw (low-length (n - m) x) in
-    let over : sets o₁ (at + (n - m)) (lowBytes m y) ≡ sets (sets o at (lowBytes (n - m) x)) (at + (n - m)) (lowBytes m y) =
-    rw split (sets-over (sets o at (lowBytes (n - m) x)) (at + (n - m)) later (lowBytes m y) (omega (arith, len, low-length m y))) in
-    f ∙ rw i (over ∙ sym (sets-append o at (lowBytes (n - m) x) (lowBytes m y) ∙ rw (low-length (n - m) x)))
+    let early : List ℕ = take (n - m) xs in
+    let late : List ℕ = drop (n - m) xs in
+    let both : xs ≡ early ++ late = sym (take-append-drop (n - m) xs) in
+    let len : length early ≡ n - m = length-take-le (n - m) xs (omega arith) in
+    let split : o₁ ≡ sets (sets o at early) (at + (n - m)) late = e ∙ ap (λ (x : List ℕ). sets o at x) both ∙ sets-append o at early late ∙ rw len in
+    let over : sets o₁ (at + (n - m)) ys ≡ sets (sets o at early) (at + (n - m)) ys =
+    rw split (sets-over (sets o at early) (at + (n - m)) late ys (omega (arith, length-drop (n - m) xs))) in
+    f ∙ rw i (over ∙ sym (sets-append o at early ys ∙ rw len))
 
 -- ---- the text of a spelling
 
 module _ (s : Spelling) where
-  part-short : s .2 < 4 → part (s .2) ≡ 2
+  part-short : s .3 < 4 → part (s .3) ≡ 2
   unfolding part
-  part-short h = rw (lt-ltb (s .2) 4 h)
+  part-short h = rw (lt-ltb (s .3) 4 h)
 
-  part-middle : 4 ≤ s .2 → s .2 ≤ 8 → part (s .2) ≡ 4
+  part-middle : 4 ≤ s .3 → s .3 ≤ 8 → part (s .3) ≡ 4
   unfolding part
-  part-middle h l = rw (le-ltb (s .2) 4 h, lt-ltb (s .2) 9 (omega arith))
+  part-middle h l = rw (le-ltb (s .3) 4 h, lt-ltb (s .3) 9 (omega arith))
 
-  part-long : 4 ≤ s .2 → 8 < s .2 → part (s .2) ≡ 8
+  part-long : 8 < s .3 → part (s .3) ≡ 8
   unfolding part
-  part-long h l = rw (le-ltb (s .2) 4 h, le-ltb (s .2) 9 (omega arith))
+  part-long l = rw (le-ltb (s .3) 4 (omega arith), le-ltb (s .3) 9 (omega arith))
 
-  write-spelt : (m : ℕ) → part (s .2) ≡ m → m ≤ s .2 → s .2 ≤ m + m → (at : ℕ) (o : List ℕ) {o₁ o₂ : List ℕ} → o₁ ≡ sets o at (lowBytes m (s .0)) → o₂ ≡ sets o₁ (at + s .2 - m) (lowBytes m (s .1)) → Written o at (spelt s) o₂ (at + s .2)
+  -- its first bytes
+  abbrev firsts : List ℕ
+  firsts = lowBytes 8 (s .0) ++ lowBytes 8 (s .1)
+
+  firsts-length : length firsts ≡ 16
+  firsts-length = length-append (lowBytes 8 (s .0)) (lowBytes 8 (s .1)) ∙ rw (low-length 8 (s .0), low-length 8 (s .1))
+
+  -- the bytes xs, which are among its first ones, and then the last m
+  write-last : (m at : ℕ) (xs o : List ℕ) {o₁ o₂ : List ℕ} → part (s .3) ≡ m → m ≤ s .3 → length xs ≤ s .3 → s .3 ≤ length xs + m → s .3 - m ≤ 16 → take (s .3 - m) xs ≡ take (s .3 - m) firsts
+      → o₁ ≡ sets o at xs → o₂ ≡ sets o₁ (at + s .3 - m) (lowBytes m (s .2)) → Written o at (spelt s) o₂ (at + s .3)
   unfolding spelt
-  write-spelt m p h l at o e f =
+  write-last m at xs o p h k l j same e f =
       record {
-        stored = rw p (overlap m (s .2) (s .0) (s .1) at o h l e f);
-        end = rw p (omega (arith, length-append (lowBytes (s .2 - m) (s .0)) (lowBytes m (s .1)), low-length (s .2 - m) (s .0), low-length m (s .1)));
+        stored = rw (p, ← same) (overlap m (s .3) at xs (lowBytes m (s .2)) o (low-length m (s .2)) h k l e f);
+        end = rw p (omega (arith, length-append (take (s .3 - m) firsts) (lowBytes m (s .2)), length-take-le (s .3 - m) firsts (omega (arith, firsts-length)), low-length m (s .2)));
       }
 
-  pub write-short : 2 ≤ s .2 → s .2 < 4 → (at : ℕ) (o : List ℕ) {o₁ o₂ : List ℕ} → o₁ ≡ sets o at (lowBytes 2 (s .0)) → o₂ ≡ sets o₁ (at + s .2 - 2) (lowBytes 2 (s .1)) → Written o at (spelt s) o₂ (at + s .2)
-  write-short h l at o e f = write-spelt 2 (part-short l) h (omega arith) at o e f
+  write-two-parts : (m at : ℕ) (o : List ℕ) {o₁ o₂ : List ℕ} → part (s .3) ≡ m → m ≤ 8 → m ≤ s .3 → s .3 ≤ m + m → o₁ ≡ sets o at (lowBytes m (s .0)) → o₂ ≡ sets o₁ (at + s .3 - m) (lowBytes m (s .2)) → Written o at (spelt s) o₂ (at + s .3)
+  write-two-parts m at o p small h l e f =
+      let n = low-length m (s .0) in
+      let same : take (s .3 - m) (lowBytes m (s .0)) ≡ take (s .3 - m) firsts =
+      low-take (s .3 - m) m (s .0) (omega arith) ∙ sym (take-append-le (s .3 - m) (lowBytes 8 (s .0)) (lowBytes 8 (s .1)) (omega (arith, low-length 8 (s .0))) ∙ low-take (s .3 - m) 8 (s .0) (omega arith)) in
+      write-last m at (lowBytes m (s .0)) o p h (omega arith) (omega arith) (omega arith) same e f
 
-  pub write-middle : 4 ≤ s .2 → s .2 ≤ 8 → (at : ℕ) (o : List ℕ) {o₁ o₂ : List ℕ} → o₁ ≡ sets o at (lowBytes 4 (s .0)) → o₂ ≡ sets o₁ (at + s .2 - 4) (lowBytes 4 (s .1)) → Written o at (spelt s) o₂ (at + s .2)
-  write-middle h l at o e f = write-spelt 4 (part-middle h l) h (omega arith) at o e f
+  pub write-short : 2 ≤ s .3 → s .3 < 4 → (at : ℕ) (o : List ℕ) {o₁ o₂ : List ℕ} → o₁ ≡ sets o at (lowBytes 2 (s .0)) → o₂ ≡ sets o₁ (at + s .3 - 2) (lowBytes 2 (s .2)) → Written o at (spelt s) o₂ (at + s .3)
+  write-short h l at o e f = write-two-parts 2 at o (part-short l) (omega arith) h (omega arith) e f
 
-  pub write-long : 4 ≤ s .2 → 8 < s .2 → s .2 ≤ 15 → (at : ℕ) (o : List ℕ) {o₁ o₂ : List ℕ} → o₁ ≡ sets o at (lowBytes 8 (s .0)) → o₂ ≡ sets o₁ (at + s .2 - 8) (lowBytes 8 (s .1)) → Written o at (spelt s) o₂ (at + s .2)
-  write-long h l k at o e f = write-spelt 8 (part-long h l) (omega arith) (omega arith) at o e f
+  pub write-middle : 4 ≤ s .3 → s .3 ≤ 8 → (at : ℕ) (o : List ℕ) {o₁ o₂ : List ℕ} → o₁ ≡ sets o at (lowBytes 4 (s .0)) → o₂ ≡ sets o₁ (at + s .3 - 4) (lowBytes 4 (s .2)) → Written o at (spelt s) o₂ (at + s .3)
+  write-middle h l at o e f = write-two-parts 4 at o (part-middle h l) (omega arith) h (omega arith) e f
+
+  pub write-long : 8 < s .3 → s .3 ≤ 16 → (at : ℕ) (o : List ℕ) {o₁ o₂ : List ℕ} → o₁ ≡ sets o at (lowBytes 8 (s .0)) → o₂ ≡ sets o₁ (at + s .3 - 8) (lowBytes 8 (s .2)) → Written o at (spelt s) o₂ (at + s .3)
+  write-long h l at o e f = write-two-parts 8 at o (part-long h) (omega arith) (omega arith) (omega arith) e f
+
+  pub write-longest : 16 < s .3 → s .3 ≤ ROOM → (at : ℕ) (o : List ℕ) {o₁ o₂ o₃ : List ℕ} → o₁ ≡ sets o at (lowBytes 8 (s .0)) → o₂ ≡ sets o₁ (at + 8) (lowBytes 8 (s .1)) → o₃ ≡ sets o₂ (at + s .3 - 8) (lowBytes 8 (s .2))
+      → Written o at (spelt s) o₃ (at + s .3)
+  write-longest h l at o {o₁} {o₂} e f g =
+      let n = firsts-length in
+      let both : o₂ ≡ sets o at firsts = f ∙ rw e (sym (sets-append o at (lowBytes 8 (s .0)) (lowBytes 8 (s .1)) ∙ rw (low-length 8 (s .0)))) in
+      write-last 8 at firsts o (part-long (omega arith)) (omega arith) (omega arith) (omega arith) (omega arith) refl both g
 
 -- ---- a text written into a list of its own, and past the end
 

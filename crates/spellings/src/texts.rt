@@ -1,4 +1,4 @@
-// Short texts, of 2 to 15 bytes, each written by its first and its last bytes.
+// Short texts, of 2 to 24 bytes, each written by its first and its last bytes, and a long one by those between them too.
 use crate::bytes::end_of;
 use crate::bytes::put;
 ghost use mathlib.Core.Path.{_≡_};
@@ -6,14 +6,15 @@ ghost use Prim.Native.Nat.{_+_, _≤_};
 ghost use lib.ListN.{length, take};
 ghost use lib.Seq.{sets};
 ghost use Rattle.spellings.specs.Output.{Puts};
-ghost use Rattle.spellings.specs.Spelling.{lowBytes, spelt, Written};
+ghost use Rattle.spellings.specs.Spelling.{ROOM, lowBytes, spelt, Written};
 
-// A text as two numbers, the lowest byte first, and how many bytes it has: the numbers are its first and its last two
-// bytes, or four from four bytes on, or eight from nine on.
-pub struct Spelling(pub u64, pub u64, pub usize);
+// A text as three numbers, the lowest byte first, and how many bytes it has. The first and the third number are its first
+// and its last two bytes, or four from four bytes on, or eight from nine on; the second is those after its first eight, if
+// there are more than sixteen, and else 0.
+pub struct Spelling(pub u64, pub u64, pub u64, pub usize);
 
-// No short text has as many bytes.
-pub const ROOM: usize = 16;
+// Room for a short text: none has more bytes.
+pub const ROOM: usize = 24;
 
 fn write_two(out: &mut [u8], at: usize, x: u64)
     requires { ⌜ at + 2 ≤ length (now out) ⌝ }
@@ -41,22 +42,28 @@ fn write_eight(out: &mut [u8], at: usize, x: u64)
 
 // Writes a text; where it ends.
 pub fn write_text(out: &mut [u8], at: usize, s: Spelling) -> usize
-    requires { ⌜ (at + 16 ≤ length (now out)) × (2 ≤ s .2) × (s .2 ≤ 15) ⌝ }
+    requires { ⌜ (at + ROOM ≤ length (now out)) × (2 ≤ s .3) × (s .3 ≤ ROOM) ⌝ }
     ensures { λ r. ⌜ Written (now (out .entry)) at (spelt s) (now (out .exit)) r ⌝ }
 {
-    let n = s.2;
+    let n = s.3;
     if n < 4 {
         write_two(out, at, s.0);
-        write_two(out, at + n - 2, s.1);
+        write_two(out, at + n - 2, s.2);
         return at + n;
     }
     if n <= 8 {
         write_four(out, at, s.0);
-        write_four(out, at + n - 4, s.1);
+        write_four(out, at + n - 4, s.2);
+        return at + n;
+    }
+    if n <= 16 {
+        write_eight(out, at, s.0);
+        write_eight(out, at + n - 8, s.2);
         return at + n;
     }
     write_eight(out, at, s.0);
-    write_eight(out, at + n - 8, s.1);
+    write_eight(out, at + 8, s.1);
+    write_eight(out, at + n - 8, s.2);
     at + n
 }
 

@@ -14,11 +14,11 @@ ghost use lib.ListN.{length};
 ghost use Rattle.lexemes.specs.Classes.{NAME};
 ghost use Rattle.answers.specs.Text.{lexeme, textOf};
 ghost use Rattle.spellings.specs.Output.{Prints};
-ghost use Rattle.spellings.specs.Spelling.{Written};
+ghost use Rattle.spellings.specs.Spelling.{ROOM, Written};
 
 // Writes a sign or a reserved word with what stands after it; where it ends.
 fn write_word(out: &mut [u8], at: usize, class: u8) -> usize
-    requires { ⌜ (at + 16 ≤ length (now out)) × (class < NAME) ⌝ }
+    requires { ⌜ (at + ROOM ≤ length (now out)) × (class < NAME) ⌝ }
     ensures { λ r. ⌜ Written (now (out .entry)) at (textOf (lexeme class)) (now (out .exit)) r ⌝ }
 {
     write_text(out, at, spelling(class))

@@ -8,6 +8,7 @@ use mathlib.Core.List.{List, [], _∷_, _++_}
 use lib.ListN.{length, getD}
 use Rattle.lexemes.proofs.Lists.{either-less}
 use Rattle.rows.specs.Codes as code
+use Rattle.rows.specs.Columns as column
 use Rattle.rows.specs.Table.{wholeRows, cellAt}
 use Rattle.rows.specs.Rows.{laid}
 use Rattle.rows.proofs.CellLaws.{cell-inside, cell-outside, cell-past}
@@ -34,7 +35,7 @@ use Rattle.laid.proofs.Forests.{form-set-laid}
 use Rattle.laid.proofs.FinishedRows.{drafts-held}
 use Rattle.text.specs.ItemWords.{itemWords}
 use Rattle.text.specs.Answers.{HasText}
-use Rattle.text.proofs.Lengths.{size-append, opening-short, closing-short, items-short}
+use Rattle.text.proofs.Lengths.{OPENING, EACH-ROW, size-append, opening-short, closing-short, items-short}
 use Rattle.text.proofs.TreeWords.{source-words}
 
 -- ---- a table that holds the draft rows of a source's tree
@@ -59,7 +60,7 @@ module _ (t : List ℕ) (found : ℕ → List ℕ) (value : ℕ → ℕ) {tree :
         }
 
     -- and it is no longer than 8,192 bytes a row
-    whole-short : ((j k : ℕ) → cellAt t j k < 2 ^ 64) → length (textOf (wordsOf found tree)) ≤ 4096 + 8192 * length ds + 16
+    whole-short : ((j k : ℕ) → cellAt t j k < 2 ^ 64) → length (textOf (wordsOf found tree)) ≤ OPENING + EACH-ROW * length ds + 16
     unfolding whole
     whole-short small =
         let first = opening (found (whole .place)) in
@@ -84,7 +85,7 @@ module _ (s : List ℕ) (n : ℕ) (tree : Trees) where
   tree-text :
       Derives (sourceTokens s) tree
       → ((i k : ℕ) → cellAt (laid rows n) i k < 2 ^ 64)
-      → HasText (laid rows n) (length (drafts s tree)) (resolvedText tree rows) × (length (resolvedText tree rows) ≤ 4096 + 8192 * length (drafts s tree) + 16)
+      → HasText (laid rows n) (length (drafts s tree)) (resolvedText tree rows) × (length (resolvedText tree rows) ≤ OPENING + EACH-ROW * length (drafts s tree) + 16)
   unfolding drafts resolvedText
   tree-text derives small =
       let held = drafts-held s n tree derives in
@@ -95,7 +96,7 @@ module _ (s : List ℕ) (n : ℕ) (tree : Trees) where
 cells-small : (t : List ℕ) → ((i : ℕ) → getD t i 0 < 2 ^ 64) → (n c : ℕ) → cellAt t n c < 2 ^ 64
 cells-small t h n c =
     either-less n (wholeRows t)
-    (λ l. either-less c 12 (λ m. rw (← cell-inside t n c l m) (h (n * 12 + c))) (λ m. rw (cell-past t n c m) (omega arith)))
+    (λ l. either-less c column.ROW (λ m. rw (← cell-inside t n c l m) (h (n * column.ROW + c))) (λ m. rw (cell-past t n c m) (omega arith)))
     (λ l. rw (cell-outside t n c l) (omega arith))
 
 moved : {t u x y : List ℕ} {k j : ℕ} → t ≡ u → k ≡ j → x ≡ y → HasText u j y → HasText t k x

@@ -11,14 +11,15 @@ use Rattle.lexemes.specs.Words.{same}
 use Rattle.lexemes.specs.Classes.{«DEFAULT», NAME}
 use Rattle.lexemes.proofs.Lists.{either}
 use Rattle.rows.specs.Columns as column
-use Rattle.rows.specs.Table.{cellAt}
 use Rattle.rows.specs.Flags as flag
+use Rattle.rows.specs.Table.{cellAt}
 use Rattle.grammar.specs.Flags.{FlagWord, flagWords, setIn}
 use Rattle.answers.specs.Expression.{Expression, constantClass, operatorClass, level}
 use Rattle.answers.specs.Text as text
 use Rattle.answers.specs.Text.{Word, words, decimal, decimalDigits, hex, hexDigits, ruleName, lexeme, barred, flagList, truth, grouped, printed, opening, textOf, Phrase, _prints_, phraseAmong, statements}
 use Rattle.print.specs.Phrase.{setWords, optionFlags, elementWords, GUID, valueFrom, added, skipAfter, passedAfter, phraseFrom, shownIn, elementIn, phraseWords}
 use Rattle.statements.specs.Statements.{closing, expressionEnd}
+use Rattle.spellings.specs.Spelling.{ROOM}
 use Rattle.spellings.proofs.Outputs.{text-append}
 use Rattle.spellings.proofs.DigitLaws.{digits-few}
 use Rattle.spellings.proofs.SpellingLaws.{lexeme-short}
@@ -67,12 +68,22 @@ hex-short k v = size-word (48 ∷ 120 ∷ hexDigits k v) ∙ omega (arith, hex-l
 
 -- ---- elements
 
+-- no element of a phrase has more bytes; no statement's opening; and no row, its part in expressions and closings with it
+abbrev pub ELEMENT : ℕ
+ELEMENT = 160
+
+abbrev pub OPENING : ℕ
+OPENING = 64 * ELEMENT
+
+abbrev pub EACH-ROW : ℕ
+EACH-ROW = 2 * OPENING
+
 -- a list of flag words: each with its gap, and a bar
 bar-short : size (words "|") ≤ 2
 unfolding textOf same
 bar-short = omega arith
 
-barred-short : (ws : List FlagWord) → size (barred ws) ≤ 19 * length ws
+barred-short : (ws : List FlagWord) → size (barred ws) ≤ 26 * length ws
 barred-short [] = omega (arith, size-none)
 barred-short (w ∷ ws) =
     omega (
@@ -84,7 +95,7 @@ barred-short (w ∷ ws) =
       barred-short ws,
     )
 
-list-short : (ws : List FlagWord) → size (flagList ws) ≤ 19 * length ws
+list-short : (ws : List FlagWord) → size (flagList ws) ≤ 26 * length ws
 list-short [] = omega (arith, size-none)
 list-short (w ∷ ws) = omega (arith, size-append (lexeme (w .class)) (barred ws), lexeme-short (w .class), barred-short ws)
 
@@ -96,7 +107,7 @@ set-few set (w ∷ ws) = by (flag.isSet (w .value) set) (set-few set ws)
     by true h = omega arith
     by false h = omega arith
 
-flags-short : (set : ℕ) → size (setWords set) ≤ 57
+flags-short : (set : ℕ) → size (setWords set) ≤ 26 * length flagWords
 unfolding setWords
 flags-short set = omega (arith, list-short (setIn set flagWords), set-few set flagWords)
 
@@ -104,20 +115,20 @@ truth-short : (v : ℕ) → size (truth v) ≤ 6
 unfolding textOf same
 truth-short v = either (eqb v 1) (λ e. rw (e, truth) (omega arith)) (λ e. rw (e, truth) (omega arith))
 
-option-short : (v : ℕ) → size (optionFlags v) ≤ 21
+option-short : (v : ℕ) → size (optionFlags v) ≤ ROOM
 unfolding optionFlags
-option-short v = either-short 21 (flag.isSet flag.OPTION-DEFAULT v) _ _ (omega (arith, lexeme-short «DEFAULT»)) (decimal-short 0 (omega arith))
+option-short v = either-short ROOM (flag.isSet flag.OPTION-DEFAULT v) _ _ (lexeme-short «DEFAULT») (omega (arith, decimal-short 0 (omega arith)))
 
-element-short : (e v : ℕ) → v < 2 ^ 64 → size (elementWords e v) ≤ 64
+element-short : (e v : ℕ) → v < 2 ^ 64 → size (elementWords e v) ≤ ELEMENT
 unfolding elementWords
 element-short e v h =
-    either-short 64 (eqb e NAME) _ _ (omega (arith, rule-short v h))
-    (either-short 64 (eqb e OPTION-FLAGS) _ _ (omega (arith, option-short v))
-    (either-short 64 (eqb e TRUTH) _ _ (omega (arith, truth-short v))
-    (either-short 64 (isFlagList e) _ _ (omega (arith, flags-short v))
-    (either-short 64 (eqb e H8) _ _ (omega (arith, hex-short 8 v))
-    (either-short 64 (eqb e H4) _ _ (omega (arith, hex-short 4 v))
-    (either-short 64 (eqb e H2) _ _ (omega (arith, hex-short 2 v)) (omega (arith, decimal-short v h))))))))
+    either-short ELEMENT (eqb e NAME) _ _ (omega (arith, rule-short v h))
+    (either-short ELEMENT (eqb e OPTION-FLAGS) _ _ (omega (arith, option-short v))
+    (either-short ELEMENT (eqb e TRUTH) _ _ (omega (arith, truth-short v))
+    (either-short ELEMENT (isFlagList e) _ _ (omega (arith, flags-short v))
+    (either-short ELEMENT (eqb e H8) _ _ (omega (arith, hex-short 8 v))
+    (either-short ELEMENT (eqb e H4) _ _ (omega (arith, hex-short 4 v))
+    (either-short ELEMENT (eqb e H2) _ _ (omega (arith, hex-short 2 v)) (omega (arith, decimal-short v h))))))))
 
 -- ---- phrases
 
@@ -133,9 +144,9 @@ value-small : (r : List ℕ) → Small r → (s : ℕ) → valueFrom r s < 2 ^ 6
 unfolding valueFrom
 value-small r h s = number-if (ltb s GUID) _ _ (h s) (among (s - GUID))
   where
-    among : (k : ℕ) → getD (getD r 6 0 / 2 ^ 32 ∷ getD r 6 0 / 2 ^ 16 % 2 ^ 16 ∷ getD r 6 0 % 2 ^ 16
-        ∷ getD r 7 0 / 256 ^ 7 % 256 ∷ getD r 7 0 / 256 ^ 6 % 256 ∷ getD r 7 0 / 256 ^ 5 % 256 ∷ getD r 7 0 / 256 ^ 4 % 256 ∷ getD r 7 0 / 256 ^ 3 % 256 ∷ getD r 7 0 / 256 ^ 2 % 256 ∷ getD r 7 0 / 256 % 256 ∷ []) k (getD r 7 0 / 256 ^ 0 % 256) < 2 ^ 64
-    among zero = omega (arith, h 6)
+    among : (k : ℕ) → getD (getD r column.A 0 / 2 ^ 32 ∷ getD r column.A 0 / 2 ^ 16 % 2 ^ 16 ∷ getD r column.A 0 % 2 ^ 16
+        ∷ getD r column.B 0 / 256 ^ 7 % 256 ∷ getD r column.B 0 / 256 ^ 6 % 256 ∷ getD r column.B 0 / 256 ^ 5 % 256 ∷ getD r column.B 0 / 256 ^ 4 % 256 ∷ getD r column.B 0 / 256 ^ 3 % 256 ∷ getD r column.B 0 / 256 ^ 2 % 256 ∷ getD r column.B 0 / 256 % 256 ∷ []) k (getD r column.B 0 / 256 ^ 0 % 256) < 2 ^ 64
+    among zero = omega (arith, h column.A)
     among (suc zero) = omega arith
     among (suc (suc zero)) = omega arith
     among (suc (suc (suc zero))) = omega arith
@@ -147,16 +158,16 @@ value-small r h s = number-if (ltb s GUID) _ _ (h s) (among (s - GUID))
     among (suc (suc (suc (suc (suc (suc (suc (suc (suc zero))))))))) = omega arith
     among (suc (suc (suc (suc (suc (suc (suc (suc (suc (suc k)))))))))) = omega arith
 
-module _ (shown : ℕ → Bool) (element : ℕ → ℕ → List Word) (each : (e k : ℕ) → size (element e k) ≤ 64) where
-  phrase-short : (p : List ℕ) (skip passed : ℕ) → size (phraseFrom shown element p skip passed) ≤ 64 * length p
+module _ (shown : ℕ → Bool) (element : ℕ → ℕ → List Word) (each : (e k : ℕ) → size (element e k) ≤ ELEMENT) where
+  phrase-short : (p : List ℕ) (skip passed : ℕ) → size (phraseFrom shown element p skip passed) ≤ ELEMENT * length p
   unfolding phraseFrom added
   phrase-short [] skip passed = omega (arith, size-none)
   phrase-short (e ∷ p) skip passed =
-      let one : size (added shown element skip passed e) ≤ 64 = either-short 64 (eqb skip 0) _ _ (either-short 64 (eqb e MAYBE) _ _ (omega (arith, size-none)) (either-short 64 (ltb e NAME) _ _ (omega (arith, lexeme-short e)) (each e passed))) (omega (arith, size-none)) in
+      let one : size (added shown element skip passed e) ≤ ELEMENT = either-short ELEMENT (eqb skip 0) _ _ (either-short ELEMENT (eqb e MAYBE) _ _ (omega (arith, size-none)) (either-short ELEMENT (ltb e NAME) _ _ (omega (arith, lexeme-short e)) (each e passed))) (omega (arith, size-none)) in
       let more = phrase-short p (skipAfter shown element skip e (getD p 0 0)) (passedAfter shown element skip passed e (getD p 0 0)) in
       omega (arith, size-append (added shown element skip passed e) (phraseFrom shown element p (skipAfter shown element skip e (getD p 0 0)) (passedAfter shown element skip passed e (getD p 0 0))))
 
-pub words-short : (p sources r : List ℕ) → Small r → size (phraseWords p sources r) ≤ 64 * length p
+pub words-short : (p sources r : List ℕ) → Small r → size (phraseWords p sources r) ≤ ELEMENT * length p
 unfolding phraseWords
 words-short p sources r h = phrase-short (shownIn r) (elementIn sources r) (λ e k. element-short e (valueFrom r (getD sources k 0)) (value-small r h (getD sources k 0))) p 0 0
 
@@ -165,16 +176,16 @@ words-short p sources r h = phrase-short (shownIn r) (elementIn sources r) (λ e
 -- each phrase of a list is short
 abbrev Shorts : List Phrase → List ℕ → Type 0
 Shorts [] r = Unit {0}
-Shorts (k prints f ∷ l) r = (size (f r) ≤ 4096) × Shorts l r
+Shorts (k prints f ∷ l) r = (size (f r) ≤ OPENING) × Shorts l r
 
-among-short : (l : List Phrase) (r : List ℕ) → Shorts l r → size (phraseAmong l r) ≤ 4096
+among-short : (l : List Phrase) (r : List ℕ) → Shorts l r → size (phraseAmong l r) ≤ OPENING
 among-short [] r h = omega (arith, size-none)
-among-short (k prints f ∷ l) r h = either (eqb (getD r 0 0) k) (λ e. rw (e, phraseAmong) (h .0)) (λ e. rw (e, phraseAmong) (among-short l r (h .1)))
+among-short (k prints f ∷ l) r h = either (eqb (getD r column.CODE 0) k) (λ e. rw (e, phraseAmong) (h .0)) (λ e. rw (e, phraseAmong) (among-short l r (h .1)))
 
-phrase-small : (r elements sources : List ℕ) → Small r → length elements ≤ 64 → (ws : List Word) → phraseWords elements sources r ≡ ws → size ws ≤ 4096
+phrase-small : (r elements sources : List ℕ) → Small r → length elements ≤ 64 → (ws : List Word) → phraseWords elements sources r ≡ ws → size ws ≤ OPENING
 phrase-small r elements sources h l ws e = omega (arith, words-short elements sources r h, ap size e)
 
-form-set-short : (r : List ℕ) → Small r → size (text.formSet r) ≤ 4096
+form-set-short : (r : List ℕ) → Small r → size (text.formSet r) ≤ OPENING
 form-set-short r h =
     omega (
       arith,
@@ -188,7 +199,7 @@ condition-words-short : (size (words "suppressif") ≤ 16) × (size (words "gray
 unfolding textOf same
 condition-words-short = (omega arith, omega arith, omega arith)
 
-pub opening-short : (r : List ℕ) → Small r → size (opening r) ≤ 4096
+pub opening-short : (r : List ℕ) → Small r → size (opening r) ≤ OPENING
 opening-short r h =
     among-short statements r (
       form-set-short r h,
@@ -281,7 +292,7 @@ module _ (found : ℕ → List ℕ) (t : List ℕ) (small : (i c : ℕ) → cell
   inner-short inside-plain k = omega (arith, size-none)
   inner-short (inside-expressed {e = e} s) k = omega (arith, size-append (printed found 0 e) (expressionEnd k), expression-short s 0, end-short k)
 
-  pub items-short : {count parent i m : ℕ} {items : Items} → Laid t count found parent i items m → size (itemWords found items) + 8192 * i ≤ 8192 * m
+  pub items-short : {count parent i m : ℕ} {items : Items} → Laid t count found parent i items m → size (itemWords found items) + EACH-ROW * i ≤ EACH-ROW * m
   unfolding itemWords
   items-short laid-done = omega (arith, size-none)
   items-short (laid-item {i = i} {j = j} {k = k} {m = m} {p = q} {inner = x} {within = within} {later = later} e g h s n a b d) =

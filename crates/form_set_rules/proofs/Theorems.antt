@@ -185,7 +185,8 @@ module _ (s : List ℕ) (tree : Trees) (derives : Derives (sourceTokens s) tree)
       -- The rules' values are found in any order that follows the steps, with whatever answers and maps of kinds, in whatever is lent for places and
       -- values.
       module _ (deep : NowhereTooDeep tree)
-          {order : List ℕ} (follows : InOrder (ruleSteps (rows s tree)) (length (sourceRules s tree)) order) (whole : length (sourceRules s tree) ≤ length order)
+          {order : List ℕ} (follows : InOrder (ruleSteps (rows s tree)) (length (sourceRules s tree)) order)
+          (whole : length (sourceRules s tree) ≤ length order)
           (n : ℕ) (lent : List ℕ) (long : 256 ≤ length lent) (values : List ℕ) (fits : length (sourceRules s tree) < room values)
           (answers gotos checkboxes : List ℕ) (worth : ℕ → Scalar) (solves : Solves (sourceRules s tree) (questionValue answers gotos checkboxes) worth) where
         -- each is what the rule is worth

@@ -1,0 +1,2 @@
+-- The definitions that the contracts of `table_screen` cite.
+pub mod TableScreen

@@ -5,3 +5,4 @@ pub mod CallLaws
 pub mod Questions
 -- Its screen.
 pub mod Theorems
+pub mod Examples

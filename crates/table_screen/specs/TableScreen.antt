@@ -23,11 +23,11 @@ module _ (t : List ℕ) (count : ℕ) where
   abbrev pub ruleCount : ℕ
   ruleCount = length (tableOwns isRuleRow t count)
 
-  -- all of them, 255 at the most, each after those that it refers to
+  -- all of them, 255 at the most; without circles each comes after those that it refers to
   unfoldable pub ruleOrder : List ℕ
   ruleOrder = let n = last ruleCount in take n (orderOf (tableSteps t count) n)
 
-  -- the row of each, by its number
+  -- the row of each, by its number; 0 where there is none
   unfoldable pub rulePlaces : List ℕ
   rulePlaces = placedRows t (replicate 256 0) 0 count
 

@@ -44,7 +44,7 @@ fn count_rules(table: &[u64], count: usize) -> u64
     rules
 }
 
-// The rules 1 to n, each after those that it refers to, and then 0.
+// The rules 1 to n, without circles each after those that it refers to, and then 0.
 fn order_rules(table: &[u64], count: usize, n: u64) -> PerRule
     ensures { λ r. ⌜ r ≡ orderOf (tableSteps (now (table .entry)) count) n ⌝ }
 {
@@ -56,7 +56,7 @@ fn order_rules(table: &[u64], count: usize, n: u64) -> PerRule
 
 // ---- their values
 
-// The row of each rule, by its number.
+// The row of each rule, by its number; 0 where there is none.
 fn find_places(table: &[u64], count: usize) -> PerRule
     ensures { λ r. ⌜ r ≡ rulePlaces (now (table .entry)) count ⌝ }
 {

@@ -12,7 +12,7 @@ place-rows-requires c κs = search needs
 
 returns : tie.Need-returns
 unfolding rulePlaces
-returns c = search needs
+returns c = c .before .place-rows .ensures
 
 pub find-places-spec : {M : Type 1} → statement M
 find-places-spec = tie.close (tie.spec slice-aggregate-place-rows place-rows-requires returns)

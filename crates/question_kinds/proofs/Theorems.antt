@@ -3,20 +3,20 @@
 use Prim.Native.Nat.{ℕ, zero, suc, _+_, _≤_, _<_}
 use native.Mathlib.Decide.{ℕ-discrete}
 use native.Mathlib.Omega.{arith}
-use mathlib.Core.Path.{_≡_, refl, sym, ap, _∙_}
-use mathlib.Core.Bool.{Bool, true, false, true≢false, not, cond, _&&_, _||_, or-false, or-true}
-use mathlib.Core.Logic.{_↔_, ⊎-elim}
+use mathlib.Core.Path.{_≡_, refl, sym, _∙_}
+use mathlib.Core.Bool.{Bool, true, false, true≢false, not, cond, _||_, or-false, or-true}
+use mathlib.Core.Logic.{_↔_}
 use mathlib.Core.List.{List, [], _∷_, _++_}
 use borrow.Author.Tests.{eq-eqb, eqb-true, not-true}
 use lib.Dec.{eqb}
-use Rattle.numbers.specs.Numbers.{emptyMap, used, isNumber, mem, borne, withAllUsed, distinct}
+use Rattle.numbers.specs.Numbers.{used, isNumber, mem, distinct}
 use Rattle.numbers.proofs.Lists.{mem-append}
 use Rattle.numbers.proofs.Ranges.{and-yes}
 use Rattle.rows.specs.Codes.{isQuestion}
 use Rattle.rows.specs.Columns as column
-use Rattle.rows.specs.Table.{rowAt, cellAt}
+use Rattle.rows.specs.Table.{cellAt}
 use Rattle.rows.specs.Rows.{rowsFrom}
-use Rattle.question_kinds.specs.Kinds.{ownIn, ownsIn, ownAt, tableOwns, Bears}
+use Rattle.question_kinds.specs.Kinds.{ownIn, ownsIn, ownAt, tableOwns, kindMap, Bears}
 use Rattle.question_kinds.proofs.Marks.{kinds-held}
 
 or-yes : {P : Type 0} (a b : Bool) → (a || b) ≡ true → (a ≡ true → P) → (b ≡ true → P) → P
@@ -84,9 +84,9 @@ module _ (test : ℕ → Bool) (t : List ℕ) where
     )
 
     -- a map that was empty holds a question number exactly where a row of these kinds bears it
-    pub kind-held : isNumber k ≡ true → (used (withAllUsed emptyMap (tableOwns test t count)) k ≡ true) ↔ Bears test t count k
+    pub kind-held : isNumber k ≡ true → (used (kindMap test t count) k ≡ true) ↔ Bears test t count k
     kind-held e =
-        let same : used (withAllUsed emptyMap (tableOwns test t count)) k ≡ mem k (tableOwns test t count) = kinds-held test t count k ∙ rw e in
+        let same : used (kindMap test t count) k ≡ mem k (tableOwns test t count) = kinds-held test t count k ∙ rw e in
         rw same mem-bears
 
   -- ---- numbers of their own
@@ -140,14 +140,14 @@ pub kind-told :
     (kind : ℕ → Bool) → ((c : ℕ) → kind c ≡ true → isQuestion c ≡ true)
     → (t : List ℕ) (count : ℕ) → distinct (tableOwns isQuestion t count) ≡ true
     → (i : ℕ) → i < count → isQuestion (cellAt t i column.CODE) ≡ true → isNumber (cellAt t i column.OWN) ≡ true
-    → used (withAllUsed emptyMap (tableOwns kind t count)) (cellAt t i column.OWN) ≡ kind (cellAt t i column.CODE)
+    → used (kindMap kind t count) (cellAt t i column.OWN) ≡ kind (cellAt t i column.CODE)
 kind-told kind asks t count h i l q e = go (kind (cellAt t i column.CODE)) refl (used map own) refl
   where
     own : ℕ
     own = cellAt t i column.OWN
 
     map : List ℕ
-    map = withAllUsed emptyMap (tableOwns kind t count)
+    map = kindMap kind t count
 
     go : (b : Bool) → kind (cellAt t i column.CODE) ≡ b → (a : Bool) → used map own ≡ a → a ≡ b
     go true f true g = refl

@@ -6,6 +6,7 @@ use mathlib.Core.Bool.{Bool, true, cond}
 use mathlib.Core.List.{List, [], _∷_, _++_}
 use lib.Dec.{eqb}
 use lib.ListN.{getD}
+use Rattle.numbers.specs.Numbers.{emptyMap, withAllUsed}
 use Rattle.rows.specs.Codes as code
 use Rattle.rows.specs.Columns as column
 use Rattle.rows.specs.Table.{rowAt, cellAt}
@@ -34,6 +35,10 @@ module _ (test : ℕ → Bool) where
 
   abbrev pub tableOwns : List ℕ → ℕ → List ℕ
   tableOwns t count = ownsIn (rowsFrom t 0 count)
+
+  -- the map of these numbers alone
+  abbrev pub kindMap : List ℕ → ℕ → List ℕ
+  kindMap t count = withAllUsed emptyMap (tableOwns t count)
 
   -- one of the first `count` rows is of these kinds, and k is its own number
   pub record Bears (t : List ℕ) (count k : ℕ) : Type 0 where

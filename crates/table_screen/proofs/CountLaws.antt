@@ -1,10 +1,8 @@
 -- How many rows are rules': of one row, as the loop goes on, and of the rows of a source's statements.
 -- Assumes nothing.
 use Prim.Native.Nat.{ℕ, zero, suc, _+_, _-_, _≤_, _<_}
-use native.Mathlib.Decide.{ℕ-discrete}
-use native.Mathlib.Numerals.{add-one}
 use native.Mathlib.Omega.{arith}
-use mathlib.Core.Path.{_≡_, refl, sym, ap, _∙_}
+use mathlib.Core.Path.{_≡_, refl, sym, _∙_}
 use mathlib.Core.Bool.{Bool, true, false, true≢false, cond}
 use mathlib.Core.Logic.{_≢_}
 use mathlib.Core.List.{List, [], _∷_}
@@ -17,7 +15,6 @@ use Rattle.rows.specs.Rows.{rowsFrom}
 use Rattle.rows.proofs.RunLaws.{rows-next, rows-end}
 use Rattle.question_kinds.specs.Kinds.{ownIn, ownsIn, ownAt}
 use Rattle.formulas.specs.Formula.{Formula}
-use Rattle.laid.specs.Laid.{Stretch}
 use Rattle.form_set_rules.proofs.RuleRows.{Statement, RuleRows, no-rows, other-row, rule-row}
 use Rattle.form_set_rules.proofs.Numbers.{rule-plain}
 use Rattle.table_screen.specs.TableScreen.{isRuleRow, ruleCount}

@@ -1,14 +1,14 @@
 -- What the questions of an accepted source answer, by the maps that `question_kinds::mark_rows` makes of its rows (document 02, W-202).
 -- Assumes nothing.
 use Prim.Native.Nat.{ℕ, _≤_, _<_}
-use mathlib.Core.Path.{_≡_, refl, sym, ap, _∙_}
-use mathlib.Core.Bool.{Bool, true, cond}
+use mathlib.Core.Path.{_≡_, refl, sym, _∙_}
+use mathlib.Core.Bool.{Bool, true}
 use mathlib.Core.Logic.{_↔_}
 use mathlib.Core.List.{List, [], _∷_}
 use borrow.Author.Tests.{eqb-true}
 use lib.ListN.{length, getD}
 use Rattle.lexemes.proofs.Lists.{either}
-use Rattle.numbers.specs.Numbers.{emptyMap, isNumber, used, mem, withAllUsed}
+use Rattle.numbers.specs.Numbers.{isNumber, used}
 use Rattle.numbers.proofs.Ranges.{and-yes}
 use Rattle.numbers.proofs.Numbering.{Own}
 use Rattle.rows.specs.Codes.{GOTO, CHECKBOX, member, questions, isQuestion}
@@ -22,12 +22,12 @@ use Rattle.answers.specs.Demand3.{Sound, questionNumbers}
 use Rattle.answers.proofs.Demand3.{accepted-passes, counts-exactly, rows-exactly, numbers-exactly}
 use Rattle.answers.proofs.Answers.{passes-grammatical}
 use Rattle.again.proofs.SettledRows.{own}
-use Rattle.operators.specs.declared.Scalar.{Scalar}
 use Rattle.saved_answers.specs.Answers.{savedFor, byKind, answered}
-use Rattle.question_kinds.specs.Kinds.{isGoto, isCheckbox, ownIn, ownsIn, tableOwns, Bears}
+use Rattle.question_kinds.specs.Kinds.{isGoto, isCheckbox, ownIn, ownsIn, tableOwns}
 use Rattle.question_kinds.proofs.Marks.{kinds-held}
 use Rattle.question_kinds.proofs.Theorems.{mem-bears, kind-held, kind-told}
 use Rattle.form_set_rules.proofs.Tables.{table, count, rows-start}
+use Rattle.table_screen.specs.Questions.{mapRead, BearsRead, gotosRead, checkboxesRead, questionsRead}
 
 -- gotos and checkboxes are questions
 asks : (k : ℕ) → isQuestion k ≡ true → (c : ℕ) → c ≡ k → isQuestion c ≡ true
@@ -55,10 +55,6 @@ module _ (s : List ℕ) (n : ℕ) (accepted : readAnswer s n .number ≡ 0) (tre
   pub count-is : readAnswer s n .rows ≡ count s tree
   count-is = rw (counts-exactly s n accepted tree (sound .derives))
 
-  -- the map of the questions of a kind, from the empty one
-  abbrev pub mapRead : (ℕ → Bool) → List ℕ
-  mapRead kind = withAllUsed emptyMap (tableOwns kind (readTable s n) (readAnswer s n .rows))
-
   -- every question has a number of its own, of 1 to 65,535
   pub numbers-own : Own (tableOwns isQuestion (readTable s n) (readAnswer s n .rows))
   numbers-own =
@@ -66,53 +62,50 @@ module _ (s : List ℕ) (n : ℕ) (accepted : readAnswer s n .number ≡ 0) (tre
       rw (table-is, count-is, rows-start s tree (sound .derives) n, numbers-are (finished s (drafts s tree)), numbers-exactly s tree (sound .derives))
       (own s tree sound short)
 
-  -- the map of gotos holds the own numbers of gotos' rows, that of checkboxes those of checkboxes' rows, and that of all questions those of all
+  question-number : (k : ℕ) → BearsRead s n isQuestion k → isNumber k ≡ true
+  question-number k b = numbers-own .within k (mem-bears isQuestion (readTable s n) (readAnswer s n .rows) k .1 b)
+
+  -- ---- which numbers the maps hold
+
+  -- that of a kind of questions: the own numbers of the rows of this kind
   pub number-held :
       (kind : ℕ → Bool) → ((c : ℕ) → kind c ≡ true → isQuestion c ≡ true)
-      → (k : ℕ) → (used (mapRead kind) k ≡ true) ↔ Bears kind (readTable s n) (readAnswer s n .rows) k
+      → (k : ℕ) → (used (mapRead s n kind) k ≡ true) ↔ BearsRead s n kind k
   number-held kind asks k = (
     λ h.
-        let e = and-yes (isNumber k) (mem k (tableOwns kind (readTable s n) (readAnswer s n .rows)))
-        (sym (kinds-held kind (readTable s n) (readAnswer s n .rows) k) ∙ h) in
+        let e = and-yes (isNumber k) _ (sym (kinds-held kind (readTable s n) (readAnswer s n .rows) k) ∙ h) in
         mem-bears kind (readTable s n) (readAnswer s n .rows) k .0 (e .1),
     λ b.
-        let question : Bears isQuestion (readTable s n) (readAnswer s n .rows) k =
-        record { row = b .row; inside = b .inside; kind = asks _ (b .kind); own = b .own } in
-        kind-held kind (readTable s n) (readAnswer s n .rows) k
-        (numbers-own .within k (mem-bears isQuestion (readTable s n) (readAnswer s n .rows) k .1 question)) .1 b,
+        let question : BearsRead s n isQuestion k = record { row = b .row; inside = b .inside; kind = asks _ (b .kind); own = b .own } in
+        kind-held kind (readTable s n) (readAnswer s n .rows) k (question-number k question) .1 b,
   )
 
-  pub goto-held : (k : ℕ) → (used (mapRead isGoto) k ≡ true) ↔ Bears isGoto (readTable s n) (readAnswer s n .rows) k
+  pub goto-held : (k : ℕ) → (used (gotosRead s n) k ≡ true) ↔ BearsRead s n isGoto k
   goto-held = number-held isGoto goto-asks
 
-  pub checkbox-held : (k : ℕ) → (used (mapRead isCheckbox) k ≡ true) ↔ Bears isCheckbox (readTable s n) (readAnswer s n .rows) k
+  pub checkbox-held : (k : ℕ) → (used (checkboxesRead s n) k ≡ true) ↔ BearsRead s n isCheckbox k
   checkbox-held = number-held isCheckbox checkbox-asks
 
-  pub question-held : (k : ℕ) → (used (mapRead isQuestion) k ≡ true) ↔ Bears isQuestion (readTable s n) (readAnswer s n .rows) k
+  -- "a number no question bears" (refusal 15) is one that the map of all questions does not hold
+  pub question-held : (k : ℕ) → (used (mapRead s n isQuestion) k ≡ true) ↔ BearsRead s n isQuestion k
   question-held = number-held isQuestion (λ c e. e)
 
-  -- what each question answers by these maps
-  abbrev pub questionsRead : List ℕ → ℕ → Scalar
-  questionsRead answers = answered answers (mapRead isGoto) (mapRead isCheckbox)
+  -- ---- what questions answer
 
   -- "a checkbox answers FALSE for 0 and TRUE otherwise, a goto or a missing answer is undefined": by the code of the question's own row
-  pub question-answers :
-      (answers : List ℕ) (i : ℕ) → i < readAnswer s n .rows → isQuestion (cellAt (readTable s n) i column.CODE) ≡ true
-      → questionsRead answers (cellAt (readTable s n) i column.OWN)
-      ≡ byKind (isGoto (cellAt (readTable s n) i column.CODE)) (isCheckbox (cellAt (readTable s n) i column.CODE))
-      (savedFor (cellAt (readTable s n) i column.OWN) answers)
-  unfolding answered
-  question-answers answers i h q = rw (told isGoto goto-asks, told isCheckbox checkbox-asks)
-    where
-      t : List ℕ
-      t = readTable s n
+  module _ (i : ℕ) (inside : i < readAnswer s n .rows) where
+    abbrev code : ℕ
+    code = cellAt (readTable s n) i column.CODE
 
-      bears : Bears isQuestion (readTable s n) (readAnswer s n .rows) (cellAt (readTable s n) i column.OWN)
-      bears = record { row = i; inside = h; kind = q; own = refl }
+    abbrev number : ℕ
+    number = cellAt (readTable s n) i column.OWN
 
-      told :
-          (kind : ℕ → Bool) → ((c : ℕ) → kind c ≡ true → isQuestion c ≡ true)
-          → used (mapRead kind) (cellAt (readTable s n) i column.OWN) ≡ kind (cellAt (readTable s n) i column.CODE)
-      told kind asks =
-          kind-told kind asks (readTable s n) (readAnswer s n .rows) (numbers-own .once) i h q
-          (numbers-own .within _ (mem-bears isQuestion (readTable s n) (readAnswer s n .rows) _ .1 bears))
+    pub question-answers :
+        isQuestion code ≡ true → (answers : List ℕ) → questionsRead s n answers number ≡ byKind (isGoto code) (isCheckbox code) (savedFor number answers)
+    unfolding answered
+    question-answers q answers = rw (told isGoto goto-asks, told isCheckbox checkbox-asks)
+      where
+        told : (kind : ℕ → Bool) → ((c : ℕ) → kind c ≡ true → isQuestion c ≡ true) → used (mapRead s n kind) number ≡ kind code
+        told kind asks =
+            kind-told kind asks (readTable s n) (readAnswer s n .rows) (numbers-own .once) i inside q
+            (question-number number (record { row = i; inside = inside; kind = q; own = refl }))

@@ -3,7 +3,7 @@
 -- Assumes nothing.
 use Prim.Native.Nat.{ℕ, _/_, _%_, _≤_, _<_}
 use native.Mathlib.Omega.{arith}
-use mathlib.Core.Path.{_≡_, refl, sym, _∙_}
+use mathlib.Core.Path.{_≡_, refl}
 use mathlib.Core.Bool.{true, false}
 use mathlib.Core.Logic.{_↔_}
 use mathlib.Core.List.{List}
@@ -19,11 +19,9 @@ use Rattle.numbers.specs.Numbers.{mem}
 use Rattle.circles.specs.Circles.{NoCircle, last}
 use Rattle.ranks.specs.Ranks.{orderOf}
 use Rattle.ranks.proofs.Theorems.{steps-size, steps-ordered}
-use Rattle.question_kinds.specs.Kinds.{isGoto, isCheckbox}
 use Rattle.rule_steps.specs.Steps.{ruleSteps}
 use Rattle.stored.specs.Stored.{room, valueAt}
 use Rattle.saved_answers.specs.Answers.{Ascending, answered}
-use Rattle.saved_answers.specs.Search.{questionValue}
 use Rattle.saved_answers.proofs.Theorems.{value-answered}
 use Rattle.formulas.specs.Formula.{Formula}
 use Rattle.meaning.specs.References.{references}
@@ -39,9 +37,10 @@ use Rattle.form_set_rules.specs.Rules.{sourceRules}
 use Rattle.form_set_rules.proofs.Tables.{rows-start, rules-laid}
 use Rattle.form_set_rules.proofs.Tables as source
 use Rattle.form_set_rules.proofs.Theorems as rules
-use Rattle.table_screen.specs.TableScreen.{ruleCount, ruleOrder, rulePlaces, noValues, ruleValues, tableScreen}
+use Rattle.table_screen.specs.TableScreen.{ruleOrder, rulePlaces, noValues, ruleValues, tableScreen}
+use Rattle.table_screen.specs.Questions.{gotosRead, checkboxesRead, questionsRead}
 use Rattle.table_screen.proofs.CountLaws.{rows-counted}
-use Rattle.table_screen.proofs.Questions.{table-is, count-is, mapRead, questionsRead}
+use Rattle.table_screen.proofs.Questions.{table-is, count-is}
 
 -- ---- the room that is lent
 
@@ -160,33 +159,26 @@ module _ (s : List ℕ) (n : ℕ) (accepted : readAnswer s n .number ≡ 0) (tre
       unfolding tableScreen
       other-row = rows.other-row s n accepted tree sound answers gotos checkboxes values ascending worth valued row
 
-  -- ---- the same by the maps that `question_kinds::mark_rows` makes of its rows from empty ones
+  -- ---- the same by the maps of the source's own rows: they hold the numbers of its gotos and of its checkboxes (Questions: `goto-held`,
+  -- `checkbox-held`), and each question answers by the code of its row (`question-answers`)
 
-  -- the numbers of its gotos and of its checkboxes (Questions: `goto-held`, `checkbox-held`)
-  abbrev pub gotosRead : List ℕ
-  gotosRead = mapRead s n accepted tree sound isGoto
-
-  abbrev pub checkboxesRead : List ℕ
-  checkboxesRead = mapRead s n accepted tree sound isCheckbox
-
-  -- each question answers by the code of its own row (Questions: `question-answers`)
   module _ (answers : List ℕ) (ascending : Ascending answers)
-      (worth : ℕ → Scalar) (solves : Solves (sourceRules s tree) (questionsRead s n accepted tree sound answers) worth) where
-    abbrev asked : ℕ → Scalar
-    asked = questionsRead s n accepted tree sound answers
+      (worth : ℕ → Scalar) (solves : Solves (sourceRules s tree) (questionsRead s n answers) worth) where
+    abbrev pub sourceBytes : List ℕ
+    sourceBytes = tableScreen answers (gotosRead s n) (checkboxesRead s n) (readTable s n) (readAnswer s n .rows)
 
-    abbrev pub screenBytes : List ℕ
-    screenBytes = tableScreen answers gotosRead checkboxesRead (readTable s n) (readAnswer s n .rows)
-
-    pub source-shown : screenBytes ≡ bytes asked worth false false screen
-    source-shown = table-shown answers gotosRead checkboxesRead ascending worth solves
+    pub source-shown : sourceBytes ≡ bytes (questionsRead s n answers) worth false false screen
+    source-shown = table-shown answers (gotosRead s n) (checkboxesRead s n) ascending worth solves
 
     module _ (row : ℕ) where
-      pub source-hidden : ItemAt row screen → (getD screenBytes row 0 % 2 ≡ 1) ↔ SomeTrue asked worth hides row screen
-      source-hidden = item-hidden answers gotosRead checkboxesRead ascending worth solves row
+      pub source-hidden : ItemAt row screen → (getD sourceBytes row 0 % 2 ≡ 1) ↔ SomeTrue (questionsRead s n answers) worth hides row screen
+      source-hidden = item-hidden answers (gotosRead s n) (checkboxesRead s n) ascending worth solves row
 
-      pub source-grey : ItemAt row screen → (getD screenBytes row 0 / 2 ≡ 1) ↔ SomeTrue asked worth greys row screen
-      source-grey = item-grey answers gotosRead checkboxesRead ascending worth solves row
+      pub source-grey : ItemAt row screen → (getD sourceBytes row 0 / 2 ≡ 1) ↔ SomeTrue (questionsRead s n answers) worth greys row screen
+      source-grey = item-grey answers (gotosRead s n) (checkboxesRead s n) ascending worth solves row
 
-      pub source-other : (ItemAt row screen → ⊥) → getD screenBytes row 0 ≡ 0
-      source-other = other-row answers gotosRead checkboxesRead ascending worth solves row
+      pub source-small : ItemAt row screen → getD sourceBytes row 0 < 4
+      source-small = item-small answers (gotosRead s n) (checkboxesRead s n) ascending worth solves row
+
+      pub source-other : (ItemAt row screen → ⊥) → getD sourceBytes row 0 ≡ 0
+      source-other = other-row answers (gotosRead s n) (checkboxesRead s n) ascending worth solves row

@@ -108,13 +108,16 @@ closure-same r s e zero a b h l m = e a b l m
 closure-same r s e (suc k) a b h l m =
     rw (closure-same r s e k a b (omega arith) l m, closure-same r s e k a k (omega arith) l h, closure-same r s e k k b (omega arith) h m)
 
+-- the closed map has the paths of one or more steps, whatever the steps are
+pub closed-paths :
+    {ws : List ℕ} {l : List Step} {n : ℕ} {after : List ℕ} → Maps ws l → Closed ws n after
+    → (a b : ℕ) → a ≤ last n → b < 256 → hasStep after a b ≡ closure (leads l) (suc (last n)) a b
+closed-paths {ws} {l} {n} v c a b h g =
+    c .same a b h g ∙ closure-same (hasStep ws) (leads l) (v .same) (suc (last n)) a b (omega arith) (omega arith) g
+
 module _ {ws : List ℕ} {l : List Step} {n : ℕ} {after : List ℕ} (v : Maps ws l) (w : Within l n) (c : Closed ws n after) where
-  -- the closed map has the paths of one or more steps
   pub closed-steps : (a b : ℕ) → a ≤ n → b < 256 → hasStep after a b ≡ closure (leads l) (suc n) a b
-  closed-steps a b h g =
-      let e : suc (last n) ≡ suc n = omega (arith, w .few) in
-      c .same a b (omega (arith, w .few)) g
-      ∙ rw e (closure-same (hasStep ws) (leads l) (v .same) (suc n) a b (omega (arith, w .few)) (omega (arith, w .few)) g)
+  closed-steps a b h g = let e : last n ≡ n = omega (arith, w .few) in rw e at (closed-paths v c a b (omega (arith, w .few)) g)
 
   -- it tells which steps stand on a circle
   pub closed-circular : (a b : ℕ) → leads l a b ≡ true → circularIn after a b ≡ circular l n a b

@@ -21,7 +21,7 @@ use Rattle.evaluate.specs.Spells.{Spells}
 use Rattle.form_set_rules.proofs.RuleRows.{Statement, RuleRows, no-rows, other-row, rule-row}
 
 -- a rule's row is no part of an expression
-rule-plain : isExpression code.RULE ≡ false
+pub rule-plain : isExpression code.RULE ≡ false
 unfolding isExpression expressions code.member
 rule-plain = refl
 

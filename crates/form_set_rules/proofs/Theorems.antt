@@ -24,9 +24,8 @@ use Rattle.answers.specs.Rows.{rulesIn}
 use Rattle.answers.specs.Stages.{rulesOverLimit, unfound}
 use Rattle.answers.specs.Answer.{drafts}
 use Rattle.answers.specs.Text.{rowFirstAt}
-use Rattle.circles.specs.Circles.{isRule, leads, NoCircle, Within, Maps, Closed}
-use Rattle.ranks.specs.Ranks.{orderIn}
-use Rattle.ranks.proofs.Theorems.{order-size, order-follows}
+use Rattle.circles.specs.Circles.{isRule, leads, NoCircle, Within}
+use Rattle.ranks.specs.Ranks.{InOrder}
 use Rattle.operators.specs.declared.Scalar.{Scalar}
 use Rattle.rule_steps.specs.Steps.{ruleSteps}
 use Rattle.formulas.specs.Formula.{Formula, f-constant}
@@ -83,11 +82,10 @@ module _ (s : List ℕ) (tree : Trees) (n : ℕ) (lent : List ℕ) where
   abbrev pub places : List ℕ
   places = placedRows (table s tree n) lent 0 (count s tree)
 
-  -- the values of rules, found in the order that a closed map gives
-  abbrev pub ruleValues : (values after answers gotos checkboxes : List ℕ) → List ℕ
-  ruleValues values after answers gotos checkboxes =
-      let last = length (sourceRules s tree) in
-      withRules answers gotos checkboxes (table s tree n) (count s tree) places values (take last (orderIn after last))
+  -- the values of rules, found in an order of them
+  abbrev pub ruleValues : (values order answers gotos checkboxes : List ℕ) → List ℕ
+  ruleValues values order answers gotos checkboxes =
+      withRules answers gotos checkboxes (table s tree n) (count s tree) places values (take (length (sourceRules s tree)) order)
 
 -- A source with its derivation, of which stage 10 finds no fault. Its rows stand in a table of n numbers, and zeros past them.
 module _ (s : List ℕ) (tree : Trees) (derives : Derives (sourceTokens s) tree) (limit : rulesOverLimit (drafts s tree) ≡ []) where
@@ -165,6 +163,10 @@ module _ (s : List ℕ) (tree : Trees) (derives : Derives (sourceTokens s) tree)
         (rules-laid s tree derives 0)) in
         rw (rows-start s tree derives 0) at all
 
+    -- which lead between the rules
+    pub steps-inside : Within (ruleSteps (rows s tree)) (length (sourceRules s tree))
+    steps-inside = rw steps-same (steps-within rule-set)
+
     -- a step leads from one rule to another exactly when the expression of the one refers to the other
     pub references-lead : (a b : ℕ) → leads (ruleSteps (rows s tree)) a b ≡ mem b (references (ruleAt (sourceRules s tree) a))
     references-lead a b = rw steps-same (steps-lead (sourceRules s tree) a b)
@@ -180,21 +182,19 @@ module _ (s : List ℕ) (tree : Trees) (derives : Derives (sourceTokens s) tree)
       pub rules-worth : (questions : ℕ → Scalar) → OneSolution (sourceRules s tree) questions
       rules-worth questions = rules-solved (sourceRules s tree) rule-set (circles-same .0 free) questions
 
-      -- The rules' values are found in the order that the closed map of the steps gives, with whatever answers and maps of kinds, in whatever is lent
-      -- for places and values.
+      -- The rules' values are found in any order that follows the steps, with whatever answers and maps of kinds, in whatever is lent for places and
+      -- values.
       module _ (deep : NowhereTooDeep tree)
-          {words after : List ℕ} (maps : Maps words (ruleSteps (rows s tree))) (closed : Closed words (length (sourceRules s tree)) after)
+          {order : List ℕ} (follows : InOrder (ruleSteps (rows s tree)) (length (sourceRules s tree)) order)
+          (whole : length (sourceRules s tree) ≤ length order)
           (n : ℕ) (lent : List ℕ) (long : 256 ≤ length lent) (values : List ℕ) (fits : length (sourceRules s tree) < room values)
           (answers gotos checkboxes : List ℕ) (worth : ℕ → Scalar) (solves : Solves (sourceRules s tree) (questionValue answers gotos checkboxes) worth) where
         -- each is what the rule is worth
         pub values-found :
             (k : ℕ) → 0 < k → k ≤ length (sourceRules s tree)
-            → valueAt (ruleValues s tree n lent values after answers gotos checkboxes) k ≡ worth k
+            → valueAt (ruleValues s tree n lent values order answers gotos checkboxes) k ≡ worth k
         values-found =
-            let within : Within (ruleSteps (rows s tree)) (length (sourceRules s tree)) = rw steps-same (steps-within rule-set) in
-            let few = rule-set .few in
-            let size = order-size after (length (sourceRules s tree)) in
-            rule-values-found (sourceRules s tree) (order-follows maps within closed free) (omega arith) (λ a b e. references-lead a b ∙ e)
+            rule-values-found (sourceRules s tree) follows whole (λ a b e. references-lead a b ∙ e)
             answers gotos checkboxes (table s tree n) (count s tree) (places s tree n lent) values worth
             (λ k z h. rule-placed n lent long k z h deep) solves fits
 
@@ -202,9 +202,9 @@ module _ (s : List ℕ) (tree : Trees) (derives : Derives (sourceTokens s) tree)
         pub meaning-found :
             {i j : ℕ} {e : Formula}
             → i < count s tree → Stretch (table s tree n) (count s tree) (suc i) j → Spells (table s tree n) (suc i) e j → need e ≤ ROOM
-            → valueAfter answers gotos checkboxes (ruleValues s tree n lent values after answers gotos checkboxes) (table s tree n) (count s tree) i
+            → valueAfter answers gotos checkboxes (ruleValues s tree n lent values order answers gotos checkboxes) (table s tree n) (count s tree) i
             ≡ meaning (questionValue answers gotos checkboxes) worth e
         meaning-found {i} {j} {e} inside stretch spells small =
-            after-spelled answers gotos checkboxes (ruleValues s tree n lent values after answers gotos checkboxes) (table s tree n) (count s tree) i j
+            after-spelled answers gotos checkboxes (ruleValues s tree n lent values order answers gotos checkboxes) (table s tree n) (count s tree) i j
             inside stretch spells small
             ∙ meaning-named e (λ m q. refl) (λ m q. let r = expression-refers n spells (stretch .below inside) m q in values-found m (r .0) (r .1))

@@ -1,13 +1,15 @@
 -- The numbers of questions by kind (document 02, W-202: "a checkbox answers ..", "a goto ..", "a number no question bears").
 -- Assumes nothing.
-use Prim.Native.Nat.{ℕ}
-use mathlib.Core.Bool.{Bool, cond}
+use Prim.Native.Nat.{ℕ, _<_}
+use mathlib.Core.Path.{_≡_}
+use mathlib.Core.Bool.{Bool, true, cond}
 use mathlib.Core.List.{List, [], _∷_, _++_}
 use lib.Dec.{eqb}
 use lib.ListN.{getD}
+use Rattle.numbers.specs.Numbers.{emptyMap, withAllUsed}
 use Rattle.rows.specs.Codes as code
 use Rattle.rows.specs.Columns as column
-use Rattle.rows.specs.Table.{rowAt}
+use Rattle.rows.specs.Table.{rowAt, cellAt}
 use Rattle.rows.specs.Rows.{rowsFrom}
 
 abbrev pub isGoto : ℕ → Bool
@@ -33,3 +35,14 @@ module _ (test : ℕ → Bool) where
 
   abbrev pub tableOwns : List ℕ → ℕ → List ℕ
   tableOwns t count = ownsIn (rowsFrom t 0 count)
+
+  -- the map of these numbers alone
+  abbrev pub kindMap : List ℕ → ℕ → List ℕ
+  kindMap t count = withAllUsed emptyMap (tableOwns t count)
+
+  -- one of the first `count` rows is of these kinds, and k is its own number
+  pub record Bears (t : List ℕ) (count k : ℕ) : Type 0 where
+    pub row : ℕ
+    pub inside : row < count
+    pub kind : test (cellAt t row column.CODE) ≡ true
+    pub own : cellAt t row column.OWN ≡ k

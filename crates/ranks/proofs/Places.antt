@@ -161,7 +161,7 @@ by-rank-next : (f : ℕ → ℕ) (n k : ℕ) → byRank f n (suc k) ≡ byRank f
 unfolding byRank
 by-rank-next f n k = refl
 
-by-rank-same : (f g : ℕ → ℕ) (n : ℕ) → ((a : ℕ) → 1 ≤ a → a < 1 + n → f a ≡ g a) → (k : ℕ) → byRank f n k ≡ byRank g n k
+pub by-rank-same : (f g : ℕ → ℕ) (n : ℕ) → ((a : ℕ) → 1 ≤ a → a < 1 + n → f a ≡ g a) → (k : ℕ) → byRank f n k ≡ byRank g n k
 unfolding byRank
 by-rank-same f g n h zero = refl
 by-rank-same f g n h (suc k) =

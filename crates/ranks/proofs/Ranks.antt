@@ -9,9 +9,9 @@ use lib.ListN.{length, getD}
 use Rattle.numbers.specs.Numbers.{used, picked}
 use Rattle.numbers.proofs.Ranges.{one, count-none, count-next, count-add, pick-none, pick-same}
 use Rattle.numbers.proofs.Maps.{used-past, count-word}
-use Rattle.circles.specs.Circles.{Step, leads, Reaches, here, onward, NoCircle, Within, closure, hasStep, Maps, Closed}
+use Rattle.circles.specs.Circles.{Step, leads, Reaches, here, onward, NoCircle, Within, closure, hasStep, Maps, last, Closed}
 use Rattle.circles.proofs.Reaching.{not-yes, closure-step, closure-through, closure-path}
-use Rattle.circles.proofs.Steps.{closed-steps}
+use Rattle.circles.proofs.Steps.{closed-paths}
 use Rattle.ranks.specs.Ranks.{rank, rankIn}
 use Rattle.ranks.proofs.Lists.{count-all, count-fewer}
 
@@ -107,8 +107,10 @@ module _ (l : List Step) (n : ℕ) (w : Within l n) where
         split : 255 ≡ n + (255 - n)
         split = omega (arith, w .few)
 
--- the ranks of the closed map
-module _ {ws : List ℕ} {l : List Step} {n : ℕ} {after : List ℕ} (v : Maps ws l) (w : Within l n) (c : Closed ws n after) where
-  pub closed-rank : (a : ℕ) → a ≤ n → rankIn after a ≡ rank l n a
-  unfolding rankIn rank
-  closed-rank a h = ap length (pick-same (hasStep after a) (closure (leads l) (suc n) a) 256 0 (λ k f g. closed-steps v w c a k h (omega arith)))
+-- the ranks of the closed map, whatever the steps are
+pub closed-rank :
+    {ws : List ℕ} {l : List Step} {n : ℕ} {after : List ℕ} → Maps ws l → Closed ws n after
+    → (a : ℕ) → a ≤ last n → rankIn after a ≡ rank l (last n) a
+unfolding rankIn rank
+closed-rank {l = l} {n = n} {after = after} v c a h =
+    ap length (pick-same (hasStep after a) (closure (leads l) (suc (last n)) a) 256 0 (λ k f g. closed-paths v c a k h (omega arith)))

@@ -34,6 +34,14 @@ unfoldable pub byRank : (ℕ → ℕ) → ℕ → ℕ → List ℕ
 byRank ranks n zero = []
 byRank ranks n (suc k) = byRank ranks n k ++ picked (λ a. eqb (ranks a) k) 1 n
 
+-- the 256 numbers that begin with the list, and are 0 past it
+unfoldable pub padded : List ℕ → List ℕ
+padded l = take 256 (l ++ replicate 256 0)
+
+-- the order of the rules 1 to n, and then 0; n above 255 stands for 255
+unfoldable pub orderOf : List Step → ℕ → List ℕ
+orderOf l n = padded (byRank (rank l (last n)) (last n) (last n))
+
 -- ---- the same by a closed map of `circles`
 
 -- how many rules the rule a reaches; what is above 255 reaches none
@@ -44,10 +52,6 @@ rankIn words a = length (picked (hasStep words a) 0 256)
 pub record RanksOf (words ranks : List ℕ) : Type 0 where
   pub size : length ranks ≡ 256
   pub same : (a : ℕ) → a < 256 → getD ranks a 0 ≡ rankIn words a
-
--- the 256 numbers that begin with the list, and are 0 past it
-unfoldable pub padded : List ℕ → List ℕ
-padded l = take 256 (l ++ replicate 256 0)
 
 -- the order of the rules 1 to n, and then 0
 unfoldable pub orderIn : List ℕ → ℕ → List ℕ

@@ -13,3 +13,4 @@ pub mod LikeStages
 pub mod TextRows
 pub mod TextNames
 pub mod TextReferences
+pub mod SameSteps

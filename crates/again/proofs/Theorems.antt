@@ -8,6 +8,8 @@ use Prim.Native.Nat.{ℕ, _≤_, _<_}
 use lib.ListN.{length}
 use Rattle.numbers.specs.Numbers.{numbered, freeCount}
 use Rattle.numbers.proofs.Numbering.{Own}
+use Rattle.circles.specs.Circles.{NoCircle}
+use Rattle.rule_steps.specs.Steps.{ruleSteps}
 use Rattle.rows.specs.Codes as code
 use Rattle.rows.specs.Columns as column
 use Rattle.rows.specs.Cells.{withoutPlaces}
@@ -38,6 +40,7 @@ use Rattle.again.proofs.LikeStages.{forms-like, limit-like, choices-lik
 use Rattle.again.proofs.TextRows.{finished-numbers, rules-same, Says, all-say}
 use Rattle.again.proofs.TextNames.{none-named-twice}
 use Rattle.again.proofs.TextReferences.{finished-as-is, all-found}
+use Rattle.again.proofs.SameSteps.{steps-besides}
 
 module _ (s : List ℕ) (tree : Trees) (sound : Sound s tree) (short : length s ≤ LONGEST) where
   -- the source's draft rows, and its finished rows by their places
@@ -121,6 +124,10 @@ module _ (s : List ℕ) (tree : Trees) (sound : Sound s tree) (short : length s 
         ∙ map-map withoutPlaces places ds
         ∙ ap (map withoutPlaces) (rows-by-place s tree (sound .derives)))
 
+    -- 14: a rule that reaches itself; the steps between rules are the same
+    pub circles-again : NoCircle (ruleSteps (finished t ds′))
+    circles-again = rw (steps-besides (finished t ds′) (finished s ds) rows-again) (sound .circles)
+
   -- ---- the derivation of a text
 
   -- where its rows match the source's, the text is sound too
@@ -138,4 +145,5 @@ module _ (s : List ℕ) (tree : Trees) (sound : Sound s tree) (short : length s 
         limit = limit-again t matches;
         references = references-again t matches;
         choices = choices-again t matches;
+        circles = circles-again t matches;
       }

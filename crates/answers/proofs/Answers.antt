@@ -15,14 +15,17 @@ use Rattle.rows.specs.Rows.{laid}
 use Rattle.ll1.specs.Trees.{Trees}
 use Rattle.ll1.specs.Verdict.{ends-early, refused}
 use Rattle.answers.specs.Rows.{Draft}
-use Rattle.answers.specs.Stages.{repeatedForms, repeatedQuestions, repeatedNames, rulesOverLimit, unfound, badChoices, ownNumbers, finished}
-use Rattle.answers.specs.Answer.{LONGEST, Answer, refuses, accepts, stage, answerOf, drafts}
+use Rattle.answers.specs.Stages.{repeatedForms, repeatedQuestions, repeatedNames, rulesOverLimit, unfound, badChoices, ownNumbers}
+use Rattle.answers.specs.Stages.{settled, finished, circularReferences}
+use Rattle.answers.specs.Answer.{LONGEST, Answer, refuses, accepts, stage, answerPast12, answerOf, drafts}
 use Rattle.answers.specs.WholeAnswer.{Checked, refusal, derived, checked, readAnswer, rowsOf, readTable}
 use Rattle.answers.specs.Text.{resolvedText}
 use Rattle.answers.specs.Resolution.{textOfSource}
-use Rattle.answers.specs.Demand3.{Sound, Grammatical, Passes, PassesAll, to-4, to-5, to-6, to-7, to-8, to-9, to-10, to-11, to-12}
-use Rattle.answers.specs.Demand3.{Refuses, source-too-long, bad-token, no-text-starts-so, source-ends-early, opens-too-many, number-outside, more-rows, form-repeated, question-repeated, name-repeated, rule-over-limit, nothing-found, bad-choice}
+use Rattle.answers.specs.Demand3.{Sound, Grammatical, Passes, PassesAll, to-4, to-5, to-6, to-7, to-8, to-9, to-10, to-11, to-12, to-14}
+use Rattle.answers.specs.Demand3.{Refuses, source-too-long, bad-token, no-text-starts-so, source-ends-early, opens-too-many, number-outside}
+use Rattle.answers.specs.Demand3.{more-rows, form-repeated, question-repeated, name-repeated, rule-over-limit, nothing-found, bad-choice, reaches-itself}
 use Rattle.answers.proofs.Checks.{listed, checked-1, checked-2, checked-parsed, checked-5, checked-derived, Decided, stopped, passed, decided}
+use Rattle.answers.proofs.Circles.{settled-free, circle-first, circle-listed}
 
 -- ---- what a source is that passes every stage, or the stages up to a number
 
@@ -36,20 +39,33 @@ passes-grammatical (to-9 p e) = passes-grammatical p
 passes-grammatical (to-10 p e) = passes-grammatical p
 passes-grammatical (to-11 p e) = passes-grammatical p
 passes-grammatical (to-12 p e) = passes-grammatical p
+passes-grammatical (to-14 p e) = passes-grammatical p
 
 -- its rows find room
 pub passes-room : {s : List ℕ} {n : ℕ} {tree : Trees} → PassesAll s n tree → length (drafts s tree) ≤ n / ROW
-passes-room (to-12 (to-11 (to-10 (to-9 (to-8 (to-7 (to-6 p h) e₇) e₈) e₉) e₁₀) e₁₁) e₁₂) = h
+passes-room (to-14 (to-12 (to-11 (to-10 (to-9 (to-8 (to-7 (to-6 p h) e₇) e₈) e₉) e₁₀) e₁₁) e₁₂) e₁₄) = h
 
 -- it is sound, and a sound one passes where there is room
 pub sound-passes : {s : List ℕ} {n : ℕ} {tree : Trees} → Sound s tree → length s ≤ LONGEST → length (drafts s tree) ≤ n / ROW → PassesAll s n tree
 sound-passes d short room =
     let with-rows = to-6 (to-5 (to-4 (record { short = short; derives = d .derives; depths = d .depths })) (d .ranges)) room in
-    to-12 (to-11 (to-10 (to-9 (to-8 (to-7 with-rows (d .forms)) (d .questions)) (d .names)) (d .limit)) (d .references)) (d .choices)
+    let with-choices = to-12 (to-11 (to-10 (to-9 (to-8 (to-7 with-rows (d .forms)) (d .questions)) (d .names)) (d .limit)) (d .references)) (d .choices) in
+    to-14 with-choices (d .circles)
 
 pub passes-sound : {s : List ℕ} {n : ℕ} {tree : Trees} → PassesAll s n tree → Sound s tree
-passes-sound (to-12 (to-11 (to-10 (to-9 (to-8 (to-7 (to-6 (to-5 (to-4 g) e₅) h) e₇) e₈) e₉) e₁₀) e₁₁) e₁₂) =
-    record { derives = g .derives; depths = g .depths; ranges = e₅; forms = e₇; questions = e₈; names = e₉; limit = e₁₀; references = e₁₁; choices = e₁₂ }
+passes-sound (to-14 (to-12 (to-11 (to-10 (to-9 (to-8 (to-7 (to-6 (to-5 (to-4 g) e₅) h) e₇) e₈) e₉) e₁₀) e₁₁) e₁₂) e₁₄) =
+    record {
+      derives = g .derives;
+      depths = g .depths;
+      ranges = e₅;
+      forms = e₇;
+      questions = e₈;
+      names = e₉;
+      limit = e₁₀;
+      references = e₁₁;
+      choices = e₁₂;
+      circles = e₁₄;
+    }
 
 -- the stages that a source alone decides find its derivation
 pub passes-derived : {s : List ℕ} {n : ℕ} {tree : Trees} → PassesAll s n tree → checked s ≡ derived tree
@@ -71,7 +87,7 @@ module _ (s : List ℕ) (ds : List Draft) where
   acceptance = accepts (length ds) (freeCount (numbered (ownNumbers ds)))
 
   abbrev from-12 : Answer
-  from-12 = stage 12 (badChoices ds) acceptance
+  from-12 = stage 12 (badChoices ds) (answerPast12 s ds)
 
   abbrev from-11 : Answer
   from-11 = stage 11 (unfound s ds) from-12
@@ -115,9 +131,12 @@ module _ (s : List ℕ) (n : ℕ) (tree : Trees) where
   past-11 : Passes s n tree 11 → readAnswer s n ≡ from-12 s ds
   past-11 (to-11 p e) = past-10 p ∙ rw e
 
+  past-12 : Passes s n tree 12 → readAnswer s n ≡ answerPast12 s ds
+  past-12 (to-12 p e) = past-11 p ∙ rw e
+
   -- a source that passes every stage is accepted
   pub accepted-answer : PassesAll s n tree → readAnswer s n ≡ acceptance s ds
-  accepted-answer (to-12 p e) = past-11 p ∙ rw e
+  accepted-answer (to-14 p free) = past-12 p ∙ rw (settled-free s ds .1 free)
 
   -- and its rows are laid into the table
   pub laid-rows : PassesAll s n tree → readTable s n ≡ laid (finished s ds) n
@@ -147,6 +166,7 @@ module _ (s : List ℕ) (n : ℕ) where
   refused-answer (rule-over-limit {tree = tree} p e) = past-9 s n tree p ∙ rw e
   refused-answer (nothing-found {tree = tree} p e) = past-10 s n tree p ∙ rw e
   refused-answer (bad-choice {tree = tree} p e) = past-11 s n tree p ∙ rw e
+  refused-answer (reaches-itself {tree = tree} {m = m} p f) = past-12 s n tree p ∙ rw (circle-listed s (drafts s tree) m f .1)
 
 -- a refusal has a number
 pub refused-number : {s : List ℕ} {n : ℕ} {a : Answer} → Refuses s n a → a .number ≢ 0
@@ -163,6 +183,7 @@ refused-number (name-repeated p e) z = omega arith
 refused-number (rule-over-limit p e) z = omega arith
 refused-number (nothing-found p e) z = omega arith
 refused-number (bad-choice p e) z = omega arith
+refused-number (reaches-itself p e) z = omega arith
 
 -- ---- there is no other answer
 
@@ -183,7 +204,9 @@ module _ (s : List ℕ) (n : ℕ) where
       listed (repeatedNames s ds) (λ e₉. let p₉ = to-9 p₈ e₉ in
       listed (rulesOverLimit ds) (λ e₁₀. let p₁₀ = to-10 p₉ e₁₀ in
       listed (unfound s ds) (λ e₁₁. let p₁₁ = to-11 p₁₀ e₁₁ in
-      listed (badChoices ds) (λ e₁₂. let p₁₂ = to-12 p₁₁ e₁₂ in rw (accepted-answer s n tree p₁₂) (accepting p₁₂))
+      listed (badChoices ds) (λ e₁₂. let p₁₂ = to-12 p₁₁ e₁₂ in
+      listed (circularReferences (settled s ds)) (λ e₁₄. let p₁₄ = to-14 p₁₂ (settled-free s ds .0 e₁₄) in rw (accepted-answer s n tree p₁₄) (accepting p₁₄))
+      (λ m ms e. by-refusal (reaches-itself p₁₂ (circle-first s ds m e))))
       (λ m ms e. by-refusal (bad-choice p₁₁ e)))
       (λ m ms e. by-refusal (nothing-found p₁₀ e)))
       (λ m ms e. by-refusal (rule-over-limit p₉ e)))

@@ -17,6 +17,7 @@ pub mod Walks
 pub mod RowPlaces
 -- What demand 3 rests on: the stages in order, and the numbers that questions get.
 pub mod Checks
+pub mod Circles
 pub mod Answers
 pub mod QuickCheck
 pub mod QuestionNumbers

@@ -11,7 +11,7 @@ use Rattle.lexemes.proofs.Lists.{either}
 use Rattle.rows.specs.Columns.{ROW}
 use Rattle.ll1.specs.Trees.{Trees}
 use Rattle.answers.specs.Rows.{Draft}
-use Rattle.answers.specs.Stages.{repeatedForms, repeatedQuestions, repeatedNames, rulesOverLimit, unfound, badChoices}
+use Rattle.answers.specs.Stages.{repeatedForms, repeatedQuestions, repeatedNames, rulesOverLimit, unfound, badChoices, settled, circularReferences}
 use Rattle.answers.specs.Answer.{LONGEST, Answer, refuses, stage, answerOf, drafts}
 use Rattle.answers.specs.WholeAnswer.{Checked, refusal, derived, checked, quickCheck, readAnswer}
 use Rattle.answers.specs.Demand3.{to-4, to-5}
@@ -31,7 +31,8 @@ stages-late : (s : List ℕ) (ds : List Draft) (whole : ℕ) → Late (answerOf 
 unfolding answerOf
 stages-late s ds whole =
     let w : Late (acceptance s ds) = record { number = inl refl } in
-    let w₁₁ = stage-late 11 (unfound s ds) (omega arith) (stage-late 12 (badChoices ds) (omega arith) w) in
+    let w₁₂ = stage-late 12 (badChoices ds) (omega arith) (stage-late 14 (circularReferences (settled s ds)) (omega arith) w) in
+    let w₁₁ = stage-late 11 (unfound s ds) (omega arith) w₁₂ in
     let w₉ = stage-late 9 (repeatedNames s ds) (omega arith) (stage-late 10 (rulesOverLimit ds) (omega arith) w₁₁) in
     either (ltb whole (length ds))
     (λ h. rw (h, answerOf) (record { number = inr (omega arith) }))

@@ -1,5 +1,5 @@
--- An answer of reading, and what the rows of a derivation are answered (document 01, Refusal numbers). No parser is named here, nor in what this
--- imports. Assumes nothing.
+-- An answer of reading, and what the rows of a derivation are answered (document 01, Refusal numbers; document 02, W-202). No parser is named here,
+-- nor in what this imports. Assumes nothing.
 use Prim.Native.Nat.{ℕ}
 use mathlib.Core.Bool.{true, false}
 use mathlib.Core.List.{List, [], _∷_}
@@ -10,6 +10,7 @@ use Rattle.ll1.specs.Trees.{Trees}
 use Rattle.grammar.specs.Source.{numberAt}
 use Rattle.answers.specs.Rows.{Draft, draftsOf}
 use Rattle.answers.specs.Stages.{placeOf, repeatedForms, repeatedQuestions, repeatedNames, rulesOverLimit, unfound, badChoices, ownNumbers}
+use Rattle.answers.specs.Stages.{settled, circularReferences}
 
 -- the longest source
 abbrev pub LONGEST : ℕ
@@ -37,7 +38,11 @@ abbrev pub stage : ℕ → List ℕ → Answer → Answer
 stage n [] later = later
 stage n (m ∷ ms) later = refuses n (placeOf m)
 
--- stages 6 to 12 for the rows of a derivation and the whole rows lent
+-- what a derivation whose rows pass stages 6 to 12 is answered: 14, or its counts
+abbrev pub answerPast12 : List ℕ → List Draft → Answer
+answerPast12 s ds = stage 14 (circularReferences (settled s ds)) (accepts (length ds) (freeCount (numbered (ownNumbers ds))))
+
+-- stages 6 to 12, and 14, for the rows of a derivation and the whole rows lent
 unfoldable pub answerOf : List ℕ → List Draft → ℕ → Answer
 answerOf s ds whole =
     elim (ltb whole (length ds)) [
@@ -49,7 +54,7 @@ answerOf s ds whole =
           (stage 10 (rulesOverLimit ds)
           (stage 11 (unfound s ds)
           (stage 12 (badChoices ds)
-          (accepts (length ds) (freeCount (numbered (ownNumbers ds)))))))))
+          (answerPast12 s ds))))))
     ]
 
 -- the rows of a source's derivation, not finished

@@ -1,8 +1,8 @@
--- Demand 3 in document 01's own terms: what a source must be for reading to accept it, and what it is where reading refuses it. "Written without our
--- reader": no parser is named here, nor in what this imports. Assumes nothing.
+-- Demand 3 in the terms of document 01, and of document 02's W-202: what a source must be for reading to accept it, and what it is where reading
+-- refuses it. "Written without our reader": no parser is named here, nor in what this imports. Assumes nothing.
 use Prim.Native.Nat.{ℕ, zero, suc, _/_, _≤_, _<_}
 use mathlib.Core.Path.{_≡_}
-use mathlib.Core.Bool.{false, not, cond, _&&_}
+use mathlib.Core.Bool.{true, false, not, cond, _&&_}
 use mathlib.Core.Logic.{_≢_}
 use mathlib.Core.List.{List, [], _∷_}
 use lib.Dec.{ltb}
@@ -10,6 +10,8 @@ use lib.ListN.{length, getD, take}
 use Rattle.lex.specs.declared.Found.the-variants.{At, Nothing}
 use Rattle.lex.specs.Tokens.{firstBad}
 use Rattle.numbers.specs.Numbers.{mem, unwritten}
+use Rattle.circles.specs.Circles.{Circular, NoCircle}
+use Rattle.rule_steps.specs.Steps.{ruleRound, ruleFound, isStep, ruleSteps}
 use Rattle.rows.specs.Codes.{isQuestion}
 use Rattle.rows.specs.Columns as column
 use Rattle.rows.specs.Columns.{ROW}
@@ -18,7 +20,9 @@ use Rattle.ll1.specs.Verdict.{ends-early, refused}
 use Rattle.grammar.specs.Derivation.{Derives, NowhereTooDeep, SourceSays}
 use Rattle.grammar.specs.Source.{sourceTokens}
 use Rattle.grammar.specs.Ranges.{outOfRange}
+use Rattle.answers.specs.Rows.{Draft}
 use Rattle.answers.specs.Stages.{placeOf, repeatedForms, repeatedQuestions, repeatedNames, rulesOverLimit, unfound, badChoices}
+use Rattle.answers.specs.Stages.{settled, finished}
 use Rattle.answers.specs.Answer.{LONGEST, Answer, refuses, needs, drafts}
 
 -- the tree is a derivation of the source, and "its depths, ranges, 255-rule limit, uniqueness, reference and choice rules hold"
@@ -38,6 +42,8 @@ pub record Sound (s : List ℕ) (tree : Trees) : Type 0 where
   pub references : unfound s (drafts s tree) ≡ []
   -- choice by 12"
   pub choices : badChoices (drafts s tree) ≡ []
+  -- "Reading now refuses a rule that reaches itself through references; demand 3's acceptance narrows by just that" (W-202)
+  pub circles : NoCircle (ruleSteps (finished s (drafts s tree)))
 
 -- ---- refusals
 
@@ -58,12 +64,22 @@ pub data Passes (s : List ℕ) (n : ℕ) (tree : Trees) : ℕ → Type 0 where
   to-10 : Passes s n tree 9 → rulesOverLimit (drafts s tree) ≡ [] → Passes s n tree 10
   to-11 : Passes s n tree 10 → unfound s (drafts s tree) ≡ [] → Passes s n tree 11
   to-12 : Passes s n tree 11 → badChoices (drafts s tree) ≡ [] → Passes s n tree 12
+  to-14 : Passes s n tree 12 → NoCircle (ruleSteps (finished s (drafts s tree))) → Passes s n tree 14
 
 -- no stage refuses them
 abbrev pub PassesAll : List ℕ → ℕ → Trees → Type 0
-PassesAll s n tree = Passes s n tree 12
+PassesAll s n tree = Passes s n tree 14
 
--- Document 01's table of refusals, a line each: "No. | Given exactly when | Place". "The first stage that fails answers; within it the earliest
+-- "a `ruleref`, inside a rule, that is a step of such a circle" (W-202): a path leads from the rule that it finds back to the rule that it stands in
+abbrev pub StepOfCircle : List (List ℕ) → List ℕ → Type 0
+StepOfCircle rows r = (isStep rows r ≡ true) × Circular (ruleSteps rows) (ruleRound rows r) (ruleFound rows r)
+
+-- "the name in the source's first" of them, by its mark m; `rows` are all finished rows, and the drafts the settled ones
+pub data FirstOnCircle (rows : List (List ℕ)) (m : ℕ) : List Draft → Type 0 where
+  this : {d : Draft} {ds : List Draft} → StepOfCircle rows (d .row) → d .ownAt ≡ m → FirstOnCircle rows m (d ∷ ds)
+  later : {d : Draft} {ds : List Draft} → (StepOfCircle rows (d .row) → ⊥) → FirstOnCircle rows m ds → FirstOnCircle rows m (d ∷ ds)
+
+-- Document 01's table of refusals with W-202's 14, a line each: "No. | Given exactly when | Place". "The first stage that fails answers; within it the earliest
 -- token": a stage lists its faults in source order, so that the earliest is the first of its list. "A refusal's counts are 0 except as shown".
 pub data Refuses (s : List ℕ) (n : ℕ) : Answer → Type 0 where
   -- 1 | source over 65,536 bytes | 0
@@ -92,6 +108,11 @@ pub data Refuses (s : List ℕ) (n : ℕ) : Answer → Type 0 where
   -- 12 | maximum below minimum; default outside them; an option's value repeated in its oneof; a second DEFAULT there
   --    | the number of the maximum, default or value, or that word `DEFAULT`
   bad-choice : {tree : Trees} {m : ℕ} {ms : List ℕ} → Passes s n tree 11 → badChoices (drafts s tree) ≡ m ∷ ms → Refuses s n (refuses 12 (placeOf m))
+  -- 14 | a rule that reaches itself through references; "last in reading's order before 13"
+  --    | "the name in the source's first `ruleref`, inside a rule, that is a step of such a circle"
+  reaches-itself :
+      {tree : Trees} {m : ℕ} → Passes s n tree 12
+      → FirstOnCircle (finished s (drafts s tree)) m (settled s (drafts s tree)) → Refuses s n (refuses 14 (placeOf m))
 
 -- ---- the numbers of questions
 

@@ -1,5 +1,5 @@
--- Stages 7 to 12 over the rows of a derivation: the marks of what is at fault, in source order; and the finished rows (document 01, Rows and
--- Refusal numbers). Assumes nothing.
+-- Stages 7 to 12 over the rows of a derivation: the marks of what is at fault, in source order; the finished rows (document 01, Rows and Refusal
+-- numbers); and stage 14 over settled rows (document 02, W-202). Assumes nothing.
 use Prim.Native.Nat.{ℕ, _-_}
 use mathlib.Core.Bool.{Bool, false, not, cond, _&&_, _||_}
 use mathlib.Core.List.{List, [], _∷_, _++_, map}
@@ -7,6 +7,8 @@ use lib.Dec.{eqb, ltb}
 use lib.ListN.{getD, set, drop}
 use Rattle.lexemes.specs.Words.{sameWord}
 use Rattle.numbers.specs.Numbers.{numbered}
+use Rattle.circles.specs.Circles.{circular}
+use Rattle.rule_steps.specs.Steps.{ruleRound, ruleFound, isStep, ruleSteps, greatest}
 use Rattle.rows.specs.Codes as code
 use Rattle.rows.specs.Codes.{isQuestion}
 use Rattle.rows.specs.Columns as column
@@ -138,6 +140,10 @@ numberedRows ds = withNumbers (numbered (ownNumbers ds)) ds
 
 -- ---- the finished rows
 
+-- the rows of drafts, without their marks
+abbrev pub draftRows : List Draft → List (List ℕ)
+draftRows ds = map (λ d. d .row) ds
+
 module _ (s : List ℕ) where
   -- the own number of the first row that passes the test, 0 where none does
   unfoldable pub ownOfFirst : (Draft → Bool) → List Draft → ℕ
@@ -152,6 +158,16 @@ module _ (s : List ℕ) where
   unfoldable pub settled : List Draft → List Draft
   settled ds = withReferences (numberedRows ds)
 
-  -- the finished rows: those of the settled drafts, without the marks
+  -- the finished rows: those of the settled drafts
   unfoldable pub finished : List Draft → List (List ℕ)
-  finished ds = map (λ d. d .row) (settled ds)
+  finished ds = draftRows (settled ds)
+
+-- ---- 14, over settled drafts, whose references hold what they find (document 02, W-202)
+
+-- of all these rows, this one is a step between rules that stands on a circle
+unfoldable pub onCircle : List (List ℕ) → List ℕ → Bool
+onCircle rows r = isStep rows r && circular (ruleSteps rows) (greatest (ruleSteps rows)) (ruleRound rows r) (ruleFound rows r)
+
+-- 14: a rule reaches itself through references; the names in the `ruleref`s, inside rules, that are steps of such a circle
+unfoldable pub circularReferences : List Draft → List ℕ
+circularReferences ds = faultsIn (λ before d. faultIf (onCircle (draftRows ds) (d .row)) (d .ownAt)) ds

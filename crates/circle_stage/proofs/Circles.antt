@@ -4,7 +4,6 @@ use mathlib.Core.Path.{_≡_, refl, sym, ap, _∙_}
 use mathlib.Core.Bool.{Bool, true, false, cond, _&&_, or-true}
 use mathlib.Core.List.{List, [], _∷_, _++_}
 use native.Mathlib.Omega.{arith}
-use borrow.Author.Tests.{eq-eqb}
 use Rattle.numbers.specs.Numbers.{emptyMap}
 use Rattle.circles.specs.Circles.{isRule, leads, Maps, Closed, circular, circularIn}
 use Rattle.circles.proofs.Steps.{rule-range, leads-append, circular-none, closed-circular}
@@ -14,8 +13,10 @@ use Rattle.rule_steps.proofs.Loop.{greatest-append}
 use Rattle.rule_steps.proofs.Theorems.{steps-within, steps-mapped}
 use Rattle.answers.specs.Rows.{Draft}
 use Rattle.answers.specs.Drafts.{draftsFrom}
+use Rattle.answers.specs.Stages.{draftRows, onCircle}
+use Rattle.answers.proofs.Circles.{step-leads}
 use Rattle.drafts.specs.Faults.{alone, firstFault}
-use Rattle.circle_stage.specs.Circular.{rowsOf, onCircle, circleFault, markIf, firstBy}
+use Rattle.circle_stage.specs.Circular.{circleFault, markIf, firstBy}
 use Rattle.circle_stage.proofs.Marks.{steps-decoded}
 
 module _ (rows : List (List ℕ)) where
@@ -38,17 +39,12 @@ module _ (rows : List (List ℕ)) where
   unfolding circleFault onCircle
   no-fault d e = rw e
 
-  pub no-faults : (ds : List Draft) → greatest (stepsAmong rows (rowsOf ds)) ≡ 0 → firstFault (alone (circleFault rows)) ds ≡ 0
+  pub no-faults : (ds : List Draft) → greatest (stepsAmong rows (draftRows ds)) ≡ 0 → firstFault (alone (circleFault rows)) ds ≡ 0
   unfolding firstFault stepsAmong
   no-faults [] h = refl
   no-faults (d ∷ ds) h =
-      let both = greatest-append (stepIn rows (d .row)) (stepsAmong rows (rowsOf ds)) in
+      let both = greatest-append (stepIn rows (d .row)) (stepsAmong rows (draftRows ds)) in
       rw (no-fault d (step-up (d .row) (omega (arith, both))), no-faults ds (omega (arith, both)))
-
-  -- a row that is a step leads
-  pub step-leads : (r : List ℕ) → isStep rows r ≡ true → leads (stepIn rows r) (ruleRound rows r) (ruleFound rows r) ≡ true
-  unfolding stepIn leads
-  step-leads r e = rw (e, eq-eqb (ruleRound rows r) (ruleRound rows r) refl, eq-eqb (ruleFound rows r) (ruleFound rows r) refl)
 
   -- ---- a closed map tells which steps stand on a circle
 
@@ -71,7 +67,7 @@ module _ (rows : List (List ℕ)) where
 
     -- where the steps of these rows are steps of all
     same-first :
-        (ds : List Draft) → ((a b : ℕ) → leads (stepsAmong rows (rowsOf ds)) a b ≡ true → leads (ruleSteps rows) a b ≡ true)
+        (ds : List Draft) → ((a b : ℕ) → leads (stepsAmong rows (draftRows ds)) a b ≡ true → leads (ruleSteps rows) a b ≡ true)
         → firstFault (alone (markIf (circularIn after) rows)) ds ≡ firstFault (alone (circleFault rows)) ds
     unfolding firstFault stepsAmong
     same-first [] h = refl
@@ -83,11 +79,11 @@ module _ (rows : List (List ℕ)) where
         b : ℕ
         b = ruleFound rows (d .row)
 
-        here : isStep rows (d .row) ≡ true → leads (stepIn rows (d .row) ++ stepsAmong rows (rowsOf ds)) a b ≡ true
-        here e = leads-append (stepIn rows (d .row)) (stepsAmong rows (rowsOf ds)) a b ∙ rw (step-leads (d .row) e)
+        here : isStep rows (d .row) ≡ true → leads (stepIn rows (d .row) ++ stepsAmong rows (draftRows ds)) a b ≡ true
+        here e = leads-append (stepIn rows (d .row)) (stepsAmong rows (draftRows ds)) a b ∙ rw (step-leads rows (d .row) e)
 
-        later : (x y : ℕ) → leads (stepsAmong rows (rowsOf ds)) x y ≡ true → leads (stepIn rows (d .row) ++ stepsAmong rows (rowsOf ds)) x y ≡ true
-        later x y e = leads-append (stepIn rows (d .row)) (stepsAmong rows (rowsOf ds)) x y ∙ rw (e, or-true (leads (stepIn rows (d .row)) x y))
+        later : (x y : ℕ) → leads (stepsAmong rows (draftRows ds)) x y ≡ true → leads (stepIn rows (d .row) ++ stepsAmong rows (draftRows ds)) x y ≡ true
+        later x y e = leads-append (stepIn rows (d .row)) (stepsAmong rows (draftRows ds)) x y ∙ rw (e, or-true (leads (stepIn rows (d .row)) x y))
 
 -- ---- by what the code's calls give
 
@@ -96,7 +92,7 @@ module _ (t : List ℕ) (n : ℕ) where
   drafts = draftsFrom t 0 n
 
   pub none-found : {last : ℕ} → last ≡ greatest (tableSteps t n) → last ≡ 0 → 0 ≡ firstBy circleFault drafts
-  none-found e z = sym (no-faults (rowsOf drafts) drafts (ap greatest (sym (steps-decoded t n)) ∙ sym e ∙ z))
+  none-found e z = sym (no-faults (draftRows drafts) drafts (ap greatest (sym (steps-decoded t n)) ∙ sym e ∙ z))
 
   pub first-found :
       {empty words after : List ℕ} {last r : ℕ}
@@ -104,7 +100,7 @@ module _ (t : List ℕ) (n : ℕ) where
       → r ≡ firstBy (markIf (circularIn after)) drafts
       → r ≡ firstBy circleFault drafts
   first-found {words = words} {after = after} e f g c h =
-      let l = ruleSteps (rowsOf drafts) in
-      let maps : Maps words l = rw (f, e, steps-decoded t n) (steps-mapped (rowsOf drafts)) in
+      let l = ruleSteps (draftRows drafts) in
+      let maps : Maps words l = rw (f, e, steps-decoded t n) (steps-mapped (draftRows drafts)) in
       let closed : Closed words (greatest l) after = rw (g ∙ ap greatest (steps-decoded t n)) at c in
-      h ∙ same-first (rowsOf drafts) maps closed drafts (λ a b x. x)
+      h ∙ same-first (draftRows drafts) maps closed drafts (λ a b x. x)

@@ -10,9 +10,10 @@ use Rattle.circles.specs.Circles.{circularIn}
 use Rattle.rule_steps.specs.Steps.{ruleRound, ruleFound, ruleSteps, tableSteps}
 use Rattle.rule_steps.proofs.Same.{SameCells, SameRows, no-rows, add-row, round-same, steps-same}
 use Rattle.answers.specs.Drafts.{decoded, draftsFrom}
+use Rattle.answers.specs.Stages.{draftRows}
 use Rattle.drafts.specs.Faults.{draftAt}
 use Rattle.drafts.proofs.DraftLaws.{cell-decoded}
-use Rattle.circle_stage.specs.Circular.{rowsOf, markIf}
+use Rattle.circle_stage.specs.Circular.{markIf}
 
 -- a row and its decoding: the marks stand in other columns
 cells-decoded : (r : List ℕ) → SameCells r (decoded r .row)
@@ -24,14 +25,14 @@ cells-decoded r =
       a = cell-decoded r column.A refl;
     }
 
-rows-decoded : (t : List ℕ) (n i : ℕ) → SameRows (rowsFrom t i n) (rowsOf (draftsFrom t i n))
+rows-decoded : (t : List ℕ) (n i : ℕ) → SameRows (rowsFrom t i n) (draftRows (draftsFrom t i n))
 unfolding rowsFrom draftsFrom
 rows-decoded t zero i = no-rows
 rows-decoded t (suc n) i = add-row (cells-decoded (rowAt t i)) (rows-decoded t n (i + 1))
 
 module _ (t : List ℕ) (n : ℕ) where
   abbrev pub rows : List (List ℕ)
-  rows = rowsOf (draftsFrom t 0 n)
+  rows = draftRows (draftsFrom t 0 n)
 
   pub steps-decoded : tableSteps t n ≡ ruleSteps rows
   steps-decoded = steps-same (rows-decoded t n 0)

@@ -1,145 +1,32 @@
--- Stage 14 in W-202's terms: the rows at fault are the steps on a circle, by paths; the code finds the first; without faults there is no circle.
-use Prim.Native.Nat.{ℕ}
-use mathlib.Core.Path.{_≡_, refl, sym, _∙_}
-use mathlib.Core.Bool.{Bool, true, false, true≢false, cond, _&&_, _||_, or-true, or-false}
-use mathlib.Core.Logic.{_↔_, ⊎-elim}
-use mathlib.Core.List.{List, [], _∷_, _++_}
-use native.Mathlib.Omega.{arith}
-use borrow.Author.Tests.{eqb-true}
-use lib.Dec.{eqb}
-use lib.ListN.{getD}
+-- Stage 14 as `answers` says it: the code finds the first of the names that the stage lists.
+-- Assumes nothing.
+use Prim.Native.Nat.{ℕ, _<_}
+use mathlib.Core.Path.{_≡_}
+use mathlib.Core.Bool.{true}
+use mathlib.Core.List.{List, [], _∷_}
 use Rattle.rows.specs.Codes as code
-use Rattle.rows.specs.Columns as column
-use Rattle.numbers.proofs.Ranges.{and-yes}
-use Rattle.circles.specs.Circles.{isRule, leads, Circular, NoCircle}
-use Rattle.circles.proofs.Reaching.{or-yes, circle-path, path-circle}
-use Rattle.circles.proofs.Steps.{rule-range, leads-append}
-use Rattle.rule_steps.specs.Steps.{ruleRound, ruleFound, isStep, stepIn, stepsAmong, ruleSteps, greatest}
-use Rattle.rule_steps.proofs.Theorems.{steps-within}
 use Rattle.answers.specs.Rows.{Draft}
-use Rattle.answers.specs.Stages.{is, faultIf, faultsAfter}
+use Rattle.answers.specs.Stages.{is, faultsAfter, draftRows, onCircle, circularReferences}
+use Rattle.answers.proofs.Circles.{circle-reference, faults}
 use Rattle.drafts.specs.Faults.{alone, firstFault}
 use Rattle.drafts.specs.Sound.{First, none}
 use Rattle.drafts.proofs.Firsts.{first-append, first-if}
-use Rattle.circle_stage.proofs.Circles.{step-leads}
-use Rattle.circle_stage.specs.Circular.{rowsOf, onCircle, circularReferences, Marked, none-marked, add-marked, circleFault, firstBy}
+use Rattle.circle_stage.specs.Circular.{circleFault, firstBy}
 
-module _ (rows : List (List ℕ)) where
-  -- a row is at fault exactly where it is a step, and there is a way back by the steps of all rows
-  pub on-circle :
-      (r : List ℕ) → (onCircle rows r ≡ true) ↔ ((isStep rows r ≡ true) × Circular (ruleSteps rows) (ruleRound rows r) (ruleFound rows r))
-  unfolding onCircle
-  on-circle r = (
-    λ e.
-        let z = and-yes (isStep rows r) _ e in
-        (z .0, circle-path (ruleSteps rows) (greatest (ruleSteps rows)) (steps-within rows) (ruleRound rows r) (ruleFound rows r) (z .1)),
-    λ p. rw (p .0, path-circle (ruleSteps rows) (greatest (ruleSteps rows)) (steps-within rows) (p .1)),
-  )
+-- every ruleref of the drafts has the mark of its name
+pub data Marked : List Draft → Type 0 where
+  none-marked : Marked []
+  add-marked : {d : Draft} {ds : List Draft} → (is code.RULE-REF d ≡ true → 0 < d .ownAt) → Marked ds → Marked (d ∷ ds)
 
-  -- such a row is a ruleref
-  round-reference : (r : List ℕ) → isRule (ruleRound rows r) ≡ true → eqb (getD r column.CODE 0) code.RULE-REF ≡ true
-  unfolding ruleRound
-  round-reference r = go (eqb (getD r column.CODE 0) code.RULE-REF) (eqb (getD parent column.CODE 0) code.RULE)
-    where
-      parent : List ℕ
-      parent = getD rows (getD r column.PARENT 0) []
-
-      go : (t u : Bool) → isRule (cond (t && u) (getD parent column.OWN 0) 0) ≡ true → t ≡ true
-      go true u e = refl
-      go false u e = absurd (omega (arith, rule-range 0 e))
-
-  circle-reference : (d : Draft) → onCircle rows (d .row) ≡ true → is code.RULE-REF d ≡ true
-  unfolding onCircle
-  circle-reference d e =
-      let step = and-yes (isStep rows (d .row)) _ e .0 in
-      round-reference (d .row) (and-yes (isRule (ruleRound rows (d .row))) (isRule (ruleFound rows (d .row))) step .0)
-
-  -- the faults of the rows, as the stage lists them
-  abbrev faults : List Draft → Draft → List ℕ
-  faults before d = faultIf (onCircle rows (d .row)) (d .ownAt)
-
-  first-fault : {ds : List Draft} → Marked ds → (before : List Draft) → First (firstFault (alone (circleFault rows)) ds) (faultsAfter faults before ds)
-  unfolding firstFault faultsAfter circleFault
-  first-fault none-marked before = none
-  first-fault (add-marked {d = d} h k) before =
-      first-append (first-if (onCircle rows (d .row)) (λ e. h (circle-reference d e))) (first-fault k (d ∷ before))
-
-  -- ---- no fault, no circle
-
-  rest-none : (t : Bool) (m : ℕ) (l : List ℕ) → faultIf t m ++ l ≡ [] → (t ≡ false) × (l ≡ [])
-  rest-none true m l e = absurd (let z : _≡_ {A = ℕ} 0 1 = cc in omega arith)
-  rest-none false m l e = (refl, e)
-
-  -- the step of a row
-  step-of : (r : List ℕ) (a b : ℕ) → leads (stepIn rows r) a b ≡ true → (isStep rows r ≡ true) × (ruleRound rows r ≡ a) × (ruleFound rows r ≡ b)
-  unfolding stepIn leads
-  step-of r a b = go (isStep rows r)
-    where
-      x : ℕ
-      x = ruleRound rows r
-
-      y : ℕ
-      y = ruleFound rows r
-
-      go : (t : Bool) → leads (cond t (record { from = x; to = y } ∷ []) []) a b ≡ true → (t ≡ true) × (x ≡ a) × (y ≡ b)
-      go true e = let z = and-yes (eqb x a) (eqb y b) (sym (or-false (eqb x a && eqb y b)) ∙ e) in (refl, eqb-true x a (z .0), eqb-true y b (z .1))
-      go false e = absurd (true≢false (sym e))
-
-  no-step : (a b : ℕ) → leads [] a b ≡ true → ⊥
-  unfolding leads
-  no-step a b e = true≢false (sym e)
-
-  -- where no row is at fault, no step of theirs has a way back
-  none-back :
-      (ds before : List Draft) → faultsAfter faults before ds ≡ [] → (a b : ℕ) → leads (stepsAmong rows (rowsOf ds)) a b ≡ true
-      → Circular (ruleSteps rows) a b → ⊥
-  unfolding faultsAfter stepsAmong
-  none-back [] before e a b f p = no-step a b f
-  none-back (d ∷ ds) before e a b f p =
-      let none = rest-none (onCircle rows (d .row)) (d .ownAt) (faultsAfter faults (d ∷ before) ds) e in
-      ⊎-elim
-      (λ g.
-      let u = step-of (d .row) a b g in
-      let back : Circular (ruleSteps rows) (ruleRound rows (d .row)) (ruleFound rows (d .row)) = rw (u .1, u .2) p in
-      true≢false (sym (on-circle (d .row) .1 (u .0, back)) ∙ none .0))
-      (λ g. none-back ds (d ∷ before) (none .1) a b g p)
-      (or-yes (leads (stepIn rows (d .row)) a b) _ (sym (leads-append (stepIn rows (d .row)) (stepsAmong rows (rowsOf ds)) a b) ∙ f))
-
-  -- and where no step of all rows has one, none of these, whose steps are among them, is at fault
-  none-at-fault :
-      (ds before : List Draft) → ((a b : ℕ) → leads (stepsAmong rows (rowsOf ds)) a b ≡ true → leads (ruleSteps rows) a b ≡ true)
-      → NoCircle (ruleSteps rows) → faultsAfter faults before ds ≡ []
-  unfolding faultsAfter stepsAmong
-  none-at-fault [] before h free = refl
-  none-at-fault (d ∷ ds) before h free = rw (off (onCircle rows (d .row)) refl) (none-at-fault ds (d ∷ before) (λ a b e. h a b (later a b e)) free)
-    where
-      x : ℕ
-      x = ruleRound rows (d .row)
-
-      y : ℕ
-      y = ruleFound rows (d .row)
-
-      both :
-          (a b : ℕ)
-          → leads (stepIn rows (d .row) ++ stepsAmong rows (rowsOf ds)) a b ≡ (leads (stepIn rows (d .row)) a b || leads (stepsAmong rows (rowsOf ds)) a b)
-      both = leads-append (stepIn rows (d .row)) (stepsAmong rows (rowsOf ds))
-
-      later : (a b : ℕ) → leads (stepsAmong rows (rowsOf ds)) a b ≡ true → leads (stepIn rows (d .row) ++ stepsAmong rows (rowsOf ds)) a b ≡ true
-      later a b e = both a b ∙ rw (e, or-true (leads (stepIn rows (d .row)) a b))
-
-      off : (t : Bool) → onCircle rows (d .row) ≡ t → t ≡ false
-      off true e = let u = on-circle (d .row) .0 e in absurd (free x y (h x y (both x y ∙ rw (step-leads rows (d .row) (u .0)))) (u .1))
-      off false e = refl
+first-fault :
+    (rows : List (List ℕ)) {ds : List Draft} → Marked ds → (before : List Draft)
+    → First (firstFault (alone (circleFault rows)) ds) (faultsAfter (faults rows) before ds)
+unfolding firstFault faultsAfter circleFault
+first-fault rows none-marked before = none
+first-fault rows (add-marked {d = d} h k) before =
+    first-append (first-if (onCircle rows (d .row)) (λ e. h (circle-reference rows d e))) (first-fault rows k (d ∷ before))
 
 -- stage 14 answers the first of the names that it lists, as the code finds it
 pub circle-first : {ds : List Draft} → Marked ds → First (firstBy circleFault ds) (circularReferences ds)
 unfolding circularReferences
-circle-first {ds} h = first-fault (rowsOf ds) h []
-
--- there is no such name exactly when no step between the rules of the rows stands on a circle
-pub circle-free : (ds : List Draft) → (circularReferences ds ≡ []) ↔ NoCircle (ruleSteps (rowsOf ds))
-unfolding circularReferences
-circle-free ds = (
-  λ e a b. none-back (rowsOf ds) ds [] e a b,
-  λ free. none-at-fault (rowsOf ds) ds [] (λ a b e. e) free,
-)
+circle-first {ds} h = first-fault (draftRows ds) h []

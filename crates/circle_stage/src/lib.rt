@@ -1,9 +1,10 @@
 // 14 over settled rows: a rule that reaches itself through references (document 02, W-202).
 ghost use mathlib.Core.Path.{_≡_};
 ghost use Rattle.answers.specs.Drafts.{draftsFrom};
+ghost use Rattle.answers.specs.Stages.{draftRows};
 ghost use Rattle.circles.specs.Circles.{circularIn};
 ghost use Rattle.drafts.specs.Faults.{draftAt};
-ghost use Rattle.circle_stage.specs.Circular.{rowsOf, markIf, circleFault, firstBy};
+ghost use Rattle.circle_stage.specs.Circular.{markIf, circleFault, firstBy};
 use circles::circular;
 use circles::close;
 use drafts::own_mark;
@@ -15,7 +16,7 @@ use rule_steps::rule_round;
 
 // The mark of the name in a row that is, by a closed map, a step on a circle; or 0.
 fn mark_in(table: &[u64], count: usize, row: usize, map: &Map) -> u64
-    ensures { λ r. ⌜ r ≡ markIf (circularIn (now (map .entry))) (rowsOf (draftsFrom (now (table .entry)) 0 count)) (draftAt (now (table .entry)) row) ⌝ }
+    ensures { λ r. ⌜ r ≡ markIf (circularIn (now (map .entry))) (draftRows (draftsFrom (now (table .entry)) 0 count)) (draftAt (now (table .entry)) row) ⌝ }
 {
     if circular(map, rule_round(table, count, row), cell(table, row, A)) {
         return own_mark(table, row);

@@ -8,6 +8,7 @@ use lib.ListN.{length, getD}
 use Rattle.numbers.specs.Numbers.{mem}
 use Rattle.circles.specs.Circles.{Step}
 use Rattle.operators.specs.declared.Scalar.{Scalar}
+use Rattle.operators.specs.declared.Scalar.the-variants.{Undefined}
 use Rattle.answers.specs.Expression.{undefined′}
 use Rattle.formulas.specs.Formula.{Formula, f-constant}
 use Rattle.meaning.specs.Meaning.{meaning}
@@ -36,6 +37,15 @@ pub record RuleSet (rules : List Formula) : Type 0 where
 -- ---- their values
 
 module _ (rules : List Formula) (questions : ℕ → Scalar) where
+  -- found in rounds: at first all are undefined, and each round finds every rule's value by those of the round before
+  unfoldable pub rounds : ℕ → ℕ → Scalar
+  rounds zero n = Undefined
+  rounds (suc k) n = meaning questions (rounds k) (ruleAt rules n)
+
+  -- what the rule of number n is worth: without circles more rounds than there are rules change nothing (proofs/Theorems, `worth-only`)
+  unfoldable pub worth : ℕ → Scalar
+  worth n = rounds (suc (length rules)) n
+
   -- every rule is worth what its expression means, by the questions' answers and these very values
   pub record Solves (values : ℕ → Scalar) : Type 0 where
     pub solved : (n : ℕ) → values n ≡ meaning questions values (ruleAt rules n)

@@ -27,11 +27,20 @@ has-none : (n : ℕ) → Unplaced n → hasPlace n ≡ false
 has-none n (inl e) = rw e
 has-none n (inr (inl e)) = rw e
 has-none n (inr (inr (inl e))) = rw e
-has-none n (inr (inr (inr e))) = rw e
+has-none n (inr (inr (inr (inl e)))) = rw e
+has-none n (inr (inr (inr (inr (inl e))))) = rw e
+has-none n (inr (inr (inr (inr (inr e))))) = rw e
 
 has-place : (n : ℕ) → (Unplaced n → ⊥) → hasPlace n ≡ true
 has-place n h =
-    rw (ne-eqb n 0 (λ e. h (inl e)), ne-eqb n 1 (λ e. h (inr (inl e))), ne-eqb n 6 (λ e. h (inr (inr (inl e)))), ne-eqb n 13 (λ e. h (inr (inr (inr e)))))
+    rw (
+      ne-eqb n 0 (λ e. h (inl e)),
+      ne-eqb n 1 (λ e. h (inr (inl e))),
+      ne-eqb n 6 (λ e. h (inr (inr (inl e)))),
+      ne-eqb n 13 (λ e. h (inr (inr (inr (inl e))))),
+      ne-eqb n 15 (λ e. h (inr (inr (inr (inr (inl e)))))),
+      ne-eqb n 30 (λ e. h (inr (inr (inr (inr (inr e)))))),
+    )
 
 pub gives-line : (s : List ℕ) (number place rows free written : ℕ) → GivesLine s (replied s number place rows free written)
 unfolding positionAt

@@ -1,13 +1,18 @@
-// Line and column of an answer (document 02, W-201).
+// Line and column of an answer (document 02, W-201, W-202).
 use positions::Position;
 ghost use mathlib.Core.Path.{_≡_};
 ghost use Rattle.replies.specs.Replies.{hasPlace, positionOf};
 
-// Whether an answer with this number has a place in the source: not one that accepts, nor 1, 6 and 13.
+// Whether an answer with this number has a place in the source: not one that accepts, nor 1, 6, 13, 15 and 30.
 fn has_place(number: u64) -> bool
     ensures { λ r. ⌜ r ≡ hasPlace number ⌝ }
 {
-    !((number == 0) | (number == 1) | (number == 6) | (number == 13))
+    !((number == 0)
+        | (number == 1)
+        | (number == 6)
+        | (number == 13)
+        | (number == 15)
+        | (number == 30))
 }
 
 // Line and column of an answer's place, or 0 and 0 where it has none.

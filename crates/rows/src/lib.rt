@@ -66,6 +66,15 @@ pub fn clear(table: &mut [u64], from: usize)
     }
 }
 
+// Sets all bytes from an index on to 0.
+pub fn clear_bytes(out: &mut [u8], from: usize)
+    ensures { λ _. ⌜ now (out .exit) ≡ cleared (now (out .entry)) from ⌝ }
+{
+    for k in from..out.len() {
+        out[k] = 0;
+    }
+}
+
 // Sets all numbers past `count` rows to 0, those of no whole row too.
 pub fn clear_past(table: &mut [u64], count: usize)
     ensures { λ _. ⌜ now (table .exit) ≡ cleared (now (table .entry)) (count * ROW) ⌝ }

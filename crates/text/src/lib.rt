@@ -3,9 +3,9 @@ mod expressions;
 mod items;
 
 use crate::items::put_text;
+use rows::clear_bytes;
 ghost use mathlib.Core.Path.{_≡_};
 ghost use lib.ListN.{length};
-ghost use Rattle.rows.specs.Table.{cleared};
 ghost use Rattle.answers.specs.Resolution.{room, resolvedTable, resolvedOutput};
 ghost use Rattle.replies.specs.Replies.{resolveReply};
 ghost use Rattle.text.specs.Answers.{told, RowsPrinted};
@@ -29,14 +29,6 @@ pub enum Answer {
     Long(usize),
 }
 
-fn clear(out: &mut [u8], from: usize)
-    ensures { λ _. ⌜ now (out .exit) ≡ cleared (now (out .entry)) from ⌝ }
-{
-    for k in from..out.len() {
-        out[k] = 0;
-    }
-}
-
 // The longest text for so many bytes lent.
 fn room(lent: usize) -> usize
     ensures { λ r. ⌜ r ≡ room lent ⌝ }
@@ -54,10 +46,10 @@ fn print_rows(table: &mut [u64], out: &mut [u8], rows: usize, free: u64) -> Answ
     let bytes = put_text(out, table, rows);
     if room(out.len()) < bytes {
         rows::clear(table, 0);
-        clear(out, 0);
+        clear_bytes(out, 0);
         return Answer::Long(bytes);
     }
-    clear(out, bytes);
+    clear_bytes(out, bytes);
     Answer::Resolved(rows, free, bytes)
 }
 
@@ -71,11 +63,11 @@ pub fn resolve(src: &[u8], table: &mut [u64], out: &mut [u8]) -> Answer
     match answer {
         read::Answer::Accepted(rows, free) => print_rows(table, out, rows, free),
         read::Answer::Refused(number, place, line, column) => {
-            clear(out, 0);
+            clear_bytes(out, 0);
             Answer::Refused(number, place, line, column)
         }
         read::Answer::Short(need) => {
-            clear(out, 0);
+            clear_bytes(out, 0);
             Answer::Short(need)
         }
     }

@@ -5,12 +5,13 @@ use Rattle.answers.specs.Drafts.{draftsFrom}
 use Rattle.circles.specs.Circles.{circularIn}
 use Rattle.drafts.specs.Faults.{alone}
 use Rattle.drafts.proofs.FaultLaws.{Searching, searching-start, searching-found, searching-next, searching-end}
-use Rattle.circle_stage.specs.Circular.{rowsOf, markIf}
+use Rattle.answers.specs.Stages.{draftRows}
+use Rattle.circle_stage.specs.Circular.{markIf}
 use Rattle.circle_stage.proofs.first_mark.Statement.{statement}
 use Rattle.circle_stage.proofs.first_mark.Tie as tie
 
 abbrev Inv-loop : tie.InvT-loop
-Inv-loop table count map row₀ row = Searching (alone (markIf (circularIn map) (rowsOf (draftsFrom table 0 count)))) table count row
+Inv-loop table count map row₀ row = Searching (alone (markIf (circularIn map) (draftRows (draftsFrom table 0 count)))) table count row
 
 abbrev μ-loop : tie.MeasureT-loop
 μ-loop table count map row₀ row = count - row

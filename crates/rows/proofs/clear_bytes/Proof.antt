@@ -1,14 +1,14 @@
--- `text::clear` meets its contract: what is left to clear at k gives what is to be cleared from the start.
+-- `rows::clear_bytes` meets its contract: what is left to clear at k gives what is to be cleared from the start.
 -- Assumes nothing.
 use Prim.Native.Nat.{_-_}
 use mathlib.Core.Path.{_≡_, refl, sym, _∙_}
 use native.Mathlib.Omega.{arith}
 use lib.ListN.{length, length-set}
 use Rattle.rows.specs.Table.{cleared}
 use Rattle.rows.proofs.ClearLaws.{cleared-none, cleared-next}
 use borrow.Author.Needs.{needs}
-use Rattle.text.proofs.clear.Statement.{statement}
-use Rattle.text.proofs.clear.Tie as tie
+use Rattle.rows.proofs.clear_bytes.Statement.{statement}
+use Rattle.rows.proofs.clear_bytes.Tie as tie
 
 abbrev Inv-loop : tie.InvT-loop
 Inv-loop out₀ from k₀ k-end out k = (length out ≡ length out₀) × (cleared out k ≡ cleared out₀ from)
@@ -39,8 +39,8 @@ same-length c = search needs
 returns : tie.Need-returns Inv-loop μ-loop
 returns c = sym (cleared-none (c .before .loop .out) (c .before .loop .k) (omega arith)) ∙ c .before .loop .inv .1
 
-pub clear-spec : {M : Type 1} → statement M
-clear-spec =
+pub clear-bytes-spec : {M : Type 1} → statement M
+clear-bytes-spec =
     tie.close
     (tie.spec
     Inv-loop

@@ -1,0 +1,2 @@
+-- The definitions that the contract of `show` cites.
+pub mod Show

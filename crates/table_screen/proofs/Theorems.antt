@@ -16,7 +16,7 @@ use Rattle.answers.specs.WholeAnswer.{readAnswer, readTable}
 use Rattle.answers.specs.Demand3.{Sound}
 use Rattle.operators.specs.declared.Scalar.{Scalar}
 use Rattle.numbers.specs.Numbers.{mem}
-use Rattle.circles.specs.Circles.{NoCircle, last}
+use Rattle.circles.specs.Circles.{last}
 use Rattle.ranks.specs.Ranks.{orderOf}
 use Rattle.ranks.proofs.Theorems.{steps-size, steps-ordered}
 use Rattle.rule_steps.specs.Steps.{ruleSteps}
@@ -55,9 +55,9 @@ room-values : room noValues ≡ 256
 unfolding noValues
 room-values = refl
 
--- ---- a source with its derivation, of which no stage finds a fault, and no step between whose rules stands on a circle
+-- ---- a source with its derivation, of which no stage finds a fault
 
-module _ (s : List ℕ) (n : ℕ) (tree : Trees) (sound : Sound s tree) (free : NoCircle (ruleSteps (finished s (drafts s tree)))) where
+module _ (s : List ℕ) (n : ℕ) (tree : Trees) (sound : Sound s tree) where
   -- how many rules it has
   abbrev many : ℕ
   many = length (sourceRules s tree)
@@ -84,17 +84,16 @@ module _ (s : List ℕ) (n : ℕ) (tree : Trees) (sound : Sound s tree) (free : 
         → (k : ℕ) → 0 < k → k ≤ many → valueAt (ruleValues answers gotos checkboxes (source.table s tree n) (source.count s tree)) k ≡ worth k
     rule-value ascending worth solves k z h =
         rw values-are
-        (rules.values-found s tree (sound .derives) (sound .limit) (sound .references) free (sound .depths)
-        (steps-ordered (rules.steps-inside s tree (sound .derives) (sound .limit) (sound .references)) free)
+        (rules.values-found s tree (sound .derives) (sound .limit) (sound .references) (sound .circles) (sound .depths)
+        (steps-ordered (rules.steps-inside s tree (sound .derives) (sound .limit) (sound .references)) (sound .circles))
         (omega (arith, few, steps-size (ruleSteps (finished s (drafts s tree))) many))
         n noPlaces long noValues (omega (arith, few, room-values)) answers gotos checkboxes worth
         (rw (value-answered answers ascending gotos checkboxes) solves) k z h)
 
 -- ---- an accepted source
 
--- it has a derivation, the only one; no step between its rules stands on a circle (refusal 14)
-module _ (s : List ℕ) (n : ℕ) (accepted : readAnswer s n .number ≡ 0) (tree : Trees) (sound : Sound s tree)
-    (free : NoCircle (ruleSteps (finished s (drafts s tree)))) where
+-- it has a derivation, the only one
+module _ (s : List ℕ) (n : ℕ) (accepted : readAnswer s n .number ≡ 0) (tree : Trees) (sound : Sound s tree) where
   -- its screen, which stands in the table of n numbers that reading leaves
   abbrev pub screen : Screen
   screen = rows.screenRead s n accepted tree sound
@@ -131,7 +130,7 @@ module _ (s : List ℕ) (n : ℕ) (accepted : readAnswer s n .number ≡ 0) (tre
     valued : EachExpression (λ e. Agree (references e) (valueAt values) worth) screen
     valued code row e inner st m h =
         let r = refers st m h in
-        rw (table, count) (rule-value s n tree sound free answers gotos checkboxes ascending worth solves m (r .0) (r .1))
+        rw (table, count) (rule-value s n tree sound answers gotos checkboxes ascending worth solves m (r .0) (r .1))
 
     -- are those of the screen
     pub table-shown : bytesShown ≡ bytes questions worth false false screen

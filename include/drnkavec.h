@@ -219,8 +219,8 @@ void vfr_resolve(const uint8_t *src, size_t src_len, uint64_t *table, size_t tab
  *   it is 0;
  * - the answer holds the numbers above, of which VFR_ANSWER_WRITTEN is 0, and 0 past them.
  * An expression is worth TRUE, FALSE, a number of 64 bits, or it is undefined; only TRUE hides or makes grey. A
- * checkbox answers FALSE for 0 and TRUE otherwise, a numeric and a oneof their value, whatever it is; a goto, and a question
- * without an answer, are undefined. Each rule is evaluated once, however often it is referred to. */
+ * checkbox answers FALSE for 0 and TRUE otherwise, a numeric and a oneof their value, whatever it is; a goto, and a
+ * question without an answer, are undefined. Each rule is evaluated once, however often it is referred to. */
 void vfr_show(const uint8_t *src, size_t src_len, const uint64_t *answers, size_t answers_len, uint64_t *table,
               size_t table_len, uint8_t *out, size_t out_len, uint64_t *answer, size_t answer_len);
 

@@ -77,6 +77,13 @@ pub struct Reading {
     pub free: u64,
 }
 
+impl Reading {
+    /// The numbers that questions bear, in source order.
+    pub fn question_numbers(&self) -> Vec<u64> {
+        self.rows.iter().filter(|row| show::is_question(row)).map(|row| row[column::NUMBER]).collect()
+    }
+}
+
 /// The quick check's events: none is of interest.
 struct Unheard;
 
@@ -135,7 +142,7 @@ pub fn show(
     bytes_lent: usize,
 ) -> Result<(Reading, Vec<u8>), Refusal> {
     let reading = read(source, rows_lent)?;
-    if let Some(place) = show::wrong_answer(&reading.rows, answers) {
+    if let Some(place) = show::wrong_answer(&reading.question_numbers(), answers) {
         return Err(Refusal::new(ANSWERS_REFUSAL, place));
     }
     if bytes_lent < reading.rows.len() {

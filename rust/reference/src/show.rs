@@ -11,7 +11,7 @@ use std::collections::{HashMap, HashSet};
 const HIDDEN: u8 = 1;
 const GREY: u8 = 2;
 
-fn is_question(row: &Row) -> bool {
+pub fn is_question(row: &Row) -> bool {
     matches!(row[column::CODE], code::GOTO | code::CHECKBOX | code::NUMERIC | code::ONEOF)
 }
 
@@ -22,8 +22,8 @@ fn is_plain_item(row: &Row) -> bool {
 
 /// Which answer, from 0, is the first that is not above the one before it, has no value, or has a number that no question
 /// bears.
-pub fn wrong_answer(rows: &[Row], answers: &[u64]) -> Option<usize> {
-    let borne: HashSet<u64> = rows.iter().filter(|row| is_question(row)).map(|row| row[column::NUMBER]).collect();
+pub fn wrong_answer(question_numbers: &[u64], answers: &[u64]) -> Option<usize> {
+    let borne: HashSet<&u64> = question_numbers.iter().collect();
     let mut above = 0;
     answers.chunks(2).position(|answer| match answer {
         [number, _] if *number >= above && borne.contains(number) => {

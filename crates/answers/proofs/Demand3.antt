@@ -60,7 +60,7 @@ module _ (s : List ℕ) where
       found (refusing r) e = absurd (refused-number r e)
 
   -- whatever table is lent, reading accepts exactly when the source is no longer than 65,536 bytes, has a derivation whose depths, ranges, 255-rule
-  -- limit, uniqueness, reference and choice rules hold, and its rows are no more than the whole rows lent
+  -- limit, uniqueness, reference and choice rules hold and of whose rules none reaches itself (W-202), and its rows are no more than the whole rows lent
   pub accepts-with-room : (n : ℕ) → (readAnswer s n .number ≡ 0) ↔ ((tree : Trees) × Sound s tree × (length s ≤ LONGEST) × (length (drafts s tree) ≤ n / ROW))
   accepts-with-room n =
       let w = accepts-passing n in (
@@ -76,7 +76,7 @@ module _ (s : List ℕ) where
 
   -- ---- refusals
 
-  -- reading refuses with an answer exactly when a line of document 01's table says so, and with that answer only
+  -- reading refuses with an answer exactly when a line of document 01's table, with W-202's 14, says so, and with that answer only
   pub refuses-exactly : (n : ℕ) (a : Answer) → Refuses s n a ↔ ((readAnswer s n ≡ a) × (a .number ≢ 0))
   refuses-exactly n a = (λ r. (refused-answer s n r, refused-number r), λ w. found (answer-right s n) (w .0) (w .1))
     where

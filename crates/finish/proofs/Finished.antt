@@ -245,8 +245,8 @@ module _ {ds : List Draft} (v : SoundRows ds) (s : List ℕ) (found : unfound s 
     unfolding tableSettled
     table-settled = passed t (are-encoded fit) fewer table-numbered (resolved s es t₁) (length-resolved s es t₁) (rw many two) ∙ ap (put t 0) cells-settled
 
-    long : length t₂ ≡ length t
-    long = rw table-settled (length-put (are-encoded fit-settled) t 0)
+    pub settled-long : length t₂ ≡ length t
+    settled-long = rw table-settled (length-put (are-encoded fit-settled) t 0)
 
     -- its first rows are the settled drafts
     pub settled-in : DraftsIn t₂ (settled s ds)
@@ -254,7 +254,7 @@ module _ {ds : List Draft} (v : SoundRows ds) (s : List ℕ) (found : unfound s 
         let all : length (map encoded (settled s ds)) ≡ length ds = length-map (settled s ds) encoded ∙ settled-count s ds in
         record {
           fit = fit-settled;
-          room = rw (settled-count s ds) (omega (arith, long, room));
+          room = rw (settled-count s ds) (omega (arith, settled-long, room));
           held = rw (← length-map (settled s ds) encoded) (rows-held t (are-encoded fit-settled) (rw all room) table-settled);
         }
 
@@ -262,7 +262,7 @@ module _ {ds : List Draft} (v : SoundRows ds) (s : List ℕ) (found : unfound s 
     pub finished-table : {t₃ t₄ : List ℕ} → t₃ ≡ put t₂ 0 (map stripped (rowsFrom t₂ 0 (length ds)))
         → t₄ ≡ cleared t₃ (length ds * column.ROW) → t₄ ≡ laid (finished s ds) (length t)
     unfolding finished
-    finished-table {t₃} three four = rw (← long) (rows-laid settled-in {t₁ = t₃} (rw (settled-count s ds) three) (rw (settled-count s ds) four))
+    finished-table {t₃} three four = rw (← settled-long) (rows-laid settled-in {t₁ = t₃} (rw (settled-count s ds) three) (rw (settled-count s ds) four))
 
   -- the numbers that the map leaves free
   pub free-finished : {ws₁ : List ℕ} → ws₁ ≡ givenMap ws 1 (ownsIn (rowsFrom t 0 (length ds))) → usedCount ws₁ + freeCount (numbered (ownNumbers ds)) ≡ 65535

@@ -20,7 +20,7 @@ use Rattle.formulas.specs.Formula.{Formula, f-number as N, f-constant as C, f-r
 use Rattle.formulas.specs.Words.{print}
 use Rattle.meaning.specs.Meaning.{meaning}
 use Rattle.meaning.specs.References.{references}
-use Rattle.meaning.specs.Rules.{ruleAt, stepsFrom, steps, Solves}
+use Rattle.meaning.specs.Rules.{ruleAt, stepsFrom, steps, rounds, worth, Solves}
 
 -- an operator between its operands
 infix 68 _⟨_⟩_
@@ -145,17 +145,12 @@ ruled =
     }
     ∷ []
 
--- the value of rule n, of values from rule 1 on
-unfoldable valueAt : List Scalar → ℕ → Scalar
-valueAt values zero = Undefined
-valueAt values (suc n) = getD values n Undefined
-
--- the values that the example states, each of which is what its rule's expression means by these very values
+-- what its rules are worth
 abbrev values : Ruled → ℕ → Scalar
-values r = valueAt (map (λ e. e .value) (r .rules))
+values r = worth (map (λ e. e .formula) (r .rules)) none
 
 rules-worked : map (λ r. map (computed (values r)) (r .asked ∷ r .rules)) ruled ≡ map (λ r. map stated (r .asked ∷ r .rules)) ruled
-unfolding ruled valueAt meaning signs reserved lexemes decimalDigits applied negated found operations sum product divided
+unfolding ruled meaning ruleAt rounds worth signs reserved lexemes decimalDigits applied negated found operations sum product divided
 rules-worked = refl
 
 -- ---- the steps of rules, in source order
@@ -178,6 +173,11 @@ doubling n (suc k) = (R (suc n) ⟨ add ⟩ R (suc n)) ∷ doubling (suc n) k
 unfoldable powers : ℕ → List Scalar
 powers zero = Number 1 ∷ []
 powers (suc k) = Number (2 ^ suc k) ∷ powers k
+
+-- the value of rule n, of values from rule 1 on
+unfoldable valueAt : List Scalar → ℕ → Scalar
+valueAt values zero = Undefined
+valueAt values (suc n) = getD values n Undefined
 
 -- values that are what the rules' expressions mean solve the rules' equations
 listed : (rules : List Formula) (l : List Scalar) → map (meaning none (valueAt l)) rules ≡ l → Solves rules none (valueAt l)

@@ -1,5 +1,5 @@
--- The laws of `meaning`. Theorems: rules without circles have one solution. Named: what a meaning depends on. Steps: the steps are the references.
--- Rounds: a solution by ranks. Examples: expressions and rules, computed.
+-- The laws of `meaning`. Theorems: what rules without circles are worth solves their equations, and nothing else does. Named: what a meaning depends on.
+-- Steps: the steps are the references. Rounds: solutions by ranks. Examples: expressions and rules, computed.
 pub mod Theorems
 pub mod Examples
 -- What these rest on.

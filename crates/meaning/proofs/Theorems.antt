@@ -1,6 +1,6 @@
--- The rules of a form set without circles have values, and no others; with a circle they may have many.
+-- The rules of a form set without circles have values, found in rounds, and no others; with a circle they may have many.
 -- Assumes nothing.
-use Prim.Native.Nat.{ℕ, zero, suc, _≤_, _<_}
+use Prim.Native.Nat.{ℕ, zero, suc, _≤_, _<_, min}
 use native.Mathlib.Omega.{arith}
 use mathlib.Core.Path.{_≡_, refl, sym, _∙_}
 use mathlib.Core.Bool.{true, false, true≢false, or-false}
@@ -9,26 +9,48 @@ use borrow.Author.Tests.{eqb-true}
 use lib.Dec.{eqb}
 use lib.ListN.{length}
 use Rattle.numbers.specs.Numbers.{mem}
-use Rattle.circles.specs.Circles.{NoCircle}
+use Rattle.circles.specs.Circles.{leads, NoCircle}
 use Rattle.ranks.specs.Ranks.{rank}
-use Rattle.ranks.proofs.Ranks.{rank-falls}
+use Rattle.ranks.proofs.Ranks.{rank-falls, rank-low}
 use Rattle.operators.specs.declared.Scalar.{Scalar}
 use Rattle.operators.specs.declared.Scalar.the-variants.{Boolean, Number, Undefined}
 use Rattle.operators.specs.Values.{negated, found, constants}
 use Rattle.formulas.specs.Formula.{Formula, f-rule, f-not}
 use Rattle.meaning.specs.Meaning.{meaning}
 use Rattle.meaning.specs.References.{references}
-use Rattle.meaning.specs.Rules.{ruleAt, steps, RuleSet, Solves, OneSolution}
+use Rattle.meaning.specs.Rules.{ruleAt, steps, RuleSet, worth, Solves, OneSolution}
 use Rattle.meaning.proofs.Steps.{steps-lead, steps-within}
-use Rattle.meaning.proofs.Rounds.{ranked-solution}
+use Rattle.meaning.proofs.Rounds.{worth-solves, solved-once}
 -- an expression's meaning depends only on the questions and the rules that it refers to
 pub use Rattle.meaning.proofs.Named.{meaning-named}
 
--- the rules of a form set without circles are worth one value each, whatever the questions answer
-pub rules-solved : (rules : List Formula) → RuleSet rules → NoCircle (steps rules) → (questions : ℕ → Scalar) → OneSolution rules questions
-rules-solved rules set free questions =
-    ranked-solution rules questions (rank (steps rules) (length rules))
-    (λ n m e. rank-falls (steps rules) (length rules) (steps-within set) free n m (steps-lead rules n m ∙ e))
+module _ (rules : List Formula) (set : RuleSet rules) (free : NoCircle (steps rules)) where
+  -- how many rules a rule reaches, no more than there are
+  abbrev low : ℕ → ℕ
+  low n = min (rank (steps rules) (length rules) n) (length rules)
+
+  low-falls : (n m : ℕ) → mem m (references (ruleAt rules n)) ≡ true → low m < low n
+  low-falls n m e =
+      let step : leads (steps rules) n m ≡ true = steps-lead rules n m ∙ e in
+      let rule = steps-within set .to n m step in
+      omega (
+        arith,
+        rank-falls (steps rules) (length rules) (steps-within set) free n m step,
+        rank-low (steps rules) (length rules) (steps-within set) free m (rule .0) (rule .1),
+      )
+
+  module _ (questions : ℕ → Scalar) where
+    -- whatever the questions answer, what the rules of a form set without circles are worth solves their equations, and nothing else does
+    pub worth-only :
+        Solves rules questions (worth rules questions)
+        × ((others : ℕ → Scalar) → Solves rules questions others → (n : ℕ) → others n ≡ worth rules questions n)
+    worth-only =
+        let solves = worth-solves rules questions low low-falls (λ n. omega arith) in
+        (solves, λ others o. solved-once rules questions low low-falls o solves)
+
+    -- so they are worth one value each
+    pub rules-solved : OneSolution rules questions
+    rules-solved = record { values = worth rules questions; solves = worth-only .0; only = worth-only .1 }
 
 -- ---- why circles are refused (W-202, refusal 14)
 

@@ -1,5 +1,5 @@
--- Demands 1 and 3 of the functions `read` and `quick_check`: what their contracts say of every source and every table lent, in document 01's terms,
--- which are those of `answers`' `specs/Demand3`; and document 02's request W-201 of `read`.
+-- Demands 1 and 3 of the functions `read` and `quick_check`: what their contracts say of every source and every table lent, in document 01's terms
+-- with W-202's, which are those of `answers`' `specs/Demand3`; and document 02's request W-201 of `read`.
 -- Assumes nothing.
 use Prim.Native.Nat.{ℕ, _+_, _-_, _*_, _/_, _^_, _≤_, _<_}
 use mathlib.Core.Path.{_≡_, sym, ap, _∙_}
@@ -53,7 +53,7 @@ module _ {s : List ℕ} {n : ℕ} {r : Answer} {t′ : List ℕ} (v : Reading s 
   unfolding readTable
   refused-zeros h = v .table ∙ rw (ne-eqb (readAnswer s n .number) 0 (λ e. h (number ∙ e)))
 
-  -- a refusal is given with an answer exactly when a line of document 01's table says so
+  -- a refusal is given with an answer exactly when a line of document 01's table, with W-202's 14, says so
   pub refused-exactly : (a : answers.Answer) → Refuses s n a ↔ ((told r ≡ readReplied s a) × (a .number ≢ 0))
   refused-exactly a =
       let e = Demand3.refuses-exactly s n a in (
@@ -69,7 +69,7 @@ module _ {s : List ℕ} {n : ℕ} {r : Answer} {t′ : List ℕ} (v : Reading s 
   -- ---- demand 3
 
   -- "For every source of at most 65,536 bytes and every table of at least as many whole rows as the source has bytes": accepted exactly when the
-  -- grammar derives it "and its depths, ranges, 255-rule limit, uniqueness, reference and choice rules hold"
+  -- grammar derives it "and its depths, ranges, 255-rule limit, uniqueness, reference and choice rules hold", and no rule reaches itself (W-202)
   pub accepted-exactly : length s ≤ LONGEST → length s * ROW ≤ n → (told r .number ≡ 0) ↔ ((tree : Trees) × Sound s tree)
   accepted-exactly short large = rw (v .answer) (Demand3.accepts-exactly s n short large)
 

@@ -1,4 +1,4 @@
--- Stages 7 to 12 and what comes of the table, by an index of the declared names.
+-- Stages 7 to 12, and 14, and what comes of the table, by an index of the declared names.
 -- Assumes nothing.
 use Prim.Native.Nat.{ℕ, _+_, _/_, _≤_}
 use native.Mathlib.Omega.{arith}
@@ -7,20 +7,18 @@ use mathlib.Core.Logic.{_≢_}
 use mathlib.Core.List.{List}
 use lib.ListN.{length, replicate, length-replicate, getD-replicate}
 use borrow.Author.Tests.{eq-eqb, ne-eqb, le-ltb}
-use Rattle.numbers.specs.Numbers.{numbered, freeCount, emptyMap}
+use Rattle.numbers.specs.Numbers.{emptyMap}
 use Rattle.rows.specs.Columns.{ROW}
 use Rattle.rows.specs.Table.{cleared}
-use Rattle.rows.specs.Rows.{laid}
 use Rattle.rows.proofs.ClearLaws.{cleared-whole}
 use Rattle.answers.specs.Rows.{Draft}
-use Rattle.answers.specs.Stages.{ownNumbers, finished}
 use Rattle.answers.specs.Drafts.{draftsFrom}
-use Rattle.answers.specs.Answer.{Answer, refuses, accepts, answerOf}
+use Rattle.answers.specs.Answer.{Answer, refuses, answerPast12, answerOf}
 use Rattle.names.specs.Names.{BUCKETS, namesIn, indexed, Indexes}
 use Rattle.names.proofs.NameFaults.{index-made}
 use Rattle.read.specs.declared.Fault.{Fault}
 use Rattle.read.specs.Faults.{firstFaultOf, writtenAfter}
-use Rattle.read.specs.Drafted.{NAMES, Drafted, Ready, tableAfter}
+use Rattle.read.specs.Drafted.{NAMES, Drafted, Ready, tableAfter, tablePast12}
 use Rattle.read.proofs.FaultLaws.{answered, stages-answer, stages-passed}
 use Rattle.read.proofs.AcceptLaws.{length-drafts}
 
@@ -35,12 +33,9 @@ module _ {s xs t : List ℕ} {count : ℕ} (pre : Drafted t count) (index : Inde
   fault-is : f ≡ firstFaultOf s xs emptyMap ds
   fault-is = by ∙ rw none
 
-  abbrev acceptance : Answer
-  acceptance = accepts (length ds) (freeCount (numbered (ownNumbers ds)))
-
-  answer-is : answerOf s ds (length t / ROW) ≡ answered f acceptance
+  answer-is : answerOf s ds (length t / ROW) ≡ answered f (answerPast12 s ds)
   unfolding answerOf
-  answer-is = rw (le-ltb (length t / ROW) (length ds) (rw many (pre .room)), answerOf, fault-is) (sym (stages-answer (pre .sound) index acceptance))
+  answer-is = rw (le-ltb (length t / ROW) (length ds) (rw many (pre .room)), answerOf, fault-is) (sym (stages-answer (pre .sound) index (answerPast12 s ds)))
 
   -- ---- a stage refuses
 
@@ -61,15 +56,15 @@ module _ {s xs t : List ℕ} {count : ℕ} (pre : Drafted t count) (index : Inde
         let p = stages-passed (pre .sound) index (rw (← fault-is) z) in
         record { drafted = pre; index = index; found = p .found; written = rw (e, none, eq-eqb _ 0 (p .forms)) (p .holds) }
 
-    accepted-is : acceptance ≡ answerOf s ds (length t / ROW)
-    accepted-is = sym (answer-is ∙ rw (eq-eqb (f .number) 0 z))
+    past-12 : answerPast12 s ds ≡ answerOf s ds (length t / ROW)
+    past-12 = sym (answer-is ∙ rw (eq-eqb (f .number) 0 z))
 
-    pub accepted-answer : {a : Answer} → a ≡ accepts count (freeCount (numbered (ownNumbers ds))) → a ≡ answerOf s ds (length t / ROW)
-    accepted-answer e = e ∙ (ap (λ k. accepts k (freeCount (numbered (ownNumbers ds)))) (sym many) ∙ accepted-is)
+    pub answer-past-12 : {a : Answer} → a ≡ answerPast12 s ds → a ≡ answerOf s ds (length t / ROW)
+    answer-past-12 e = e ∙ past-12
 
-    pub accepted-table : {u : List ℕ} → u ≡ laid (finished s ds) (length t) → u ≡ tableAfter s ds (length t)
-    unfolding tableAfter
-    accepted-table e = e ∙ rw (← accepted-is)
+    pub table-past-12 : {u : List ℕ} → u ≡ tablePast12 s ds (length t) → u ≡ tableAfter s ds (length t)
+    unfolding tableAfter tablePast12
+    table-past-12 e = e ∙ rw (← past-12)
 
 -- ---- the index
 

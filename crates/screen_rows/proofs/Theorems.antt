@@ -119,6 +119,10 @@ module _ (s : List ℕ) (n : ℕ) (accepted : readAnswer s n .number ≡ 0) (tre
       (statements-laid s n tree (sound .derives) accepted)
       (source-shallow (rowOf s n tree (sound .derives)) (sound .derives) (sound .depths))
 
+  -- the screen has as many rows as reading answers
+  pub accepted-rows : size screenRead ≡ readAnswer s n .rows
+  accepted-rows = laid-rows (readTable s n) (readAnswer s n .rows) (rowOf s n tree (sound .derives)) (statements-laid s n tree (sound .derives) accepted)
+
   -- the statements of the screen have their rows in the table, and the items stand where the table has rows of items
   pub accepted-statement :
       {code row : ℕ} {e : Option Formula} {inner : Screen}

@@ -1,22 +1,19 @@
 -- Which items of an accepted source are hidden or grey, by the answers alone (document 02, W-202): what `table_screen::show_table` gives of the table
--- that reading leaves is the screen of the source, with the rules' values that solve their equations.
+-- that reading leaves are the bytes of its statements, with the rules' values that solve their equations.
 -- Assumes nothing.
-use Prim.Native.Nat.{ℕ, _/_, _%_, _≤_, _<_}
+use Prim.Native.Nat.{ℕ, _≤_, _<_}
 use native.Mathlib.Omega.{arith}
 use mathlib.Core.Path.{_≡_, refl}
 use mathlib.Core.Bool.{true, false}
-use mathlib.Core.Logic.{_↔_}
 use mathlib.Core.List.{List}
 use mathlib.Core.Option.{some}
-use lib.ListN.{length, getD, replicate}
+use lib.ListN.{length, replicate}
 use Rattle.ll1.specs.Trees.{Trees}
-use Rattle.answers.specs.Stages.{finished}
-use Rattle.answers.specs.Answer.{drafts}
 use Rattle.answers.specs.WholeAnswer.{readAnswer, readTable}
 use Rattle.answers.specs.Demand3.{Sound}
 use Rattle.operators.specs.declared.Scalar.{Scalar}
 use Rattle.numbers.specs.Numbers.{mem}
-use Rattle.circles.specs.Circles.{NoCircle, last}
+use Rattle.circles.specs.Circles.{last}
 use Rattle.ranks.specs.Ranks.{orderOf}
 use Rattle.ranks.proofs.Theorems.{steps-size, steps-ordered}
 use Rattle.rule_steps.specs.Steps.{ruleSteps}
@@ -27,18 +24,17 @@ use Rattle.formulas.specs.Formula.{Formula}
 use Rattle.meaning.specs.References.{references}
 use Rattle.meaning.specs.Rules.{Solves}
 use Rattle.meaning.proofs.Named.{Agree}
-use Rattle.screen.specs.Kinds.{hides, greys}
 use Rattle.screen.specs.Screen.{Screen}
 use Rattle.screen.specs.Bytes.{bytes}
-use Rattle.screen.specs.Round.{Stands, ItemAt, SomeTrue, EachExpression}
+use Rattle.screen.specs.Round.{Stands, EachExpression}
 use Rattle.screen_rows.specs.StatementRow.{StatementRow}
-use Rattle.screen_rows.proofs.Theorems as rows
+use Rattle.screen_rows.proofs.Theorems.{accepted-statement, screen-shown}
 use Rattle.form_set_rules.specs.Rules.{sourceRules}
 use Rattle.form_set_rules.proofs.Tables.{rows-start, rules-laid}
 use Rattle.form_set_rules.proofs.Tables as source
 use Rattle.form_set_rules.proofs.Theorems as rules
 use Rattle.table_screen.specs.TableScreen.{ruleOrder, rulePlaces, noValues, ruleValues, tableScreen}
-use Rattle.table_screen.specs.Questions.{gotosRead, checkboxesRead, questionsRead}
+use Rattle.table_screen.specs.SourceScreen.{sourceRows, statements}
 use Rattle.table_screen.proofs.CountLaws.{rows-counted}
 use Rattle.table_screen.proofs.Questions.{table-is, count-is}
 
@@ -55,9 +51,9 @@ room-values : room noValues ≡ 256
 unfolding noValues
 room-values = refl
 
--- ---- a source with its derivation, of which no stage finds a fault, and no step between whose rules stands on a circle
+-- ---- a source with its derivation, of which no stage finds a fault
 
-module _ (s : List ℕ) (n : ℕ) (tree : Trees) (sound : Sound s tree) (free : NoCircle (ruleSteps (finished s (drafts s tree)))) where
+module _ (s : List ℕ) (n : ℕ) (tree : Trees) (sound : Sound s tree) where
   -- how many rules it has
   abbrev many : ℕ
   many = length (sourceRules s tree)
@@ -66,7 +62,7 @@ module _ (s : List ℕ) (n : ℕ) (tree : Trees) (sound : Sound s tree) (free : 
   few = rules.rule-set s tree (sound .derives) (sound .limit) (sound .references) .few
 
   abbrev order : List ℕ
-  order = orderOf (ruleSteps (finished s (drafts s tree))) many
+  order = orderOf (ruleSteps (sourceRows s tree)) many
 
   module _ (answers gotos checkboxes : List ℕ) where
     -- the values that are found in its finished rows are found in the order of its steps
@@ -84,21 +80,16 @@ module _ (s : List ℕ) (n : ℕ) (tree : Trees) (sound : Sound s tree) (free : 
         → (k : ℕ) → 0 < k → k ≤ many → valueAt (ruleValues answers gotos checkboxes (source.table s tree n) (source.count s tree)) k ≡ worth k
     rule-value ascending worth solves k z h =
         rw values-are
-        (rules.values-found s tree (sound .derives) (sound .limit) (sound .references) free (sound .depths)
-        (steps-ordered (rules.steps-inside s tree (sound .derives) (sound .limit) (sound .references)) free)
-        (omega (arith, few, steps-size (ruleSteps (finished s (drafts s tree))) many))
+        (rules.values-found s tree (sound .derives) (sound .limit) (sound .references) (sound .circles) (sound .depths)
+        (steps-ordered (rules.steps-inside s tree (sound .derives) (sound .limit) (sound .references)) (sound .circles))
+        (omega (arith, few, steps-size (ruleSteps (sourceRows s tree)) many))
         n noPlaces long noValues (omega (arith, few, room-values)) answers gotos checkboxes worth
         (rw (value-answered answers ascending gotos checkboxes) solves) k z h)
 
 -- ---- an accepted source
 
--- it has a derivation, the only one; no step between its rules stands on a circle (refusal 14)
-module _ (s : List ℕ) (n : ℕ) (accepted : readAnswer s n .number ≡ 0) (tree : Trees) (sound : Sound s tree)
-    (free : NoCircle (ruleSteps (finished s (drafts s tree)))) where
-  -- its screen, which stands in the table of n numbers that reading leaves
-  abbrev pub screen : Screen
-  screen = rows.screenRead s n accepted tree sound
-
+-- it has a derivation, the only one; and its rows stand in the table of n numbers that reading leaves
+module _ (s : List ℕ) (n : ℕ) (accepted : readAnswer s n .number ≡ 0) (tree : Trees) (sound : Sound s tree) where
   table : readTable s n ≡ source.table s tree n
   table = table-is s n accepted tree sound
 
@@ -107,78 +98,28 @@ module _ (s : List ℕ) (n : ℕ) (accepted : readAnswer s n .number ≡ 0) (tre
 
   -- every ruleref of a condition or a rule finds one of its rules
   refers :
-      {code row : ℕ} {e : Formula} {inner : Screen} → Stands code (some e) inner row screen
+      {code row : ℕ} {e : Formula} {inner : Screen} → Stands code (some e) inner row (statements s tree)
       → (m : ℕ) → mem m (references e) ≡ true → (0 < m) × (m ≤ length (sourceRules s tree))
   refers {code} {row} {e} st =
       let r : StatementRow (source.table s tree n) (source.count s tree) row code (some e) =
-      rw (table, count) at (rows.accepted-statement s n accepted tree sound st) in
+      rw (table, count) at (accepted-statement s n accepted tree sound st) in
       let x = r .expression e refl in
       rules.expression-refers s tree (sound .derives) (sound .limit) (sound .references) n (x .spells) (x .stretch .below (r .inside))
 
-  -- The answers ascend, and the rules are worth what solves their equations (that they are worth one value each is `rules-worth` of `form_set_rules`).
+  -- The answers ascend, and the rules are worth what solves their equations.
   module _ (answers gotos checkboxes : List ℕ) (ascending : Ascending answers)
       (worth : ℕ → Scalar) (solves : Solves (sourceRules s tree) (answered answers gotos checkboxes) worth) where
-    abbrev questions : ℕ → Scalar
-    questions = answered answers gotos checkboxes
-
-    -- the bytes of all rows
-    abbrev pub bytesShown : List ℕ
-    bytesShown = tableScreen answers gotos checkboxes (readTable s n) (readAnswer s n .rows)
-
     abbrev values : List ℕ
     values = ruleValues answers gotos checkboxes (readTable s n) (readAnswer s n .rows)
 
-    valued : EachExpression (λ e. Agree (references e) (valueAt values) worth) screen
+    valued : EachExpression (λ e. Agree (references e) (valueAt values) worth) (statements s tree)
     valued code row e inner st m h =
         let r = refers st m h in
-        rw (table, count) (rule-value s n tree sound free answers gotos checkboxes ascending worth solves m (r .0) (r .1))
+        rw (table, count) (rule-value s n tree sound answers gotos checkboxes ascending worth solves m (r .0) (r .1))
 
-    -- are those of the screen
-    pub table-shown : bytesShown ≡ bytes questions worth false false screen
+    -- the bytes are those of its statements, whatever numbers the maps hold
+    pub table-shown :
+        tableScreen answers gotos checkboxes (readTable s n) (readAnswer s n .rows)
+        ≡ bytes (answered answers gotos checkboxes) worth false false (statements s tree)
     unfolding tableScreen
-    table-shown = rows.screen-shown s n accepted tree sound answers gotos checkboxes values ascending worth valued
-
-    module _ (row : ℕ) where
-      -- "An item is hidden when some `suppressif` or `disableif` round it is TRUE": its byte has 1
-      pub item-hidden : ItemAt row screen → (getD bytesShown row 0 % 2 ≡ 1) ↔ SomeTrue questions worth hides row screen
-      unfolding tableScreen
-      item-hidden = rows.item-hidden s n accepted tree sound answers gotos checkboxes values ascending worth valued row
-
-      -- "grey when some `grayoutif` is": its byte has 2
-      pub item-grey : ItemAt row screen → (getD bytesShown row 0 / 2 ≡ 1) ↔ SomeTrue questions worth greys row screen
-      unfolding tableScreen
-      item-grey = rows.item-grey s n accepted tree sound answers gotos checkboxes values ascending worth valued row
-
-      -- and nothing else
-      pub item-small : ItemAt row screen → getD bytesShown row 0 < 4
-      unfolding tableScreen
-      item-small = rows.item-small s n accepted tree sound answers gotos checkboxes values ascending worth valued row
-
-      -- "0 for other rows"
-      pub other-row : (ItemAt row screen → ⊥) → getD bytesShown row 0 ≡ 0
-      unfolding tableScreen
-      other-row = rows.other-row s n accepted tree sound answers gotos checkboxes values ascending worth valued row
-
-  -- ---- the same by the maps of the source's own rows: they hold the numbers of its gotos and of its checkboxes (Questions: `goto-held`,
-  -- `checkbox-held`), and each question answers by the code of its row (`question-answers`)
-
-  module _ (answers : List ℕ) (ascending : Ascending answers)
-      (worth : ℕ → Scalar) (solves : Solves (sourceRules s tree) (questionsRead s n answers) worth) where
-    abbrev pub sourceBytes : List ℕ
-    sourceBytes = tableScreen answers (gotosRead s n) (checkboxesRead s n) (readTable s n) (readAnswer s n .rows)
-
-    pub source-shown : sourceBytes ≡ bytes (questionsRead s n answers) worth false false screen
-    source-shown = table-shown answers (gotosRead s n) (checkboxesRead s n) ascending worth solves
-
-    module _ (row : ℕ) where
-      pub source-hidden : ItemAt row screen → (getD sourceBytes row 0 % 2 ≡ 1) ↔ SomeTrue (questionsRead s n answers) worth hides row screen
-      source-hidden = item-hidden answers (gotosRead s n) (checkboxesRead s n) ascending worth solves row
-
-      pub source-grey : ItemAt row screen → (getD sourceBytes row 0 / 2 ≡ 1) ↔ SomeTrue (questionsRead s n answers) worth greys row screen
-      source-grey = item-grey answers (gotosRead s n) (checkboxesRead s n) ascending worth solves row
-
-      pub source-small : ItemAt row screen → getD sourceBytes row 0 < 4
-      source-small = item-small answers (gotosRead s n) (checkboxesRead s n) ascending worth solves row
-
-      pub source-other : (ItemAt row screen → ⊥) → getD sourceBytes row 0 ≡ 0
-      source-other = other-row answers (gotosRead s n) (checkboxesRead s n) ascending worth solves row
+    table-shown = screen-shown s n accepted tree sound answers gotos checkboxes values ascending worth valued

@@ -5,7 +5,7 @@ use mathlib.Core.Bool.{Bool}
 use mathlib.Core.List.{List}
 use Rattle.answers.specs.WholeAnswer.{readAnswer, readTable}
 use Rattle.operators.specs.declared.Scalar.{Scalar}
-use Rattle.question_kinds.specs.Kinds.{isGoto, isCheckbox, kindMap, Bears}
+use Rattle.question_kinds.specs.Kinds.{isGoto, isCheckbox, kindMap}
 use Rattle.saved_answers.specs.Answers.{answered}
 
 module _ (s : List ℕ) (n : ℕ) where
@@ -23,7 +23,3 @@ module _ (s : List ℕ) (n : ℕ) where
   -- what each question answers by these
   abbrev pub questionsRead : (answers : List ℕ) → ℕ → Scalar
   questionsRead answers = answered answers gotosRead checkboxesRead
-
-  -- one of its rows is of a kind of questions, and k is this row's own number
-  abbrev pub BearsRead : (ℕ → Bool) → ℕ → Type 0
-  BearsRead kind k = Bears kind (readTable s n) (readAnswer s n .rows) k

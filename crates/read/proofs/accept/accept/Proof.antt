@@ -1,12 +1,35 @@
--- `read::accept::accept` meets its contract: settled and stripped, the drafts are the finished rows.
+-- `read::accept::accept` meets its contract: settled, the drafts tell 14; stripped too, they are the finished rows.
 -- Assumes nothing.
-use Rattle.read.proofs.AcceptLaws.{used-few, free-accepted, table-accepted}
 use borrow.Author.Needs.{needs}
+use Rattle.read.proofs.AcceptLaws.{used-few, circle-answer, circle-table, free-accepted, table-accepted}
 use Rattle.read.proofs.accept.accept.Statement.{statement}
 use Rattle.read.proofs.accept.accept.Tie as tie
 
 settle-requires : tie.Need-settle-requires
 settle-requires c κs = search needs
+
+circular-reference-requires : tie.Need-circular-reference-requires
+circular-reference-requires c κs = search needs
+
+sub-refuse : tie.Need-sub-refuse
+sub-refuse c = search needs
+
+refuse-requires : tie.Need-refuse-requires
+refuse-requires c κs = search needs
+
+same-length : tie.Need-same-length
+same-length c = search needs
+
+returns : tie.Need-returns
+returns c =
+    let start = c .before .before .before .before .before .before .before .before .before in
+    let pre = start .before .before .before .before .before .before .pre in
+    let circle = c .before .before .before .before .before .circular-reference .ensures in
+    let refused = c .before .before .before .before .if1 .taken in
+    let refuse = c .before .before .refuse .ensures in (
+      rw (refuse .0) (circle-answer pre (start .settle .ensures .0) circle refused),
+      circle-table pre (start .settle .ensures .0) circle refused (refuse .1),
+    )
 
 strip-requires : tie.Need-strip-requires
 strip-requires c κs = search needs
@@ -14,28 +37,46 @@ strip-requires c κs = search needs
 clear-past-requires : tie.Need-clear-past-requires
 clear-past-requires c κs = search needs
 
-sub-t14 : tie.Need-sub-t14
-sub-t14 c = search needs
+sub-t22 : tie.Need-sub-t22
+sub-t22 c = search needs
 
 used-count-requires : tie.Need-used-count-requires
 used-count-requires c κs = search needs
 
-sub-t17 : tie.Need-sub-t17
-sub-t17 c =
-    let start = c .before .before .before .before .before .before .before .before .before .before .before .before in
+sub-t25 : tie.Need-sub-t25
+sub-t25 c =
+    let start = c .before .before .before .before .before .before .before .before .before .before .before .before .before .before .before in
     used-few (start .before .before .before .before .before .before .pre) (start .settle .ensures .1) (c .used-count .ensures)
 
-same-length : tie.Need-same-length
-same-length c = search needs
+same-length-2 : tie.Need-same-length-2
+same-length-2 c = search needs
 
-returns : tie.Need-returns
-returns c =
-    let start = c .before .before .before .before .before .before .before .before .before .before .before .before in
+returns-2 : tie.Need-returns-2
+returns-2 c =
+    let start = c .before .before .before .before .before .before .before .before .before .before .before .before .before .before .before in
     let pre = start .before .before .before .before .before .before .pre in
     let settled = start .settle .ensures in
-    let strip = c .before .before .before .before .before .before .before .before .strip in
-    let clear-past = c .before .before .before .before .clear-past in
-    (free-accepted pre (settled .1) (c .used-count .ensures), table-accepted pre (settled .0) (strip .ensures) (clear-past .ensures))
+    let circle = c .before .before .before .before .before .before .before .before .before .before .before .circular-reference .ensures in
+    let free = c .before .before .before .before .before .before .before .before .before .before .if1 .left in
+    let strip = c .before .before .before .before .before .before .before .before .strip .ensures in (
+      free-accepted pre (settled .0) circle free (settled .1) (c .used-count .ensures),
+      table-accepted pre (settled .0) circle free strip (c .before .before .before .before .clear-past .ensures),
+    )
 
 pub accept-spec : {M : Type 1} → statement M
-accept-spec = tie.close (tie.spec settle-requires strip-requires clear-past-requires sub-t14 used-count-requires sub-t17 same-length returns)
+accept-spec =
+    tie.close
+    (tie.spec
+    settle-requires
+    circular-reference-requires
+    sub-refuse
+    refuse-requires
+    same-length
+    returns
+    strip-requires
+    clear-past-requires
+    sub-t22
+    used-count-requires
+    sub-t25
+    same-length-2
+    returns-2)

@@ -2,23 +2,24 @@
 -- Assumes nothing.
 use Prim.Native.Nat.{ℕ, _-_, _*_, _^_, _≤_, _<_}
 use native.Mathlib.Omega.{arith}
-use mathlib.Core.Path.{_≡_, sym, ap, _∙_}
+use mathlib.Core.Path.{_≡_, refl, _∙_}
 use mathlib.Core.Logic.{_≢_}
 use mathlib.Core.List.{List, _++_}
 use lib.ListN.{length, take, drop, replicate, length-append, length-drop}
 use lib.Seq.{take-at, length-take-le}
-use borrow.Author.Tests.{eq-eqb, ne-eqb, lt-ltb, le-ltb}
+use borrow.Author.Tests.{ne-eqb}
 use Rattle.numbers.specs.Numbers.{emptyMap, used, withAllUsed}
 use Rattle.rows.specs.Codes.{isQuestion}
 use Rattle.rows.specs.Table.{cleared}
 use Rattle.rows.proofs.ClearLaws.{cleared-whole}
-use Rattle.answers.specs.Answer.{accepts, refuses}
+use Rattle.answers.specs.Answer.{Answer, accepts, refuses}
 use Rattle.replies.specs.Replies.{Reply, accepting}
 use Rattle.saved_answers.specs.Good.{goodAnswers}
 use Rattle.saved_answers.proofs.GoodTheorems.{good-few}
 use Rattle.question_kinds.specs.Kinds.{isGoto, isCheckbox, tableOwns}
 use Rattle.table_screen.specs.TableScreen.{tableScreen}
 use Rattle.show.specs.ShownRows.{unplaced, goodIn, bytesIn, rowsAnswer, rowsTable, rowsOutput}
+use Rattle.show.proofs.AnswerLaws.{Shown, answer-at-fault, fewer-bytes, rows-shown, shown-only}
 
 -- ---- the answers
 
@@ -53,24 +54,23 @@ module _ (answers t : List ℕ) (count free : ℕ) (o : List ℕ) where
       (e ∙ rw a, (f ∙ cleared-whole t ∙ rw (a, no), g ∙ cleared-whole o ∙ rw (a, no)))
 
   module _ {good : ℕ} (counted : good ≡ goodIn answers t count) where
+    -- as with any answers of which so many are good
+    by-tests : {a : Answer} → Shown answers good (length o) (accepts count free) a → rowsAnswer answers t count free (length o) ≡ a
+    unfolding rowsAnswer
+    by-tests h = rw (← counted) (shown-only answers good (length o) (accepts count free) h)
+
     pub at-fault :
         {r : Reply} {t′ o′ : List ℕ} → 2 * good ≢ length answers
         → r ≡ unplaced (refuses 15 good) → t′ ≡ cleared t 0 → o′ ≡ cleared o 0 → RowsShown r t′ o′
-    unfolding rowsAnswer
-    at-fault h = refused 15 good (omega arith) (rw (← counted, ne-eqb (2 * good) (length answers) h))
+    at-fault h = refused 15 good (omega arith) (by-tests (answer-at-fault refl h))
 
     module _ (all : 2 * good ≡ length answers) where
       pub too-few :
           {r : Reply} {t′ o′ : List ℕ} → length o < count
           → r ≡ unplaced (refuses 30 0) → t′ ≡ cleared t 0 → o′ ≡ cleared o 0 → RowsShown r t′ o′
-      unfolding rowsAnswer
-      too-few h = refused 30 0 (omega arith) (rw (← counted, eq-eqb (2 * good) (length answers) all, lt-ltb (length o) count h))
+      too-few h = refused 30 0 (omega arith) (by-tests (fewer-bytes refl all h))
 
       -- ---- accepted
-
-      accepted : count ≤ length o → rowsAnswer answers t count free (length o) ≡ accepts count free
-      unfolding rowsAnswer
-      accepted h = rw (← counted, eq-eqb (2 * good) (length answers) all, le-ltb (length o) count h)
 
       bytes-by :
           {empty₁ empty₂ gotos checkboxes : List ℕ}
@@ -96,7 +96,7 @@ module _ (answers t : List ℕ) (count free : ℕ) (o : List ℕ) where
           → t′ ≡ t → o′ ≡ cleared (bytes ++ drop count o) count → RowsShown (accepting count free 0) t′ o′
       unfolding rowsTable rowsOutput
       all-shown {bytes = bytes} l e f g h b n i j =
-          let a = accepted l in
+          let a = by-tests (rows-shown refl all l) in
           let many : length bytes ≡ count = n ∙ length-take-le count o l in
           let is : bytes ≡ bytesIn answers t count = b ∙ bytes-by e f g h l in
           (rw a, (i ∙ rw a, j ∙ bytes-cleared bytes many l ∙ rw (a, is)))

@@ -7,8 +7,11 @@ use saved_answers::good_answers;
 use table_screen::show_table;
 ghost use mathlib.Core.Path.{_≡_};
 ghost use lib.ListN.{length};
+ghost use Rattle.rows.specs.Table.{cleared};
+ghost use Rattle.answers.specs.Answer.{refuses};
 ghost use Rattle.read.specs.Answers.{told};
 ghost use Rattle.show.specs.Show.{showReply, showTable, showOutput};
+ghost use Rattle.show.specs.ShownRows.{unplaced, rowsAnswer, rowsTable, rowsOutput};
 
 // The numbers of answers out of order or for no question, and of an output with fewer bytes than the table has rows.
 pub const BAD_ANSWER: u64 = 15;
@@ -16,14 +19,22 @@ pub const BAD_ANSWER: u64 = 15;
 pub const TOO_FEW_BYTES: u64 = 30;
 
 // A refusal after reading, with all that is lent for results set to 0. Its place is none in the source.
-fn refuse(table: &mut [u64], out: &mut [u8], number: u64, place: usize) -> Answer {
+fn refuse(table: &mut [u64], out: &mut [u8], number: u64, place: usize) -> Answer
+    ensures { λ r. ⌜ told r ≡ unplaced (refuses number place) ⌝ }
+    ensures { λ _. ⌜ now (table .exit) ≡ cleared (now (table .entry)) 0 ⌝ }
+    ensures { λ _. ⌜ now (out .exit) ≡ cleared (now (out .entry)) 0 ⌝ }
+{
     rows::clear(table, 0);
     clear_bytes(out, 0);
     Answer::Refused(number, place, 0, 0)
 }
 
 // The answer for so many finished rows in the table, and their bytes.
-fn show_rows(answers: &[u64], table: &mut [u64], out: &mut [u8], rows: usize, free: u64) -> Answer {
+fn show_rows(answers: &[u64], table: &mut [u64], out: &mut [u8], rows: usize, free: u64) -> Answer
+    ensures { λ r. ⌜ told r ≡ unplaced (rowsAnswer (now (answers .entry)) (now (table .entry)) rows free (length (now (out .entry)))) ⌝ }
+    ensures { λ _. ⌜ now (table .exit) ≡ rowsTable (now (answers .entry)) (now (table .entry)) rows free (length (now (out .entry))) ⌝ }
+    ensures { λ _. ⌜ now (out .exit) ≡ rowsOutput (now (answers .entry)) (now (table .entry)) rows free (length (now (out .entry))) ⌝ }
+{
     let mut gotos = numbers::empty();
     let mut checkboxes = numbers::empty();
     let mut questions = numbers::empty();

@@ -1,0 +1,5 @@
+-- The answer by its tests; which answers are good; what the code's calls give.
+pub mod AnswerLaws
+pub mod FaultLaws
+pub mod RowLaws
+pub mod ShowLaws

@@ -1,14 +1,16 @@
 /* Drnkavec: a proved reader of UEFI VFR set-up text.
  *
  * Refusal numbers, rows, codes and limits are those of document 01, "VFR sources to rows and resolved text"; lines,
- * columns and the 0 in all that is lent past a result are those of document 02, the change requests (W-201).
+ * columns and the 0 in all that is lent past a result are those of document 02, the change requests (W-201), and so are
+ * the screen and the refusals from 14 on (W-202).
  * The library is target/staticlib/libface.a, which `rt staticlib face` writes; it is for Linux on x86-64.
  *
  * Every function takes every input. It reads the source without changing it, writes nowhere but to the
- * buffers lent, keeps no pointer and allocates nothing. A buffer of length 0 is not touched, and its pointer
- * may be NULL. Two things are left to the caller: the buffers of one call do not overlap, and there is stack
- * enough. vfr_read and vfr_resolve take about 140 KB of it for a source that is not deep and 280 KB for the
- * deepest, so that a thread wants 320 KB; vfr_quick_check takes about 170 KB at most, vfr_token under 1 KB.
+ * buffers lent for results, keeps no pointer and allocates nothing. A buffer of length 0 is not touched, and its
+ * pointer may be NULL. Two things are left to the caller: the buffers of one call do not overlap, and there is stack
+ * enough. vfr_read, vfr_resolve and vfr_show take about 140 KB of it for a source that is not deep and 280 KB
+ * for the deepest, so that a thread wants 320 KB; vfr_quick_check takes about 170 KB at most, vfr_token under
+ * 1 KB.
  */
 #ifndef DRNKAVEC_H
 #define DRNKAVEC_H
@@ -33,7 +35,8 @@ enum {
 
 /* ---- Refusal numbers, in the order of checking ---- */
 
-/* Each has the line and column of its place, but for 1, 6 and 13, whose place is always 0. */
+/* Each has the line and column of its place, but for 1, 6, 13 and 30, whose place is always 0, and 15, whose place is
+ * not in the source. */
 
 enum {
     VFR_ACCEPTED = 0,
@@ -49,8 +52,13 @@ enum {
     VFR_TOO_MANY_RULES = 10,    /* place: the 256th `rule` */
     VFR_NOT_FOUND = 11,         /* place: the number or name that refers to nothing */
     VFR_BAD_CHOICE = 12,        /* place: the maximum, default or value, or the second DEFAULT */
-    VFR_OUTPUT_SHORT = 13       /* resolving alone; place 0; the row count is the bytes needed. If they are more than
+    VFR_RULE_CIRCLE = 14,       /* a rule reaches itself through references; place: the name in the source's first
+                                   `ruleref`, inside a rule, that is a step of such a circle */
+    VFR_OUTPUT_SHORT = 13,      /* resolving alone; place 0; the row count is the bytes needed. If they are more than
                                    VFR_MAX_TEXT, no output is long enough */
+    VFR_BAD_ANSWER = 15,        /* showing alone; place: which answer, from 0, is the first that is not above the one
+                                   before it, has no value, or has a number that no question bears */
+    VFR_SCREEN_SHORT = 30       /* showing alone; place 0; fewer bytes are lent than there are rows */
 };
 
 /* ---- Rows: VFR_COLUMNS numbers each; fields that a code does not use are 0 ---- */
@@ -127,19 +135,28 @@ enum {
     VFR_DEFAULT_WRITTEN = 256    /* of a checkbox or numeric that writes `default` */
 };
 
-/* ---- Answers ---- */
+/* ---- Screens ---- */
+
+/* The byte of a row: the sum of these for an item that is no condition, 0 for every other row. */
+enum {
+    VFR_HIDDEN = 1,  /* some suppressif or disableif round it is TRUE */
+    VFR_GREY = 2     /* some grayoutif round it is TRUE */
+};
+
+/* ---- Answers of the calls ---- */
 
 /* One layout for every call. Every number lent is written: a short answer gets the first of these, and what a longer
  * one has past them is 0. */
 enum {
     VFR_ANSWER_NUMBER = 0,   /* VFR_ACCEPTED or a refusal number */
-    VFR_ANSWER_PLACE = 1,    /* of a refusal: byte in the source, from 0; 0 if the source is accepted */
+    VFR_ANSWER_PLACE = 1,    /* of a refusal: byte in the source, or at 15 which answer to a question, from 0; 0 if the
+                                source is accepted */
     VFR_ANSWER_ROWS = 2,     /* row count, or the need at 6 and 13; 0 on other refusals */
     VFR_ANSWER_FREE = 3,     /* how many of 1 to 65,535 no question bears; 0 on a refusal */
     VFR_ANSWER_LINE = 4,     /* of the place, from 1: one more than the LF bytes before it */
     VFR_ANSWER_COLUMN = 5,   /* of the place, from 1: one more than the bytes since the last LF or the start. Line and
-                                column are 0 if the source is accepted, and at 1, 6 and 13 */
-    VFR_ANSWER_WRITTEN = 6,  /* bytes of the resolved text; 0 from reading and on a refusal */
+                                column are 0 if the source is accepted, and at 1, 6, 13, 15 and 30 */
+    VFR_ANSWER_WRITTEN = 6,  /* bytes of the resolved text; 0 from reading and showing and on a refusal */
     VFR_ANSWER = 7           /* numbers of an answer */
 };
 
@@ -192,6 +209,20 @@ void vfr_read(const uint8_t *src, size_t src_len, uint64_t *table, size_t table_
  * - the answer holds the numbers above, and 0 past them. */
 void vfr_resolve(const uint8_t *src, size_t src_len, uint64_t *table, size_t table_len, uint8_t *out,
                  size_t out_len, uint64_t *answer, size_t answer_len);
+
+/* Reads as vfr_read does, and says which items are hidden or grey when the questions have these answers: two numbers
+ * each, a question's number and its value, ascending by number; there may be none. Afterwards
+ * - the answers to the questions are as they were;
+ * - the table holds what vfr_read leaves there; if an answer is at fault (15) or the output too short (30), all of it
+ *   is 0;
+ * - the output holds one byte for each row at its start and 0 past them if the source is accepted; on a refusal all of
+ *   it is 0;
+ * - the answer holds the numbers above, of which VFR_ANSWER_WRITTEN is 0, and 0 past them.
+ * An expression is worth TRUE, FALSE, a number of 64 bits, or it is undefined; only TRUE hides or makes grey. A
+ * checkbox answers FALSE for 0 and TRUE otherwise, a numeric and a oneof their value, whatever it is; a goto, and a
+ * question without an answer, are undefined. Each rule is evaluated once, however often it is referred to. */
+void vfr_show(const uint8_t *src, size_t src_len, const uint64_t *answers, size_t answers_len, uint64_t *table,
+              size_t table_len, uint8_t *out, size_t out_len, uint64_t *answer, size_t answer_len);
 
 /* The token that stands first from the place `at` on, after blanks and comments, where `at` has that line and column.
  * Afterwards the token holds the numbers above, and 0 past them. Line and column are counted on from those given over

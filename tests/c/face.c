@@ -27,7 +27,7 @@ static void check(const char *what, bool good)
 
 /* ---- What is lent: each buffer holds something before a call, and has a guard past its end ---- */
 
-#define MOST_ANSWER (VFR_ANSWER + 2)
+#define MOST_ANSWER (VFR_ANSWER + 5)
 #define MOST_TOKEN (VFR_SEEN + 2)
 
 static uint64_t table[NUMBERS + 1];
@@ -177,6 +177,40 @@ static void make_rules(size_t count)
     add(FRAME_END);
 }
 
+/* So many rules, each the sum of the next with itself, a last one that is 1, and a label that is hidden if the first is
+ * 2 to the power of the count. */
+static void make_doubling(size_t count)
+{
+    char part[100];
+
+    length = 0;
+    add(FRAME_START);
+    for (size_t i = 0; i < count; i++) {
+        snprintf(part, sizeof part, "rule R%zu,ruleref(R%zu)+ruleref(R%zu) endrule;", i, i + 1, i + 1);
+        add(part);
+    }
+    snprintf(part, sizeof part, "rule R%zu,1 endrule;suppressif ruleref(R0)==1<<%zu;label 1;endif;", count, count);
+    add(part);
+    add(FRAME_END);
+}
+
+/* As many rules as there may be, each referring to the next, the last to this one, if it is a rule's name. */
+static void make_chain(const char *last)
+{
+    char part[100];
+
+    length = 0;
+    fault = NOWHERE;
+    add(FRAME_START);
+    for (size_t i = 0; i + 1 < VFR_MAX_RULES; i++) {
+        snprintf(part, sizeof part, "rule A%zu,ruleref(%sA%zu)endrule;", i, i == 0 ? "^" : "", i + 1);
+        add(part);
+    }
+    snprintf(part, sizeof part, "rule A%d,%s endrule;suppressif ruleref(A0);label 1;endif;", VFR_MAX_RULES - 1, last);
+    add(part);
+    add(FRAME_END);
+}
+
 static void make_groups(size_t count)
 {
     length = 0;
@@ -229,6 +263,24 @@ static void resolve_source(const char *bytes, size_t count, size_t table_len, si
 {
     fill_all();
     vfr_resolve((const uint8_t *)bytes, count, table, table_len, out, out_len, answer, VFR_ANSWER);
+}
+
+/* Answers to questions: two numbers each. */
+struct list {
+    const uint64_t *numbers;
+    size_t count;
+};
+
+#define LIST(...)                                                               \
+    ((struct list){(const uint64_t[]){__VA_ARGS__}, sizeof((const uint64_t[]){__VA_ARGS__}) / sizeof(uint64_t)})
+
+static const struct list NO_ANSWERS = {NULL, 0};
+
+static void show_source(const char *bytes, size_t count, struct list answers, size_t table_len, size_t out_len)
+{
+    fill_all();
+    vfr_show((const uint8_t *)bytes, count, answers.numbers, answers.count, table, table_len, out, out_len, answer,
+             VFR_ANSWER);
 }
 
 static uint64_t quick(const char *bytes, size_t count)
@@ -404,6 +456,8 @@ static void check_refusal(const char *what, uint64_t number)
     good = good && has_refused(number, fault) && cleared_table(NUMBERS);
     resolve_source(source, length, NUMBERS, VFR_MAX_TEXT);
     good = good && has_refused(number, fault) && cleared_table(NUMBERS) && cleared_out(VFR_MAX_TEXT);
+    show_source(source, length, LIST(0), NUMBERS, VFR_MAX_TEXT);
+    good = good && has_refused(number, fault) && cleared_table(NUMBERS) && cleared_out(VFR_MAX_TEXT);
     check(what, good);
 }
 
@@ -445,6 +499,15 @@ static void check_refusals(void)
     make("oneof " STRINGS ",option text=STRING_TOKEN(1),value=2,flags=DEFAULT;",
          "option text=STRING_TOKEN(1),value=3,flags=^DEFAULT;endoneof;", NULL);
     check_refusal("a second DEFAULT is refusal 12", VFR_BAD_CHOICE);
+    make("rule A,ruleref(A) endrule;", "numeric " STRINGS ",minimum=5,maximum=^4,endnumeric;", NULL);
+    check_refusal("and comes before refusal 14", VFR_BAD_CHOICE);
+    make("rule A,NOT ruleref(\n^A) endrule;", NULL);
+    check_refusal("a rule that refers to itself is refusal 14 at the name", VFR_RULE_CIRCLE);
+    make("suppressif ruleref(C);endif;rule C,ruleref(A) endrule;", "rule A,ruleref(D)+ruleref(^B) endrule;",
+         "rule B,ruleref(A) endrule;rule D,1 endrule;", NULL);
+    check_refusal("its place is a step of the circle: none leads only to it, or out of it", VFR_RULE_CIRCLE);
+    make_chain("ruleref(A0)");
+    check_refusal("255 rules on one circle are refusal 14", VFR_RULE_CIRCLE);
     check("a cut source is refusal 3 at its length",
           quick(EXAMPLE, 100) == ((uint64_t)VFR_NOT_GRAMMAR << 32 | 100));
 }
@@ -515,6 +578,9 @@ static void check_null(void)
     resolve_source(NULL, 0, NUMBERS, VFR_MAX_TEXT);
     check("resolving: no source is refusal 3 at 0, line 1, column 1",
           has_refused(VFR_NOT_GRAMMAR, START) && cleared_table(NUMBERS) && cleared_out(VFR_MAX_TEXT));
+    show_source(NULL, 0, NO_ANSWERS, NUMBERS, VFR_MAX_TEXT);
+    check("showing: no source is refusal 3 at 0, line 1, column 1",
+          has_refused(VFR_NOT_GRAMMAR, START) && cleared_table(NUMBERS) && cleared_out(VFR_MAX_TEXT));
     fill_all();
     vfr_read((const uint8_t *)EXAMPLE, count, NULL, 0, answer, VFR_ANSWER);
     check("reading: no table is refusal 6 with the need", is_short(VFR_TABLE_SHORT, EXAMPLE_ROWS));
@@ -536,6 +602,7 @@ static void check_null(void)
     check("resolving: no answer, and the text all the same", memcmp(out, "formset ", 8) == 0);
     vfr_read(NULL, 0, NULL, 0, NULL, 0);
     vfr_resolve(NULL, 0, NULL, 0, NULL, 0, NULL, 0);
+    vfr_show(NULL, 0, NULL, 0, NULL, 0, NULL, 0, NULL, 0);
     check("nothing at all is lent, and the calls return", true);
 }
 
@@ -548,23 +615,38 @@ static bool answer_of_length(const uint64_t whole[VFR_ANSWER], size_t room)
            all(answer, room, MOST_ANSWER + 1, OLD);
 }
 
-/* Reading and resolving with answers of all lengths; `written` is what only resolving tells. */
-static void check_answer_lengths(const char *what, const char *bytes, size_t count, size_t table_len, size_t out_len)
+/* What is lent in a call of showing, and the source and answers it is given; reading and resolving take some of it. */
+struct call {
+    const char *bytes;
+    size_t count;
+    struct list answers;
+    size_t table_len, out_len;
+};
+
+/* Reading, resolving and showing with answers of all lengths. */
+static void check_answer_lengths(const char *what, struct call call)
 {
-    uint64_t read[VFR_ANSWER], resolved[VFR_ANSWER];
+    const uint8_t *bytes = (const uint8_t *)call.bytes;
+    uint64_t read[VFR_ANSWER], resolved[VFR_ANSWER], shown[VFR_ANSWER];
     bool good = true;
 
-    read_source(bytes, count, table_len);
+    read_source(call.bytes, call.count, call.table_len);
     memcpy(read, answer, sizeof read);
-    resolve_source(bytes, count, table_len, out_len);
+    resolve_source(call.bytes, call.count, call.table_len, call.out_len);
     memcpy(resolved, answer, sizeof resolved);
+    show_source(call.bytes, call.count, call.answers, call.table_len, call.out_len);
+    memcpy(shown, answer, sizeof shown);
     for (size_t room = 0; room <= MOST_ANSWER; room++) {
         fill_all();
-        vfr_read((const uint8_t *)bytes, count, table, table_len, answer, room);
+        vfr_read(bytes, call.count, table, call.table_len, answer, room);
         good = good && answer_of_length(read, room);
         fill_all();
-        vfr_resolve((const uint8_t *)bytes, count, table, table_len, out, out_len, answer, room);
+        vfr_resolve(bytes, call.count, table, call.table_len, out, call.out_len, answer, room);
         good = good && answer_of_length(resolved, room);
+        fill_all();
+        vfr_show(bytes, call.count, call.answers.numbers, call.answers.count, table, call.table_len, out, call.out_len,
+                 answer, room);
+        good = good && answer_of_length(shown, room);
     }
     check(what, good);
 }
@@ -573,10 +655,16 @@ static void check_answers(void)
 {
     const size_t count = sizeof EXAMPLE - 1;
 
-    check_answer_lengths("answers of 0 to 9 numbers: accepted", EXAMPLE, count, NUMBERS, VFR_MAX_TEXT);
-    check_answer_lengths("answers of 0 to 9 numbers: refused on a later line", EXAMPLE, 153, NUMBERS, VFR_MAX_TEXT);
-    check_answer_lengths("answers of 0 to 9 numbers: too few rows", EXAMPLE, count, VFR_COLUMNS, VFR_MAX_TEXT);
-    check_answer_lengths("answers of 0 to 9 numbers: too short an output", EXAMPLE, count, NUMBERS, 100);
+    check_answer_lengths("answers of 0 to 12 numbers: accepted",
+                         (struct call){EXAMPLE, count, LIST(1, 5, 2, 1), NUMBERS, VFR_MAX_TEXT});
+    check_answer_lengths("answers of 0 to 12 numbers: refused on a later line",
+                         (struct call){EXAMPLE, 153, NO_ANSWERS, NUMBERS, VFR_MAX_TEXT});
+    check_answer_lengths("answers of 0 to 12 numbers: too few rows",
+                         (struct call){EXAMPLE, count, NO_ANSWERS, VFR_COLUMNS, VFR_MAX_TEXT});
+    check_answer_lengths("answers of 0 to 12 numbers: too short an output",
+                         (struct call){EXAMPLE, count, NO_ANSWERS, NUMBERS, EXAMPLE_ROWS - 1});
+    check_answer_lengths("answers of 0 to 12 numbers: an answer to a question at fault",
+                         (struct call){EXAMPLE, count, LIST(1, 5, 2), NUMBERS, VFR_MAX_TEXT});
 }
 
 /* ---- Lines and columns: document 02, W-201, with the numbers written out ---- */
@@ -670,6 +758,172 @@ static void check_longest_text(void)
     check("one byte more is refusal 13, although the output lent has room for it",
           is_short(VFR_OUTPUT_SHORT, VFR_MAX_TEXT + 1) && cleared_table(NUMBERS) &&
               cleared_out(VFR_MAX_TEXT + 1));
+}
+
+/* ---- Showing: document 02, W-202 ---- */
+
+/* These bytes for the first rows of a lent output, 0 for all past them, and nothing past what is lent. */
+static bool has_shown(const uint8_t *bytes, size_t rows, size_t out_len)
+{
+    return memcmp(out, bytes, rows) == 0 && all_bytes(out, rows, out_len, 0) &&
+           all_bytes(out, out_len, sizeof out, OLD_BYTE);
+}
+
+#define SHOWN(out_len, ...) \
+    has_shown((const uint8_t[]){__VA_ARGS__}, sizeof((const uint8_t[]){__VA_ARGS__}), out_len)
+
+/* The table that reading leaves. */
+static uint64_t rows_read[NUMBERS];
+
+static bool has_table_of_reading(void)
+{
+    return memcmp(table, rows_read, sizeof rows_read) == 0 && table[NUMBERS] == OLD;
+}
+
+static void check_show(void)
+{
+    const size_t count = sizeof EXAMPLE - 1;
+
+    read_source(EXAMPLE, count, NUMBERS);
+    memcpy(rows_read, table, sizeof rows_read);
+    show_source(EXAMPLE, count, LIST(1, 5, 2, 1), NUMBERS, VFR_MAX_TEXT);
+    check("the worked example is shown, and counts rows and free numbers alone", has_read(EXAMPLE_ROWS, EXAMPLE_FREE));
+    check("its numeric is hidden", SHOWN(VFR_MAX_TEXT, 0, 0, 0, 0, 0, 0, 0, 0, 0, 0, 0, 0, 0, 0, VFR_HIDDEN));
+    check("the table is as reading leaves it", has_table_of_reading());
+    show_source(EXAMPLE, count, NO_ANSWERS, NUMBERS, EXAMPLE_ROWS);
+    check("without answers nothing is hidden, and a byte a row is enough",
+          has_read(EXAMPLE_ROWS, EXAMPLE_FREE) && SHOWN(EXAMPLE_ROWS, 0) && has_table_of_reading());
+    show_source(EXAMPLE, count, NO_ANSWERS, NUMBERS, EXAMPLE_ROWS - 1);
+    check("a byte fewer is refusal 30, with no need told",
+          has_refused(VFR_SCREEN_SHORT, NOWHERE) && cleared_table(NUMBERS) && cleared_out(EXAMPLE_ROWS - 1));
+    show_source(EXAMPLE, count, NO_ANSWERS, EXAMPLE_ROWS * VFR_COLUMNS, EXAMPLE_ROWS);
+    check("a table of just its rows is enough", has_read(EXAMPLE_ROWS, EXAMPLE_FREE));
+    show_source(EXAMPLE, count, LIST(0), EXAMPLE_ROWS * VFR_COLUMNS - 1, 0);
+    check("a number fewer is refusal 6 with the need",
+          is_short(VFR_TABLE_SHORT, EXAMPLE_ROWS) && cleared_table(EXAMPLE_ROWS * VFR_COLUMNS - 1) && cleared_out(0));
+    show_source(EXAMPLE, count, LIST(0), NUMBERS, 0);
+    check("refusal 15 comes before refusal 30",
+          has_refused(VFR_BAD_ANSWER, NOWHERE) && cleared_table(NUMBERS) && cleared_out(0));
+}
+
+/* Every item round which conditions are TRUE; conditions, their expressions, options and rules have 0. */
+static void check_bytes(void)
+{
+    make("suppressif TRUE;subtitle text=STRING_TOKEN(1);", "text help=STRING_TOKEN(1),text=STRING_TOKEN(2);",
+         "label 1;goto 1," STRINGS ";", "checkbox " STRINGS ",endcheckbox;",
+         "numeric " STRINGS ",minimum=0,maximum=9,endnumeric;",
+         "oneof " STRINGS ",option text=STRING_TOKEN(1),value=1,flags=0;endoneof;endif;", "rule A,TRUE endrule;", NULL);
+    show_source(source, length, NO_ANSWERS, NUMBERS, 100);
+    check("every item in a suppressif that is TRUE is hidden, and nothing else",
+          has_read(14, 65531) && SHOWN(100, 0, 0, 0, 0, 1, 1, 1, 1, 1, 1, 1, 0, 0, 0));
+    make("suppressif TRUE;grayoutif TRUE;label 1;endif;label 2;endif;label 3;", "disableif TRUE;label 4;endif;",
+         "grayoutif TRUE;suppressif UNDEFINED;disableif FALSE;suppressif 1;label 5;endif;endif;endif;endif;", NULL);
+    show_source(source, length, NO_ANSWERS, NUMBERS, 100);
+    check("hidden, grey, both and neither",
+          has_read(21, 65535) &&
+              SHOWN(100, 0, 0, 0, 0, 0, 0, VFR_HIDDEN + VFR_GREY, VFR_HIDDEN, 0, 0, 0, VFR_HIDDEN, 0, 0, 0, 0, 0, 0, 0,
+                    0, VFR_GREY));
+}
+
+/* A label in a condition of this expression, after a question of each sort, numbered 1 to 4. */
+static bool is_hidden(const char *expression, struct list answers)
+{
+    make("checkbox questionid=1," STRINGS ",default=TRUE,endcheckbox;",
+         "numeric questionid=2," STRINGS ",minimum=0,maximum=9,default=7,endnumeric;",
+         "oneof questionid=3," STRINGS ",option text=STRING_TOKEN(1),value=1,flags=DEFAULT;endoneof;",
+         "goto 1,questionid=4," STRINGS ";", "suppressif ", expression, ";label 1;endif;", NULL);
+    show_source(source, length, answers, NUMBERS, 100);
+
+    const size_t rows = answer[VFR_ANSWER_ROWS];
+
+    if (!has_read(rows, 65531) || !all_bytes(out, 0, rows - 1, 0) || out[rows - 1] > VFR_HIDDEN) {
+        printf("the screen of %s is wrong\n", expression);
+        return false;
+    }
+    return out[rows - 1] == VFR_HIDDEN;
+}
+
+static void check_questions(void)
+{
+    check("a checkbox answers TRUE for every value but 0",
+          is_hidden("questionref(1)", LIST(1, 2)) && !is_hidden("questionref(1)", LIST(1, 0)) &&
+              is_hidden("NOT questionref(1)", LIST(1, 0)));
+    check("a numeric and a oneof answer their value, whatever it is",
+          is_hidden("questionref(2)==400", LIST(2, 400)) && is_hidden("questionref(3)==ONES", LIST(3, UINT64_MAX)));
+    check("a goto answers nothing", !is_hidden("questionref(4)==questionref(4)", LIST(4, 1)));
+    check("a missing answer is undefined, and a default is none",
+          !is_hidden("questionref(1)", NO_ANSWERS) && !is_hidden("NOT questionref(1)", NO_ANSWERS) &&
+              !is_hidden("questionref(2)==7", NO_ANSWERS) && !is_hidden("questionref(2)!=7", NO_ANSWERS));
+    check("numbers wrap, shifts of 64 and more give 0, a zero divisor is undefined",
+          is_hidden("ONES+2==1 AND 1-2==ONES AND ONES*ONES==1 AND 3<<63==1<<63 AND 1<<64==0 AND ONES>>ONES==0",
+                    NO_ANSWERS) && !is_hidden("1/0==1/0 OR TRUE", NO_ANSWERS));
+    check("no sort is turned into another, and nothing is cut short",
+          !is_hidden("TRUE==1 OR TRUE", NO_ANSWERS) && !is_hidden("1", NO_ANSWERS) &&
+              !is_hidden("TRUE OR UNDEFINED", NO_ANSWERS) && !is_hidden("NOT 0", NO_ANSWERS));
+}
+
+/* Questions 1, 5 and 9. The first of these answers that is at fault. */
+static void check_fault(struct list answers, uint64_t place)
+{
+    char what[80];
+
+    make("checkbox questionid=5," STRINGS ",endcheckbox;", "checkbox questionid=9," STRINGS ",endcheckbox;",
+         "goto 1," STRINGS ";", NULL);
+    show_source(source, length, answers, NUMBERS, 5);
+    snprintf(what, sizeof what, "%zu numbers of answers are refusal 15 at answer %llu", answers.count,
+             (unsigned long long)place);
+    check(what, has_refused(VFR_BAD_ANSWER, (struct spot){place, 0, 0}) && cleared_table(NUMBERS) && cleared_out(5));
+}
+
+static void check_faults(void)
+{
+    check_fault(LIST(5), 0);
+    check_fault(LIST(0, 1), 0);
+    check_fault(LIST(65541, 1), 0);
+    check_fault(LIST(UINT64_MAX, 1), 0);
+    check_fault(LIST(2, 0, 1), 0);
+    check_fault(LIST(5, 1, 5, 1), 1);
+    check_fault(LIST(5, 1, 8, 1), 1);
+    check_fault(LIST(5, 1, 9), 1);
+    check_fault(LIST(9, 1, 5, 1, 9), 1);
+    check_fault(LIST(1, 1, 5, 1, 9, 0, 9, 0), 3);
+    show_source(source, length, LIST(1, 1, 5, 1, 9, 0), NUMBERS, 5);
+    check("a goto and an unnumbered question bear numbers too", has_read(5, 65532) && SHOWN(5, 0));
+}
+
+static void check_shown_rules(void)
+{
+    make_doubling(60);
+    show_source(source, length, NO_ANSWERS, NUMBERS, VFR_MAX_TEXT);
+
+    const size_t rows = answer[VFR_ANSWER_ROWS];
+
+    check("sixty rules, each the sum of the next with itself, are evaluated at once",
+          has_read(FRAME_ROWS + 60 * 4 + 2 + 6 + 1, 65535) && out[rows - 1] == VFR_HIDDEN &&
+              all_bytes(out, 0, rows - 1, 0) && all_bytes(out, rows, VFR_MAX_TEXT, 0));
+    make_chain("TRUE");
+    show_source(source, length, NO_ANSWERS, NUMBERS, VFR_MAX_TEXT);
+    check("a chain of 255 rules", has_read(FRAME_ROWS + 2 * VFR_MAX_RULES + 3, 65535) &&
+                                      out[answer[VFR_ANSWER_ROWS] - 1] == VFR_HIDDEN);
+}
+
+/* A length of 0 may come with a null pointer. */
+static void check_show_null(void)
+{
+    const uint8_t *bytes = (const uint8_t *)EXAMPLE;
+    const size_t count = sizeof EXAMPLE - 1;
+
+    fill_all();
+    vfr_show(bytes, count, NULL, 0, NULL, 0, out, VFR_MAX_TEXT, answer, VFR_ANSWER);
+    check("showing: no table is refusal 6 with the need",
+          is_short(VFR_TABLE_SHORT, EXAMPLE_ROWS) && cleared_out(VFR_MAX_TEXT));
+    fill_all();
+    vfr_show(bytes, count, NULL, 0, table, NUMBERS, NULL, 0, answer, VFR_ANSWER);
+    check("showing: no output is refusal 30", has_refused(VFR_SCREEN_SHORT, NOWHERE) && cleared_table(NUMBERS));
+    fill_all();
+    vfr_show(bytes, count, (const uint64_t[]){1, 5, 2, 1}, 4, table, NUMBERS, out, VFR_MAX_TEXT, NULL, 0);
+    check("showing: no answer, and the bytes all the same",
+          out[EXAMPLE_ROWS - 1] == VFR_HIDDEN && all(answer, 0, MOST_ANSWER + 1, OLD));
 }
 
 /* ---- Tokens ---- */
@@ -854,13 +1108,18 @@ static void check_token_lengths(void)
 static void check_source_untouched(void)
 {
     char copy[sizeof EXAMPLE];
+    const uint64_t answers[] = {1, 5, 2, 1};
+    uint64_t lent[sizeof answers / sizeof *answers];
 
     memcpy(copy, EXAMPLE, sizeof copy);
+    memcpy(lent, answers, sizeof lent);
     read_source(copy, sizeof copy - 1, NUMBERS);
     resolve_source(copy, sizeof copy - 1, NUMBERS, VFR_MAX_TEXT);
     quick(copy, sizeof copy - 1);
     walk_source(copy, sizeof copy - 1);
+    show_source(copy, sizeof copy - 1, (struct list){lent, 4}, NUMBERS, VFR_MAX_TEXT);
     check("the source is untouched", memcmp(copy, EXAMPLE, sizeof copy) == 0);
+    check("and so are the answers to its questions", memcmp(lent, answers, sizeof lent) == 0);
 }
 
 int main(void)
@@ -882,6 +1141,12 @@ int main(void)
     check_token_lengths();
     check_resolve();
     check_longest_text();
+    check_show();
+    check_bytes();
+    check_questions();
+    check_faults();
+    check_shown_rules();
+    check_show_null();
     check_source_untouched();
     printf("%d checks passed, %d failed\n", passed, failed);
     return failed != 0;

@@ -1,4 +1,4 @@
-// The interface for C: the quick check, reading, resolving and the token reader, on slices and numbers. A slice passes as a
+// The interface for C: the quick check, reading, resolving, showing and the token reader, on slices and numbers. A slice passes as a
 // pointer and a length. Every number of a lent answer or token is written.
 use lexemes::classes::BAD;
 use read::Answer;
@@ -10,6 +10,7 @@ ghost use Rattle.answers.specs.WholeAnswer.{quickCheck, readTable};
 ghost use Rattle.answers.specs.Resolution.{resolvedTable, resolvedOutput};
 ghost use Rattle.replies.specs.Replies.{readReply, resolveReply};
 ghost use Rattle.read.specs.Answers.{told};
+ghost use Rattle.show.specs.Show.{showReply, showTable, showOutput};
 ghost use Rattle.text.specs.Answers as text;
 ghost use Rattle.viewer.specs.Viewed.{seenFrom};
 ghost use Rattle.face.specs.Numbers.{inLent, isLast, replyNumbers, tokenNumbers};
@@ -91,6 +92,27 @@ pub extern "C" fn vfr_resolve(src: &[u8], table: &mut [u64], out: &mut [u8], ans
 {
     let a = text::resolve(src, table, out);
     put_resolution(answer, a);
+}
+
+// Reads a source into a table, and says by answers which items are hidden or grey.
+#[no_mangle]
+pub extern "C" fn vfr_show(
+    src: &[u8],
+    answers: &[u64],
+    table: &mut [u64],
+    out: &mut [u8],
+    answer: &mut [u64],
+)
+    ensures { λ _. ⌜ now (table .exit) ≡ showTable (now (src .entry)) (now (answers .entry)) (length (now (table .entry))) (length (now (out .entry))) ⌝ }
+    ensures { λ _. ⌜ now (out .exit) ≡ showOutput (now (src .entry)) (now (answers .entry)) (length (now (table .entry))) (length (now (out .entry))) ⌝ }
+    ensures { λ _. ⌜
+        now (answer .exit)
+        ≡ inLent (length (now (answer .entry)))
+        (replyNumbers (showReply (now (src .entry)) (now (answers .entry)) (length (now (table .entry))) (length (now (out .entry)))))
+        ⌝ }
+{
+    let a = show::show(src, answers, table, out);
+    put_answer(answer, a);
 }
 
 // 1 where no further token comes: at a bad token and at the end.

@@ -95,7 +95,8 @@ resolved s n m h = either (eqb (readAnswer s n .number) 0) accepted refused
         (λ z. passed (w .1) (ltb-false (room m) (length (textOfSource s)) z) r)
 
 -- a source resolves exactly when it is no longer than 65,536 bytes, has a derivation whose depths, ranges, 255-rule limit, uniqueness, reference and
--- choice rules hold, its rows are no more than the whole rows lent, and its text no longer than the bytes lent and than 65,536
+-- choice rules hold and of whose rules none reaches itself (W-202), its rows are no more than the whole rows lent, and its text no longer than the
+-- bytes lent and than 65,536
 pub resolves-with-room :
     (s : List ℕ) (n m : ℕ)
     → (resolution s n m .number ≡ 0)

@@ -39,7 +39,7 @@ pub const KINDS: [Kind; 10] = [
 ];
 
 /// A frame round as many parts as there is room for.
-fn filled(size: usize, start: &str, end: &str, part: impl Fn(usize) -> String) -> String {
+pub fn filled(size: usize, start: &str, end: &str, part: impl Fn(usize) -> String) -> String {
     let mut text = start.to_string();
     for at in 0.. {
         let next = part(at);
@@ -51,7 +51,7 @@ fn filled(size: usize, start: &str, end: &str, part: impl Fn(usize) -> String) -
     text + end
 }
 
-fn in_form(size: usize, part: impl Fn(usize) -> String) -> String {
+pub fn in_form(size: usize, part: impl Fn(usize) -> String) -> String {
     filled(size, &format!("{START}{FORM}"), END, part)
 }
 
@@ -92,8 +92,12 @@ endform;\n",
 }
 
 fn chain(size: usize) -> String {
-    let end = format!("1 endrule;\n{END}");
-    filled(size, &format!("{START}{FORM}rule A,"), &end, |_| "1+".to_string())
+    chain_in("rule A,", " endrule;\n", size)
+}
+
+/// A chain of sums between these.
+pub fn chain_in(before: &str, after: &str, size: usize) -> String {
+    filled(size, &format!("{START}{FORM}{before}"), &format!("1{after}{END}"), |_| "1+".to_string())
 }
 
 fn rules(size: usize) -> String {

@@ -3,9 +3,11 @@
 #![forbid(unsafe_code)]
 
 mod inputs;
+mod screens;
 
 use inputs::{EXAMPLE, KINDS};
 use reference::{Position, Walk, ROW};
+use screens::{screens, Screen};
 use std::hint::black_box;
 use std::thread;
 use std::time::{Duration, Instant};
@@ -217,9 +219,44 @@ fn walking() {
     }
 }
 
+/// Showing beside reading, and beside the reference. Both have to show the same.
+fn showing() {
+    println!("\nShowing, microseconds a call; as many rows and bytes are lent as there are rows.\n");
+    println!(
+        "{:44} {:>6} {:>6} {:>7} {:>6} | {:>9} {:>9} {:>6} | {:>9} {:>12}",
+        "source", "bytes", "rows", "answers", "answer", "library", "reference", "ratio", "reading", "show to read"
+    );
+    screens().iter().for_each(show_line);
+}
+
+fn show_line(Screen { name, source, answers }: &Screen) {
+    let source = source.as_bytes();
+    let rows = need(source);
+    let (mut table, mut other, mut out) = (vec![0; ROW * rows], vec![0; ROW * rows], vec![0; rows]);
+    let answer = library::show(source, answers, &mut table, &mut out).number;
+    match reference::show(source, answers, rows, rows) {
+        Ok((_, bytes)) => assert_eq!((answer, &out), (0, &bytes), "{name}"),
+        Err(refusal) => assert_eq!(answer, refusal.number, "{name}"),
+    }
+    let times = medians([
+        &mut || _ = black_box(library::show(black_box(source), black_box(answers), &mut table, &mut out)),
+        &mut || _ = black_box(reference::show(black_box(source), black_box(answers), rows, rows)),
+        &mut || _ = black_box(library::read(black_box(source), &mut other)),
+    ]);
+    let [show, reference, read] = times.map(|nanoseconds| nanoseconds / 1000.0);
+    println!(
+        "{name:44} {:6} {rows:6} {:7} {answer:6} | {show:9.1} {reference:9.1} {:6.2} | {read:9.1} {:12.2}",
+        source.len(),
+        answers.len() / 2,
+        show / reference,
+        show / read
+    );
+}
+
 fn main() {
     table();
     growth();
     resolving();
+    showing();
     walking();
 }

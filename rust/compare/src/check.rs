@@ -64,15 +64,19 @@ fn source_difference(lent: &[u8], source: &[u8]) -> Option<String> {
     (black_box(lent) != source).then(|| "the library changes the source".to_string())
 }
 
-/// How an output with the guard past its end differs from a text and the zeros past it.
-fn text_difference(given: &[u8], text: &[u8]) -> Option<String> {
+fn answers_difference(lent: &[u64], answers: &[u64]) -> Option<String> {
+    (black_box(lent) != answers).then(|| "the library changes the answers".to_string())
+}
+
+/// How an output with the guard past its end differs from what was written to it and the zeros past that.
+fn output_difference(given: &[u8], written: &[u8]) -> Option<String> {
     let (out, guard) = given.split_at(given.len() - GUARD);
     if guard != [OLD as u8; GUARD] {
         return Some("the library writes past the output".to_string());
     }
-    let wanted = |at: usize| text.get(at).copied().unwrap_or(0);
+    let wanted = |at: usize| written.get(at).copied().unwrap_or(0);
     let at = (0..out.len()).find(|&at| out[at] != wanted(at))?;
-    Some(format!("byte {at} of the text: library {}, reference {}", out[at], wanted(at)))
+    Some(format!("byte {at} of the output: library {}, reference {}", out[at], wanted(at)))
 }
 
 /// What was met, if nothing differs.
@@ -115,9 +119,42 @@ pub fn resolving(source: &[u8], table_len: usize, out_len: usize, answer_len: us
     library::resolve_into(black_box(&lent), &mut buffer[..table_len], &mut out[..out_len], &mut answer[..answer_len]);
     let difference = numbers_difference(&answer, &wanted.numbers(), wanted)
         .or_else(|| table_difference(&buffer, &table))
-        .or_else(|| text_difference(&out, text.as_bytes()))
+        .or_else(|| output_difference(&out, text.as_bytes()))
         .or_else(|| source_difference(&lent, source));
     agreed(Answered { met, line: wanted.line }, difference)
+}
+
+/// What showing met, and the bytes of the rows.
+pub struct Shown {
+    pub answered: Answered,
+    pub bytes: Vec<u8>,
+}
+
+/// Showing with these answers to the questions, and with a table, an output and an answer of these lengths.
+pub fn showing(
+    source: &[u8],
+    answers: &[u64],
+    table_len: usize,
+    out_len: usize,
+    answer_len: usize,
+) -> Result<Shown, String> {
+    let shown = reference::show(source, answers, table_len / ROW, out_len);
+    let met = Met::of_showing(shown.as_ref(), answers);
+    let (wanted, table) = expected(shown.as_ref().map(|(reading, _)| reading), table_len);
+    let bytes = shown.map_or_else(|_| Vec::new(), |(_, bytes)| bytes);
+    let (lent, lent_answers) = (source.to_vec(), answers.to_vec());
+    let mut buffer = vec![OLD; table_len + GUARD];
+    let mut out = vec![OLD as u8; out_len + GUARD];
+    let mut answer = vec![OLD; answer_len + GUARD];
+    let (table_lent, out_lent, answer_lent) =
+        (&mut buffer[..table_len], &mut out[..out_len], &mut answer[..answer_len]);
+    library::show_into(black_box(&lent), black_box(&lent_answers), table_lent, out_lent, answer_lent);
+    let difference = numbers_difference(&answer, &wanted.numbers(), wanted)
+        .or_else(|| table_difference(&buffer, &table))
+        .or_else(|| output_difference(&out, &bytes))
+        .or_else(|| source_difference(&lent, source))
+        .or_else(|| answers_difference(&lent_answers, answers));
+    agreed(Shown { answered: Answered { met, line: wanted.line }, bytes }, difference)
 }
 
 /// The numbers of a token that was looked for from a place on.

@@ -8,6 +8,7 @@ title = STRING_TOKEN ( 2 ) , help = STRING_TOKEN ( 3 ) , \
 form formid = 1 , title = STRING_TOKEN ( 4 ) ; \
 rule A , 1 OR TRUE AND FALSE | ZERO & ONE == ONES != UNDEFINED < 2 <= 3 > 4 >= 5 << 6 >> 7 + 8 - 9 * 1 / 2 % 3 endrule ; \
 rule B , NOT ( NOT ruleref ( A ) + questionref ( Q ) ) * questionref ( 9 ) endrule ; \
+rule C , 4 >= 1 << 2 OR FALSE endrule ; \
 subtitle text = STRING_TOKEN ( 5 ) ; \
 text help = STRING_TOKEN ( 6 ) , text = STRING_TOKEN ( 7 ) ; \
 label 8 ; \
@@ -17,7 +18,8 @@ endform ; \
 form formid = 2 , title = STRING_TOKEN ( 4 ) ; \
 checkbox name = R , prompt = STRING_TOKEN ( 1 ) , help = STRING_TOKEN ( 2 ) , \
 flags = INTERACTIVE | RESET_REQUIRED , default = TRUE , endcheckbox ; \
-suppressif 1 ; grayoutif ( 2 ) ; endif ; disableif 3 ; label 1 ; endif ; \
+suppressif 7 - 2 * 3 == 1 AND NOT questionref ( R ) ; grayoutif ( ruleref ( C ) ) ; label 1 ; endif ; \
+disableif TRUE ; label 1 ; endif ; \
 checkbox prompt = STRING_TOKEN ( 1 ) , help = STRING_TOKEN ( 2 ) , endcheckbox ; endif ; \
 numeric questionid = 8 , prompt = STRING_TOKEN ( 1 ) , help = STRING_TOKEN ( 2 ) , flags = READ_ONLY , \
 minimum = 1 , maximum = 9 , step = 2 , default = 5 , endnumeric ; \

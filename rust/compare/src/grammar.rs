@@ -1,5 +1,7 @@
 //! Random texts of the grammar, with faults of chosen stages or none.
 
+mod sorted;
+
 use crate::random::Random;
 
 pub const OPERATORS: [&str; 17] =
@@ -26,10 +28,41 @@ enum Fault {
     Rules = 10,
     Lost = 11,
     Choice = 12,
+    Circle = 14,
 }
 
-const FAULTS: [Fault; 8] =
-    [Fault::Depth, Fault::Range, Fault::Form, Fault::Number, Fault::Name, Fault::Rules, Fault::Lost, Fault::Choice];
+const FAULTS: [Fault; 9] = [
+    Fault::Depth,
+    Fault::Range,
+    Fault::Form,
+    Fault::Number,
+    Fault::Name,
+    Fault::Rules,
+    Fault::Lost,
+    Fault::Choice,
+    Fault::Circle,
+];
+
+/// The sort of a value, where it is known.
+#[derive(Clone, Copy, PartialEq, Eq)]
+enum Sort {
+    Truth,
+    Number,
+    Unknown,
+}
+
+/// What a question or rule is found by, and the sort of its value.
+struct Declared<T> {
+    by: T,
+    sort: Sort,
+}
+
+/// Where the tokens of a reference start, the rule it stands in, and the sort that is wanted.
+struct Reference {
+    at: usize,
+    rule: Option<usize>,
+    sort: Sort,
+}
 
 /// A text of the grammar.
 pub fn text(random: &mut Random) -> Vec<u8> {
@@ -66,11 +99,15 @@ struct Writer<'r> {
     rarity: usize,
     tokens: Vec<String>,
     forms: Vec<u64>,
-    numbers: Vec<u64>,
-    question_names: Vec<String>,
-    rule_names: Vec<String>,
-    /// Where the tokens of references start; what they refer to is chosen at the end.
-    references: Vec<usize>,
+    numbers: Vec<Declared<u64>>,
+    question_names: Vec<Declared<String>>,
+    rule_names: Vec<Declared<String>>,
+    /// The rule that is written, from 0.
+    rule: Option<usize>,
+    /// What they refer to is chosen at the end.
+    references: Vec<Reference>,
+    /// Whether operators mostly get operands of their sorts.
+    is_sorted: bool,
     conditions: usize,
     /// How many more atoms the expression may have.
     atoms: usize,
@@ -79,15 +116,18 @@ struct Writer<'r> {
 impl<'r> Writer<'r> {
     fn new(random: &'r mut Random, faults: Vec<Fault>) -> Self {
         let rarity = [2, 5, 30][random.below(3)];
+        let is_sorted = random.once_in(2);
         Writer {
             random,
             faults,
             rarity,
+            is_sorted,
             tokens: Vec::new(),
             forms: Vec::new(),
             numbers: Vec::new(),
             question_names: Vec::new(),
             rule_names: Vec::new(),
+            rule: None,
             references: Vec::new(),
             conditions: 0,
             atoms: 0,
@@ -236,10 +276,13 @@ impl<'r> Writer<'r> {
         for _ in 0..count {
             self.push("rule");
             let name = self.fresh(true);
+            let sort = self.rule_sort();
             self.push(name.clone());
-            self.rule_names.push(name);
+            self.rule = Some(self.rule_names.len());
+            self.rule_names.push(Declared { by: name, sort });
             self.push(",");
-            self.expression(if count > 1 { 1 } else { 12 });
+            self.expression(sort, if count > 1 { 1 } else { 12 });
+            self.rule = None;
             self.phrase("endrule ;");
         }
     }
@@ -249,7 +292,7 @@ impl<'r> Writer<'r> {
         let slips = self.slips(Fault::Name);
         let names = if rule { &self.rule_names } else { &self.question_names };
         if slips && !names.is_empty() {
-            return names[self.random.below(names.len())].clone();
+            return names[self.random.below(names.len())].by.clone();
         }
         loop {
             let mut name = self.random.pick(&NAMES).to_string();
@@ -260,7 +303,7 @@ impl<'r> Writer<'r> {
                 name += &"y".repeat(self.random.between(10, 300));
             }
             let names = if rule { &self.rule_names } else { &self.question_names };
-            if !names.contains(&name) {
+            if !names.iter().any(|declared| declared.by == name) {
                 return name;
             }
         }
@@ -295,17 +338,18 @@ impl<'r> Writer<'r> {
         }
     }
 
-    fn head(&mut self) {
+    /// HEAD of a question whose answers have this sort.
+    fn head(&mut self, sort: Sort) {
         if self.random.once_in(2) || self.faults.contains(&Fault::Name) {
             self.phrase("name =");
             let name = self.fresh(false);
             self.push(name.clone());
-            self.question_names.push(name);
+            self.question_names.push(Declared { by: name, sort });
             self.push(",");
         }
         if self.random.once_in(2) || self.faults.contains(&Fault::Number) {
             self.phrase("questionid =");
-            let number = self.question_number();
+            let number = self.question_number(sort);
             self.number(number, 1, 65_535);
             self.push(",");
         }
@@ -315,9 +359,9 @@ impl<'r> Writer<'r> {
         self.string();
     }
 
-    fn question_number(&mut self) -> u64 {
+    fn question_number(&mut self, sort: Sort) -> u64 {
         if self.slips(Fault::Number) && !self.numbers.is_empty() {
-            return self.numbers[self.random.below(self.numbers.len())];
+            return self.numbers[self.random.below(self.numbers.len())].by;
         }
         loop {
             let number = match self.random.below(3) {
@@ -325,8 +369,8 @@ impl<'r> Writer<'r> {
                 1 => self.random.between(1, 200) as u64,
                 _ => 64 * self.random.between(1, 1023) as u64 - 1 + self.random.below(3) as u64,
             };
-            if !self.numbers.contains(&number) {
-                self.numbers.push(number);
+            if !self.numbers.iter().any(|declared| declared.by == number) {
+                self.numbers.push(Declared { by: number, sort });
                 return number;
             }
         }
@@ -357,7 +401,7 @@ impl<'r> Writer<'r> {
         let target = if self.slips(Fault::Lost) { self.value(1, 65_535) } else { known };
         self.number(target, 1, 65_535);
         self.push(",");
-        self.head();
+        self.head(Sort::Unknown);
         if self.random.once_in(2) {
             self.phrase(", flags =");
             self.flag_list();
@@ -367,7 +411,7 @@ impl<'r> Writer<'r> {
 
     fn checkbox(&mut self) {
         self.push("checkbox");
-        self.head();
+        self.head(Sort::Truth);
         self.push(",");
         self.flags();
         if self.random.once_in(2) {
@@ -388,7 +432,7 @@ impl<'r> Writer<'r> {
 
     fn numeric(&mut self) {
         self.push("numeric");
-        self.head();
+        self.head(Sort::Number);
         self.push(",");
         self.flags();
         let (any, other) = (self.value(0, u64::MAX), self.value(0, u64::MAX));
@@ -415,7 +459,7 @@ impl<'r> Writer<'r> {
 
     fn oneof(&mut self) {
         self.push("oneof");
-        self.head();
+        self.head(Sort::Number);
         self.push(",");
         self.flags();
         let count = if self.random.once_in(20) { self.random.between(20, 60) } else { self.random.between(1, 6) };
@@ -454,7 +498,7 @@ impl<'r> Writer<'r> {
             let word = self.random.pick(&["suppressif", "grayoutif", "disableif"]);
             self.push(word);
             self.conditions += 1;
-            self.expression(12);
+            self.expression(Sort::Truth, 12);
             self.push(";");
         }
         for _ in 0..deep {
@@ -467,7 +511,12 @@ impl<'r> Writer<'r> {
         }
     }
 
-    fn expression(&mut self, atoms: usize) {
+    /// An expression of a sort, if sorts are kept.
+    fn expression(&mut self, sort: Sort, atoms: usize) {
+        if self.is_sorted && !self.random.once_in(10) {
+            let depth = if atoms > 1 { self.random.below(5) } else { 0 };
+            return self.sorted(sort, 1, depth);
+        }
         self.atoms = if atoms > 1 && self.random.once_in(40) { 300 } else { atoms };
         self.operation(0);
     }
@@ -490,8 +539,8 @@ impl<'r> Writer<'r> {
                 let deep = self.random.between(20, 36).min(most - open);
                 self.groups(open, deep);
             }
-            3..=4 => self.reference("questionref"),
-            5 => self.reference("ruleref"),
+            3..=4 => self.reference("questionref", Sort::Unknown),
+            5 => self.reference("ruleref", Sort::Unknown),
             6..=7 => {
                 let word = self.random.pick(&["TRUE", "FALSE", "ZERO", "ONE", "ONES", "UNDEFINED"]);
                 self.push(word);
@@ -526,49 +575,86 @@ impl<'r> Writer<'r> {
         self.push(")");
     }
 
-    fn reference(&mut self, word: &str) {
-        self.references.push(self.tokens.len());
+    fn reference(&mut self, word: &str, sort: Sort) {
+        self.references.push(Reference { at: self.tokens.len(), rule: self.rule, sort });
         self.push(word);
         self.phrase("( ? )");
     }
 
     /// Gives each reference what it refers to; one that can find nothing becomes another atom.
     fn choose_references(&mut self) {
-        for at in std::mem::take(&mut self.references) {
-            let rule = self.tokens[at] == "ruleref";
-            let target = if self.slips(Fault::Lost) { Some(self.lost(rule)) } else { self.found(rule) };
+        let ranks = self.ranks();
+        for reference in std::mem::take(&mut self.references) {
+            let Reference { at, sort, .. } = reference;
+            let target = match (self.tokens[at] == "ruleref", self.slips(Fault::Lost)) {
+                (true, true) => Some(self.lost_rule()),
+                (true, false) => self.found_rule(&reference, &ranks),
+                (false, true) => Some(self.lost_question()),
+                (false, false) => self.found_question(sort),
+            };
             match target {
                 Some(target) => self.tokens[at + 2] = target,
                 None => {
-                    self.tokens[at] = "ONE".to_string();
+                    let atom = if sort == Sort::Truth { self.random.pick(&["TRUE", "FALSE"]) } else { "ONE" };
+                    self.tokens[at] = atom.to_string();
                     self.tokens[at + 1..at + 4].fill(String::new());
                 }
             }
         }
     }
 
-    fn found(&mut self, rule: bool) -> Option<String> {
-        let names = if rule { &self.rule_names } else { &self.question_names };
-        let by_number = !rule && self.random.once_in(2);
-        if by_number && !self.numbers.is_empty() {
-            let number = self.numbers[self.random.below(self.numbers.len())];
-            return Some(self.spelled(u128::from(number)));
+    /// A rank for each rule; those that refer to higher ones alone make no circle. Later rules are higher, or earlier ones,
+    /// or any.
+    fn ranks(&mut self) -> Vec<u64> {
+        let count = self.rule_names.len() as u64;
+        match self.random.below(3) {
+            0 => (0..count).collect(),
+            1 => (0..count).rev().collect(),
+            _ => (0..count).map(|_| self.random.number()).collect(),
         }
-        if names.is_empty() {
-            return None;
-        }
-        Some(names[self.random.below(names.len())].clone())
     }
 
-    fn lost(&mut self, rule: bool) -> String {
-        if !rule && self.random.once_in(2) {
+    fn one_of(&mut self, targets: &[String]) -> Option<String> {
+        match targets.len() {
+            0 => None,
+            count => Some(targets[self.random.below(count)].clone()),
+        }
+    }
+
+    fn found_rule(&mut self, reference: &Reference, ranks: &[u64]) -> Option<String> {
+        let slips = self.slips(Fault::Circle);
+        let is_higher = |at: usize| slips || reference.rule.is_none_or(|rule| ranks[at] > ranks[rule]);
+        let rules = self.rule_names.iter().enumerate();
+        let targets = rules.filter(|(at, rule)| is_higher(*at) && rule.sort.fits(reference.sort));
+        let targets: Vec<String> = targets.map(|(_, rule)| rule.by.clone()).collect();
+        self.one_of(&targets)
+    }
+
+    fn found_question(&mut self, sort: Sort) -> Option<String> {
+        let by_number = self.random.once_in(2);
+        let numbers: Vec<u64> = self.numbers.iter().filter(|number| number.sort.fits(sort)).map(|it| it.by).collect();
+        if by_number && !numbers.is_empty() {
+            let number = numbers[self.random.below(numbers.len())];
+            return Some(self.spelled(u128::from(number)));
+        }
+        let names = self.question_names.iter().filter(|name| name.sort.fits(sort));
+        let names: Vec<String> = names.map(|name| name.by.clone()).collect();
+        self.one_of(&names)
+    }
+
+    /// A name that may be no rule's.
+    fn lost_rule(&mut self) -> String {
+        let questions: Vec<String> = self.question_names.iter().map(|name| name.by.clone()).collect();
+        self.one_of(&questions).unwrap_or_else(|| self.random.pick(&NAMES).to_string())
+    }
+
+    /// A number or name that may be no question's.
+    fn lost_question(&mut self) -> String {
+        if self.random.once_in(2) {
             return self.value(1, 300).to_string();
         }
-        let others = if rule { &self.question_names } else { &self.rule_names };
-        match others.len() {
-            0 => self.random.pick(&NAMES).to_string(),
-            count => others[self.random.below(count)].clone(),
-        }
+        let rules: Vec<String> = self.rule_names.iter().map(|name| name.by.clone()).collect();
+        self.one_of(&rules).unwrap_or_else(|| self.random.pick(&NAMES).to_string())
     }
 }
 

@@ -19,12 +19,13 @@ impl Json {
     }
 
     pub fn field(&self, name: &str) -> &Json {
+        self.find(name).unwrap_or_else(|| panic!("no field {name}"))
+    }
+
+    /// The field of an object, if it has it.
+    pub fn find(&self, name: &str) -> Option<&Json> {
         match self {
-            Json::Object(fields) => fields
-                .iter()
-                .find(|(key, _)| key == name)
-                .map(|(_, value)| value)
-                .unwrap_or_else(|| panic!("no field {name}")),
+            Json::Object(fields) => fields.iter().find(|(key, _)| key == name).map(|(_, value)| value),
             other => panic!("no object but {other:?}"),
         }
     }

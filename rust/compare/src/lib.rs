@@ -1,8 +1,9 @@
-//! What the programs of this crate share: the checks of the library against the reference, the sources for them, the
-//! tally of the answers met, and the count of checks of given cases.
+//! What the programs of this crate share: the checks of the library against the reference, the sources and answers for
+//! them, the tally of the answers met, and the count of checks of given cases.
 
 #![forbid(unsafe_code)]
 
+pub mod answers;
 pub mod check;
 mod damage;
 pub mod edits;
@@ -11,5 +12,6 @@ pub mod json;
 mod limits;
 pub mod outcomes;
 pub mod random;
+mod rules;
 pub mod sources;
 pub mod tally;

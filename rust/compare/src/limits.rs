@@ -6,7 +6,7 @@ use reference::LONGEST;
 
 /// A text at one of document 01's limits, or a little past it.
 pub fn at_a_limit(random: &mut Random) -> Vec<u8> {
-    match random.below(14) {
+    match random.below(16) {
         0 => padded(random),
         1 => longest_chain(random),
         2 => {
@@ -29,6 +29,8 @@ pub fn at_a_limit(random: &mut Random) -> Vec<u8> {
         10 => many_references(random),
         11 => about_1024_rows(random),
         12 => longest_text(random),
+        13 => many_conditions(random),
+        14 => many_answers(random),
         _ => {
             let name = "n".repeat(random.between(1, 3_000));
             let other = format!("{}{}", &name[1..], random.pick(&["n", "m", "nn", ""]));
@@ -39,7 +41,8 @@ pub fn at_a_limit(random: &mut Random) -> Vec<u8> {
     }
 }
 
-fn framed(items: &str) -> Vec<u8> {
+/// A source of one form with these items.
+pub fn framed(items: &str) -> Vec<u8> {
     let start = "formset guid={0x1,0x2,0x3,{0x4,0x5,0x6,0x7,0x8,0x9,0xA,0xB}},title=STRING_TOKEN(2),\
                  help=STRING_TOKEN(3),form formid=1,title=STRING_TOKEN(4);";
     format!("{start}{items}endform;endformset;").into_bytes()
@@ -119,4 +122,33 @@ fn many_references(random: &mut Random) -> Vec<u8> {
     let reference = |_| format!("ruleref(r{})+", random.below(names + usize::from(count < 100)));
     let references: String = (0..count).map(reference).collect();
     framed(&format!("{rules}suppressif {references}1;endif;"))
+}
+
+/// A source full of conditions that stand one in another, some of them TRUE.
+fn many_conditions(random: &mut Random) -> Vec<u8> {
+    let mut items = String::new();
+    while items.len() < 60_000 {
+        let depth = random.between(1, 16);
+        for _ in 0..depth {
+            items += random.pick(&["suppressif ", "grayoutif ", "disableif "]);
+            items += random.pick(&["TRUE;", "FALSE;", "FALSE;", "FALSE;", "1<2;", "1/0==1;", "UNDEFINED;", "1;"]);
+        }
+        for _ in 0..depth {
+            items += random.pick(&["label 1;", "", "subtitle text=STRING_TOKEN(1);"]);
+            items += "endif;";
+        }
+    }
+    framed(&items)
+}
+
+/// As many questions as fit, each with a condition that its answer may make TRUE.
+fn many_answers(random: &mut Random) -> Vec<u8> {
+    let count = random.between(400, 500);
+    let question = |at: usize| {
+        let number = 1 + (at * 131) % 65_535;
+        let strings = "prompt=STRING_TOKEN(0),help=STRING_TOKEN(0)";
+        let condition = format!("suppressif questionref({number});label 1;endif;");
+        format!("checkbox questionid={number},{strings},endcheckbox;{condition}")
+    };
+    framed(&(0..count).map(question).collect::<String>())
 }

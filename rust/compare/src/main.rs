@@ -1,11 +1,12 @@
 //! `compare SECONDS [SEED]`: the library against the reference on every edit of one source, which takes
-//! about ten seconds, then on random sources for so long. It prints how often each call gave each answer, and how many
-//! tokens were compared; a run of at least a minute fails where an answer that a call can give, or a token, was never met,
-//! a shorter one only says so.
+//! about twenty seconds, then on random sources for so long. It prints how often each call gave each answer, how many
+//! tokens were compared, and how many rows of screens were hidden, grey, both or neither; a run of at least a minute fails
+//! where an answer that a call can give, a token or a byte of a screen was never met, a shorter one only says so.
 
 #![forbid(unsafe_code)]
 
-use compare::check::{self, Answered, MOST_NUMBERS};
+use compare::answers::answers;
+use compare::check::{self, Answered, Shown, MOST_NUMBERS};
 use compare::edits::every_edit;
 use compare::random::Random;
 use compare::sources;
@@ -49,11 +50,12 @@ fn table_lengths(source: &[u8], random: &mut Random) -> Vec<usize> {
 }
 
 /// What is compared on one source, with the lengths of what is lent: of tables, outputs, answers and tokens.
-#[derive(Clone, Copy, Debug)]
+#[derive(Clone, Debug)]
 enum Check {
     Quick,
     Read { table: usize, answer: usize },
     Resolve { table: usize, out: usize, answer: usize },
+    Show { answers: Vec<u64>, table: usize, out: usize, answer: usize },
     Walk,
     Token { at: usize, position: Position, token: usize },
 }
@@ -61,23 +63,28 @@ enum Check {
 /// What a check met.
 enum Outcome {
     Answer(Call, Answered),
+    Screen(Shown),
     Tokens(Vec<u64>),
     Nothing,
 }
 
 /// What a check met, or how the two differ.
-fn outcome(source: &[u8], check: Check) -> Result<Outcome, String> {
+fn outcome(source: &[u8], check: &Check) -> Result<Outcome, String> {
     let of = |call| move |answered| Outcome::Answer(call, answered);
-    match check {
+    match *check {
         Check::Quick => check::quick(source).map(of(Call::Quick)),
         Check::Read { table, answer } => check::reading(source, table, answer).map(of(Call::Reading)),
         Check::Resolve { table, out, answer } => check::resolving(source, table, out, answer).map(of(Call::Resolving)),
+        Check::Show { ref answers, table, out, answer } => {
+            check::showing(source, answers, table, out, answer).map(Outcome::Screen)
+        }
         Check::Walk => check::walk(source).map(Outcome::Tokens),
         Check::Token { at, position, token } => check::token(source, at, position, token).map(|()| Outcome::Nothing),
     }
 }
 
-/// All calls, with answers that have room for all; and now and then with answers and tokens of any length.
+/// All calls, with answers that have room for all; and now and then with answers and tokens of any length. A source that
+/// passes stages 1 to 5 is shown more often, with other answers to its questions.
 fn checks(source: &[u8], random: &mut Random) -> Vec<Check> {
     let lengths = table_lengths(source, random);
     let mut checks = vec![Check::Quick, Check::Walk];
@@ -86,6 +93,8 @@ fn checks(source: &[u8], random: &mut Random) -> Vec<Check> {
         checks.push(Check::Read { table, answer: random.between(ANSWER, MOST_NUMBERS) });
         checks.push(Check::Resolve { table, out, answer: random.between(ANSWER, MOST_NUMBERS) });
     }
+    let shows = if lengths.len() > 1 { 3 } else { 1 };
+    checks.extend((0..shows).map(|at| show_check(source, lengths[at % lengths.len()], random)));
     if random.once_in(8) {
         let (table, out) = (lengths[random.below(lengths.len())], output_length(source, random));
         checks.push(Check::Read { table, answer: random.between(0, MOST_NUMBERS) });
@@ -95,6 +104,21 @@ fn checks(source: &[u8], random: &mut Random) -> Vec<Check> {
         checks.extend((0..3).map(|_| token_check(source, random)));
     }
     checks
+}
+
+/// Showing with a table of this length and an answer of any, and as many bytes as rows, one fewer, none, more or any.
+fn show_check(source: &[u8], table: usize, random: &mut Random) -> Check {
+    let reading = reference::read(source, usize::MAX).ok();
+    let rows = reading.as_ref().map_or(random.below(100), |reading| reading.rows.len());
+    let answers = answers(reading.map_or_else(Vec::new, |reading| reading.question_numbers()), random);
+    let out = match random.below(10) {
+        0 => 0,
+        1 => rows.saturating_sub(1),
+        2 => random.below(rows + 1),
+        3..=5 => rows + random.between(1, 100),
+        _ => rows,
+    };
+    Check::Show { answers, table, out, answer: random.between(0, MOST_NUMBERS) }
 }
 
 /// The token from any place on, an LF or the length or past it now and then, with any line and column.
@@ -150,7 +174,7 @@ impl Shrinking {
             return false;
         }
         let shorter = [&self.source[..start], &self.source[end..]].concat();
-        let fails = outcome(&shorter, self.check).is_err();
+        let fails = outcome(&shorter, &self.check).is_err();
         if fails {
             self.source = shorter;
         }
@@ -184,8 +208,8 @@ impl Shrinking {
 }
 
 /// A shorter source that fails the same check: runs of bytes, then runs of statements are taken out.
-fn shrunk(source: &[u8], check: Check) -> Vec<u8> {
-    let mut least = Shrinking { source: source.to_vec(), check, until: Instant::now() + SHRINKING };
+fn shrunk(source: &[u8], check: &Check) -> Vec<u8> {
+    let mut least = Shrinking { source: source.to_vec(), check: check.clone(), until: Instant::now() + SHRINKING };
     loop {
         let before = least.source.len();
         least.without_bytes();
@@ -196,7 +220,7 @@ fn shrunk(source: &[u8], check: Check) -> Vec<u8> {
     }
 }
 
-fn report(seed: u64, source: &[u8], check: Check) {
+fn report(seed: u64, source: &[u8], check: &Check) {
     let least = shrunk(source, check);
     println!("DISAGREEMENT at seed {seed}, {check:?}, source of {} bytes, shortened to {}:", source.len(), least.len());
     println!("{}", least.escape_ascii());
@@ -219,12 +243,16 @@ impl Run {
         self.bytes += source.len() as u64;
         for check in checks(source, random) {
             self.checks += 1;
-            match outcome(source, check) {
+            match outcome(source, &check) {
                 Ok(Outcome::Answer(call, answered)) => self.note(call, answered),
+                Ok(Outcome::Screen(Shown { answered, bytes })) => {
+                    self.note(Call::Showing, answered);
+                    self.tally.note_screen(&bytes);
+                }
                 Ok(Outcome::Tokens(classes)) => self.tally.note_tokens(&classes),
                 Ok(Outcome::Nothing) => {}
                 Err(_) => {
-                    report(seed, source, check);
+                    report(seed, source, &check);
                     return false;
                 }
             }

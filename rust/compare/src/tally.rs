@@ -1,6 +1,7 @@
-//! Which answers were met, call by call, and which tokens; and which should have been.
+//! Which answers were met, call by call, and which tokens and bytes of screens; and which should have been.
 
-use reference::{Kind, Refusal, LONGEST, PLACELESS_REFUSALS, QUICK_REFUSALS, READ_REFUSALS, TEXT_REFUSAL};
+use reference::{Kind, Refusal, ANSWERS_REFUSAL, BYTES_REFUSAL, LONGEST, PLACELESS_REFUSALS, QUICK_REFUSALS};
+use reference::{READ_REFUSALS, TEXT_REFUSAL};
 use std::collections::BTreeMap;
 use std::fmt;
 
@@ -11,9 +12,10 @@ pub enum Call {
     ReadingLater,
     Quick,
     Resolving,
+    Showing,
 }
 
-const CALLS: [Call; 4] = [Call::Reading, Call::ReadingLater, Call::Quick, Call::Resolving];
+const CALLS: [Call; 5] = [Call::Reading, Call::ReadingLater, Call::Quick, Call::Resolving, Call::Showing];
 
 /// How many classes of tokens there are.
 const CLASSES: usize = Kind::End as usize + 1;
@@ -25,6 +27,7 @@ impl fmt::Display for Call {
             Call::ReadingLater => "past line 1",
             Call::Quick => "quick check",
             Call::Resolving => "resolving",
+            Call::Showing => "showing",
         })
     }
 }
@@ -40,8 +43,10 @@ impl Call {
             }
             _ => answers.insert(0, Met::Accepted),
         }
-        if self == Call::Resolving {
-            answers.extend([Met::OutputShort, Met::TextLong]);
+        match self {
+            Call::Resolving => answers.extend([Met::OutputShort, Met::TextLong]),
+            Call::Showing => answers.extend(LAST_OF_SHOWING),
+            _ => {}
         }
         answers
     }
@@ -57,7 +62,15 @@ pub enum Met {
     OutputShort,
     /// The text is longer than any may be, so that no output would do.
     TextLong,
+    /// The first answer to a question that is at fault has no value, has a number that is not above the one before it, or
+    /// has a number that no question bears.
+    AnswerOdd,
+    AnswerNotAbove,
+    AnswerUnknown,
 }
+
+const LAST_OF_SHOWING: [Met; 4] =
+    [Met::AnswerOdd, Met::AnswerNotAbove, Met::AnswerUnknown, Met::Refused(BYTES_REFUSAL)];
 
 impl Met {
     /// What an answer is; the need of a text tells why it is refused.
@@ -67,6 +80,21 @@ impl Met {
             Err(Refusal { number: TEXT_REFUSAL, need, .. }) if *need > LONGEST => Met::TextLong,
             Err(Refusal { number: TEXT_REFUSAL, .. }) => Met::OutputShort,
             Err(refusal) => Met::Refused(refusal.number),
+        }
+    }
+
+    /// The same of showing; the answer at fault tells why it is.
+    pub fn of_showing<T>(answer: Result<T, &Refusal>, answers: &[u64]) -> Met {
+        match answer {
+            Err(Refusal { number: ANSWERS_REFUSAL, place, .. }) => {
+                let (before, rest) = answers.split_at(2 * place);
+                match (before, rest) {
+                    (_, [] | [_]) => Met::AnswerOdd,
+                    ([.., last, _], [number, ..]) if number <= last => Met::AnswerNotAbove,
+                    _ => Met::AnswerUnknown,
+                }
+            }
+            other => Met::of(other),
         }
     }
 
@@ -86,15 +114,22 @@ impl fmt::Display for Met {
             Met::Refused(number) => f.pad(&format!("refusal {number}")),
             Met::OutputShort => f.pad(&format!("refusal {TEXT_REFUSAL}, output short")),
             Met::TextLong => f.pad(&format!("refusal {TEXT_REFUSAL}, over {LONGEST} bytes")),
+            Met::AnswerOdd => f.pad(&format!("refusal {ANSWERS_REFUSAL}, no value")),
+            Met::AnswerNotAbove => f.pad(&format!("refusal {ANSWERS_REFUSAL}, not above")),
+            Met::AnswerUnknown => f.pad(&format!("refusal {ANSWERS_REFUSAL}, no question")),
         }
     }
 }
 
-/// How often each call gave each answer, and how often each class of tokens was met.
+/// What the bytes of screens say of a row.
+const BYTES: [&str; 4] = ["neither", "hidden", "grey", "both"];
+
+/// How often each call gave each answer, and how often each class of tokens and each byte of screens was met.
 #[derive(Default)]
 pub struct Tally {
     counts: BTreeMap<(Met, Call), u64>,
     classes: BTreeMap<u64, u64>,
+    bytes: [u64; BYTES.len()],
 }
 
 impl Tally {
@@ -106,25 +141,33 @@ impl Tally {
         classes.iter().for_each(|&class| *self.classes.entry(class).or_default() += 1);
     }
 
+    /// Notes the bytes of a screen; there are no others than those that have a name.
+    pub fn note_screen(&mut self, bytes: &[u8]) {
+        bytes.iter().for_each(|&byte| self.bytes[usize::from(byte)] += 1);
+    }
+
     fn count(&self, call: Call, met: Met) -> u64 {
         self.counts.get(&(met, call)).copied().unwrap_or(0)
     }
 
-    /// The answers that a call can give and never gave, and the classes of tokens that were never met.
+    /// The answers that a call can give and never gave, and the classes of tokens and bytes of screens that were never met.
     pub fn missing(&self) -> Vec<String> {
         let all = CALLS.into_iter().flat_map(|call| call.answers().into_iter().map(move |met| (call, met)));
         let answers = all.filter(|&(call, met)| self.count(call, met) == 0).map(|(call, met)| format!("{call}, {met}"));
         let classes = (0..CLASSES as u64).filter(|class| !self.classes.contains_key(class));
-        answers.chain(classes.map(|class| format!("tokens of class {class}"))).collect()
+        let bytes = BYTES.iter().zip(self.bytes).filter(|(_, count)| *count == 0);
+        let tokens = classes.map(|class| format!("tokens of class {class}"));
+        answers.chain(tokens).chain(bytes.map(|(name, _)| format!("bytes of screens: {name}"))).collect()
     }
 }
 
-/// A line for each answer, a column for each call; `-` where the call cannot give it. Then a line for the tokens.
+/// A line for each answer, a column for each call; `-` where the call cannot give it. Then lines for the tokens and the
+/// bytes of screens.
 impl fmt::Display for Tally {
     fn fmt(&self, f: &mut fmt::Formatter) -> fmt::Result {
         write!(f, "{:32}", "")?;
         CALLS.iter().try_for_each(|call| write!(f, "{call:>12}"))?;
-        for met in Call::Resolving.answers() {
+        for met in Call::Resolving.answers().into_iter().chain(LAST_OF_SHOWING) {
             write!(f, "\n  {met:30}")?;
             for call in CALLS {
                 if call.answers().contains(&met) {
@@ -135,6 +178,8 @@ impl fmt::Display for Tally {
             }
         }
         let tokens: u64 = self.classes.values().sum();
-        write!(f, "\n  {tokens} tokens of {} classes, of {CLASSES} that there are", self.classes.len())
+        write!(f, "\n  {tokens} tokens of {} classes, of {CLASSES} that there are", self.classes.len())?;
+        write!(f, "\n  rows of screens:")?;
+        BYTES.iter().zip(self.bytes).try_for_each(|(name, count)| write!(f, " {count} {name}"))
     }
 }

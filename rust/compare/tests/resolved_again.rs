@@ -1,8 +1,9 @@
-//! A resolved text reads as its source did, but for names and places, and resolves to itself.
+//! A resolved text reads as its source did, but for names and places, resolves to itself, and is shown as its source is.
 
+use compare::answers::answers;
 use compare::random::Random;
 use compare::sources::source;
-use reference::{column, resolve, Row, LONGEST};
+use reference::{column, resolve, show, Row, LONGEST};
 
 const ROWS: usize = 70_000;
 
@@ -27,4 +28,20 @@ fn resolved_again() {
         resolved += 1;
     }
     assert!(resolved > 500, "only {resolved} sources were accepted");
+}
+
+#[test]
+fn shown_again() {
+    let mut hidden_or_grey = 0;
+    for seed in 0..3_000 {
+        let mut random = Random::new(seed);
+        let source = source(&mut random);
+        let Ok((reading, text)) = resolve(&source, ROWS, LONGEST) else { continue };
+        let answers = answers(reading.question_numbers(), &mut random);
+        let first = show(&source, &answers, ROWS, ROWS).map(|(_, bytes)| bytes);
+        let second = show(text.as_bytes(), &answers, ROWS, ROWS).map(|(_, bytes)| bytes);
+        assert_eq!(second, first, "seed {seed}, answers {answers:?}");
+        hidden_or_grey += first.map_or(0, |bytes| bytes.iter().filter(|&&byte| byte != 0).count());
+    }
+    assert!(hidden_or_grey > 500, "only {hidden_or_grey} items were hidden or grey");
 }

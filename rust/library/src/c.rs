@@ -14,6 +14,18 @@ extern "C" {
         answer: *mut u64,
         answer_len: usize,
     );
+    fn vfr_show(
+        src: *const u8,
+        src_len: usize,
+        answers: *const u64,
+        answers_len: usize,
+        table: *mut u64,
+        table_len: usize,
+        out: *mut u8,
+        out_len: usize,
+        answer: *mut u64,
+        answer_len: usize,
+    );
     fn vfr_token(
         src: *const u8,
         src_len: usize,
@@ -46,6 +58,26 @@ pub fn resolve_into(source: &[u8], table: &mut [u64], out: &mut [u8], answer: &m
         vfr_resolve(
             source.as_ptr(),
             source.len(),
+            table.as_mut_ptr(),
+            table.len(),
+            out.as_mut_ptr(),
+            out.len(),
+            answer.as_mut_ptr(),
+            answer.len(),
+        )
+    }
+}
+
+/// Reads a source into a table and writes a byte for each row, by the answers to its questions (two numbers each, a
+/// question's number and its value); every number of the answer is written, 0 past the layout.
+pub fn show_into(source: &[u8], answers: &[u64], table: &mut [u64], out: &mut [u8], answer: &mut [u64]) {
+    // As above.
+    unsafe {
+        vfr_show(
+            source.as_ptr(),
+            source.len(),
+            answers.as_ptr(),
+            answers.len(),
             table.as_mut_ptr(),
             table.len(),
             out.as_mut_ptr(),

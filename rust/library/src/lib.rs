@@ -2,7 +2,7 @@
 
 mod c;
 
-pub use c::{quick_check, read_into, resolve_into, token_into};
+pub use c::{quick_check, read_into, resolve_into, show_into, token_into};
 
 /// How many numbers the layout of an answer has.
 pub const ANSWER: usize = 7;
@@ -68,6 +68,14 @@ pub fn read(source: &[u8], table: &mut [u64]) -> Answer {
 pub fn resolve(source: &[u8], table: &mut [u64], out: &mut [u8]) -> Answer {
     let mut numbers = [u64::MAX; ANSWER];
     resolve_into(source, table, out, &mut numbers);
+    Answer::of(numbers)
+}
+
+/// Reads a source into a lent table and writes a byte for each row to a lent output: 1 for an item that the answers hide
+/// plus 2 for one that they make grey. Answers are two numbers each, a question's number and its value.
+pub fn show(source: &[u8], answers: &[u64], table: &mut [u64], out: &mut [u8]) -> Answer {
+    let mut numbers = [u64::MAX; ANSWER];
+    show_into(source, answers, table, out, &mut numbers);
     Answer::of(numbers)
 }
 

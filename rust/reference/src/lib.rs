@@ -1,6 +1,6 @@
-//! A plain reader, resolver and quick check for VFR sources, written from document 01 ("VFR sources to rows and
-//! resolved text", with the readings of docs/DECISIONS.md) and document 02's W-201, and not from the library. The library
-//! is compared with it.
+//! A plain reader, resolver, quick check and screen for VFR sources, written from document 01 ("VFR sources to rows and
+//! resolved text", with the readings of docs/DECISIONS.md) and document 02's W-201 and W-202, and not from the library.
+//! The library is compared with it.
 
 #![forbid(unsafe_code)]
 
@@ -9,7 +9,10 @@ mod parser;
 mod position;
 mod record;
 mod row;
+mod rules;
+mod show;
 mod text;
+mod value;
 mod walk;
 
 pub use lexer::{Kind, Lexer, Token};
@@ -24,13 +27,20 @@ pub const LONGEST: usize = 65_536;
 pub const QUICK_REFUSALS: &[u64] = &[1, 2, 3, 4, 5];
 
 /// The refusals that reading gives.
-pub const READ_REFUSALS: &[u64] = &[1, 2, 3, 4, 5, 6, 7, 8, 9, 10, 11, 12];
+pub const READ_REFUSALS: &[u64] = &[1, 2, 3, 4, 5, 6, 7, 8, 9, 10, 11, 12, CIRCLE_REFUSAL];
+
+/// The refusal of a rule that reaches itself through references.
+pub const CIRCLE_REFUSAL: u64 = 14;
 
 /// The refusal that resolving gives besides those of reading.
 pub const TEXT_REFUSAL: u64 = 13;
 
-/// The refusals whose place is always 0, so that they have no line and column.
-pub const PLACELESS_REFUSALS: &[u64] = &[1, 6, 13];
+/// The refusals that showing gives besides those of reading: an answer at fault, and fewer bytes lent than rows.
+pub const ANSWERS_REFUSAL: u64 = 15;
+pub const BYTES_REFUSAL: u64 = 30;
+
+/// The refusals whose place is always 0 or not in the source, so that they have no line and column.
+pub const PLACELESS_REFUSALS: &[u64] = &[1, 6, TEXT_REFUSAL, ANSWERS_REFUSAL, BYTES_REFUSAL];
 
 /// A refusal's number and place, the place's line and column, and the need that 6 (rows) and 13 (bytes) tell.
 #[derive(Clone, Copy, PartialEq, Eq, Debug)]
@@ -67,6 +77,13 @@ pub struct Reading {
     pub free: u64,
 }
 
+impl Reading {
+    /// The numbers that questions bear, in source order.
+    pub fn question_numbers(&self) -> Vec<u64> {
+        self.rows.iter().filter(|row| show::is_question(row)).map(|row| row[column::NUMBER]).collect()
+    }
+}
+
 /// The quick check's events: none is of interest.
 struct Unheard;
 
@@ -92,7 +109,7 @@ pub fn read(source: &[u8], rows_lent: usize) -> Result<Reading, Refusal> {
     read_in_order(source, rows_lent).map_err(|refusal| refusal.located(source))
 }
 
-/// Stages 1 to 12, without line and column of a refusal.
+/// Stages 1 to 12 and 14, without line and column of a refusal.
 fn read_in_order(source: &[u8], rows_lent: usize) -> Result<Reading, Refusal> {
     check_length(source)?;
     let mut record = record::Record::new();
@@ -102,6 +119,7 @@ fn read_in_order(source: &[u8], rows_lent: usize) -> Result<Reading, Refusal> {
     }
     record.check()?;
     let free = record.finish();
+    record.check_circles()?;
     Ok(Reading { rows: record.rows, free })
 }
 
@@ -113,4 +131,23 @@ pub fn resolve(source: &[u8], rows_lent: usize, bytes_lent: usize) -> Result<(Re
         return Err(Refusal::short(TEXT_REFUSAL, text.len()));
     }
     Ok((reading, text))
+}
+
+/// Reads a source and says of each row whether it is an item that these answers hide (1) or make grey (2), with this many
+/// rows and bytes lent. Answers are two numbers each, a question's number and its value.
+pub fn show(
+    source: &[u8],
+    answers: &[u64],
+    rows_lent: usize,
+    bytes_lent: usize,
+) -> Result<(Reading, Vec<u8>), Refusal> {
+    let reading = read(source, rows_lent)?;
+    if let Some(place) = show::wrong_answer(&reading.question_numbers(), answers) {
+        return Err(Refusal::new(ANSWERS_REFUSAL, place));
+    }
+    if bytes_lent < reading.rows.len() {
+        return Err(Refusal::new(BYTES_REFUSAL, 0));
+    }
+    let bytes = show::screen(source, &reading.rows, answers);
+    Ok((reading, bytes))
 }

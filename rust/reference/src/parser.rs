@@ -588,7 +588,7 @@ impl<'a, E: Events<'a>> Parser<'a, '_, E> {
 }
 
 /// The code of a binary operator.
-fn binary(kind: Kind) -> Option<u64> {
+pub fn binary(kind: Kind) -> Option<u64> {
     Some(match kind {
         Kind::Or => code::OR,
         Kind::And => code::AND,

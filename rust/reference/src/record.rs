@@ -1,8 +1,9 @@
-//! Rows as they come, and stages 7 to 12 over what the parser tells.
+//! Rows as they come, and stages 7 to 12 and 14 over what the parser tells.
 
 use crate::parser::{At, Events, Head, Target};
 use crate::row::{column, Row};
-use crate::Refusal;
+use crate::rules::{step, Graph, Step};
+use crate::{Refusal, CIRCLE_REFUSAL};
 use std::collections::{HashMap, HashSet};
 use std::hash::{BuildHasherDefault, Hasher};
 
@@ -65,7 +66,7 @@ struct Faults {
     choice: Option<usize>,
 }
 
-/// All that stages 6 to 12 need of a source.
+/// All that stages 6 to 14 need of a source.
 pub struct Record<'a> {
     pub rows: Vec<Row>,
     faults: Faults,
@@ -149,6 +150,17 @@ impl<'a> Record<'a> {
             }
         }
         65_535 - self.used.count()
+    }
+
+    /// Stage 14, once the rows are finished: the name in the first `ruleref` that is a step of a circle.
+    pub fn check_circles(&self) -> Result<(), Refusal> {
+        let components = Graph::of(&self.rows).components();
+        let on_circle = |Step { from, to }: Step| components[from] == components[to];
+        let in_circle = |reference: &&Reference| step(&self.rows, reference.row).is_some_and(on_circle);
+        match self.references.iter().find(in_circle) {
+            Some(reference) => Err(Refusal::new(CIRCLE_REFUSAL, reference.place)),
+            None => Ok(()),
+        }
     }
 }
 

@@ -15,8 +15,8 @@ room-requires c κs = search needs
 clear-requires : tie.Need-clear-requires
 clear-requires c κs = search needs
 
-clear-requires-2 : tie.Need-clear-requires-2
-clear-requires-2 c κs = search needs
+clear-bytes-requires : tie.Need-clear-bytes-requires
+clear-bytes-requires c κs = search needs
 
 same-length : tie.Need-same-length
 same-length c = search needs
@@ -30,11 +30,11 @@ returns c =
     let room = c .before .before .before .before .before .before .before .before .before .room in
     let if1 = c .before .before .before .before .before .before .before .before .if1 in
     let clear = c .before .before .before .before .before .before .clear in
-    let clear2 = c .before .before .clear2 in
-    too-long (put-text .ensures) (search needs) (rw (room .ensures) at (if1 .taken)) (clear .ensures) (clear2 .ensures)
+    let clear-bytes = c .before .before .clear-bytes in
+    too-long (put-text .ensures) (search needs) (rw (room .ensures) at (if1 .taken)) (clear .ensures) (clear-bytes .ensures)
 
-clear-requires-3 : tie.Need-clear-requires-3
-clear-requires-3 c κs = search needs
+clear-bytes-requires-2 : tie.Need-clear-bytes-requires-2
+clear-bytes-requires-2 c κs = search needs
 
 same-length-3 : tie.Need-same-length-3
 same-length-3 c = search needs
@@ -47,8 +47,8 @@ returns-2 c =
     let put-text = c .before .before .before .before .before .before .before .before .put-text in
     let room = c .before .before .before .before .before .room in
     let if1 = c .before .before .before .before .if1 in
-    let clear3 = c .before .before .clear3 in
-    long-enough (put-text .ensures) (search needs) (rw (room .ensures) at (if1 .left)) refl (clear3 .ensures)
+    let clear-bytes = c .before .before .clear-bytes2 in
+    long-enough (put-text .ensures) (search needs) (rw (room .ensures) at (if1 .left)) refl (clear-bytes .ensures)
 
 pub print-rows-spec : {M : Type 1} → statement M
 print-rows-spec =
@@ -57,11 +57,11 @@ print-rows-spec =
     put-text-requires
     room-requires
     clear-requires
-    clear-requires-2
+    clear-bytes-requires
     same-length
     same-length-2
     returns
-    clear-requires-3
+    clear-bytes-requires-2
     same-length-3
     same-length-4
     returns-2)

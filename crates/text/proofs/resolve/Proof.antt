@@ -20,14 +20,14 @@ print-rows-requires c κs = search needs
 enum-known-answer-2 : tie.Need-enum-known-answer-2
 enum-known-answer-2 c = search needs
 
-clear-requires : tie.Need-clear-requires
-clear-requires c κs = search needs
+clear-bytes-requires : tie.Need-clear-bytes-requires
+clear-bytes-requires c κs = search needs
 
 enum-known-answer-3 : tie.Need-enum-known-answer-3
 enum-known-answer-3 c = search needs
 
-clear-requires-2 : tie.Need-clear-requires-2
-clear-requires-2 c κs = search needs
+clear-bytes-requires-2 : tie.Need-clear-bytes-requires-2
+clear-bytes-requires-2 c κs = search needs
 
 same-length : tie.Need-same-length
 same-length c = search needs
@@ -56,7 +56,7 @@ returns-2 c =
     let args = c .before .before .before .before .before .before .before .before .before .before .before .before .before .before .args in
     let reading = c .before .before .before .before .before .before .before .before .before .read in
     let answer2 = c .before .before .before .before .before .answer2 in
-    let clear = c .before .before .clear in
+    let clear = c .before .before .clear-bytes in
     unresolved-refused (args .src .now) _ (args .out .now) (ap read.told (sym (answer2 .given .1)) ∙ reading .ensures .0) refl (reading .ensures .1) (clear .ensures)
 
 same-length-5 : tie.Need-same-length-5
@@ -70,7 +70,7 @@ returns-3 c =
     let args = c .before .before .before .before .before .before .before .before .before .before .before .before .before .before .args in
     let reading = c .before .before .before .before .before .before .before .before .before .read in
     let answer3 = c .before .before .before .before .before .answer3 in
-    let clear2 = c .before .before .clear2 in
+    let clear2 = c .before .before .clear-bytes2 in
     unresolved-short (args .src .now) _ (args .out .now) (ap read.told (sym (answer3 .given .1)) ∙ reading .ensures .0) refl (reading .ensures .1) (clear2 .ensures)
 
 pub resolve-spec : {M : Type 1} → statement M
@@ -81,9 +81,9 @@ resolve-spec =
     enum-known-answer
     print-rows-requires
     enum-known-answer-2
-    clear-requires
+    clear-bytes-requires
     enum-known-answer-3
-    clear-requires-2
+    clear-bytes-requires-2
     same-length
     same-length-2
     returns

@@ -1,6 +1,7 @@
-//! `given FILE`: the reference and the library, each against given answers, whole tables, whole outputs, quick checks and
-//! tokens with their lines and columns. The file has a case on each line (`tests/cases/given.jsonl`); zeros at the end of a
-//! table or output are left off, and long sources come without tokens.
+//! `given FILE..`: the reference and the library, each against given answers, whole tables, whole outputs, quick checks and
+//! tokens with their lines and columns. A file has a case on each line: of reading and resolving
+//! (`tests/cases/given.jsonl`) or of showing (`tests/cases/given-show.jsonl`). Zeros at the end of a table or output are
+//! left off, and long sources come without tokens.
 
 #![forbid(unsafe_code)]
 
@@ -8,7 +9,8 @@ use compare::check;
 use compare::json::{base64, Json};
 use compare::outcomes::{differ, Outcomes};
 use library::ANSWER;
-use reference::{Kind, Position, Reading, Refusal, Walk, ROW};
+use reference::{Kind, Position, Refusal, Walk, ROW};
+use std::ffi::OsStr;
 use std::process::ExitCode;
 use std::{env, fs};
 
@@ -33,11 +35,22 @@ impl Told {
     }
 }
 
+/// A source and what is lent for it, and what is asked of it.
 struct Case {
     name: String,
     source: Vec<u8>,
     table_len: usize,
     out_len: usize,
+    asked: Asked,
+}
+
+enum Asked {
+    Reading(Reading),
+    Showing { answers: Vec<u64>, show: Told },
+}
+
+/// What the calls that take a source alone tell of it.
+struct Reading {
     quick: u64,
     tokens: Option<Vec<Token>>,
     read: Told,
@@ -48,14 +61,20 @@ fn numbers(json: &Json) -> Vec<u64> {
     json.list().iter().map(Json::number).collect()
 }
 
-/// A call's part of a case; only resolving has bytes and an output.
-fn told(call: &Json, is_resolving: bool) -> Told {
+/// An output's bytes: a text in base64, or one number a byte.
+fn bytes(output: &Json) -> Vec<u8> {
+    match output {
+        Json::Text(text) => base64(text).expect("base64"),
+        list => numbers(list).into_iter().map(|number| u8::try_from(number).expect("a byte")).collect(),
+    }
+}
+
+/// A call's part of a case; only resolving counts bytes, and reading has no output.
+fn told(call: &Json) -> Told {
     let number = |name: &str| call.field(name).number();
     let [number_, place, rows, free, line, column] = ["number", "place", "rows", "free", "line", "column"].map(number);
-    let (written, output) = match is_resolving {
-        true => (number("bytes"), base64(call.field("output").text()).expect("base64")),
-        false => (0, Vec::new()),
-    };
+    let written = call.find("bytes").map_or(0, Json::number);
+    let output = call.find("output").map_or(Vec::new(), bytes);
     Told { answer: [number_, place, rows, free, line, column, written], table: numbers(call.field("table")), output }
 }
 
@@ -68,22 +87,30 @@ fn token(json: &Json) -> Token {
     }
 }
 
-fn case(line: &str) -> Case {
-    let json = Json::parse(line).expect("a JSON object on each line");
-    let (table_len, out_len) =
-        (json.field("table_numbers").number() as usize, json.field("output_bytes").number() as usize);
-    Case {
-        name: format!("case {}", json.field("id").number()),
-        source: base64(json.field("source").text()).expect("base64"),
-        table_len,
-        out_len,
+fn asked(json: &Json, table_len: usize, out_len: usize) -> Asked {
+    if let Some(show) = json.find("show") {
+        return Asked::Showing { answers: numbers(json.field("answers")), show: told(show).filled(table_len, out_len) };
+    }
+    Asked::Reading(Reading {
         quick: json.field("quick").number(),
         tokens: match json.field("tokens") {
             Json::Null => None,
             tokens => Some(tokens.list().iter().map(token).collect()),
         },
-        read: told(json.field("read"), false).filled(table_len, 0),
-        resolve: told(json.field("resolve"), true).filled(table_len, out_len),
+        read: told(json.field("read")).filled(table_len, 0),
+        resolve: told(json.field("resolve")).filled(table_len, out_len),
+    })
+}
+
+fn case(line: &str) -> Case {
+    let json = Json::parse(line).expect("a JSON object on each line");
+    let [table_len, out_len] = ["table_numbers", "output_bytes"].map(|name| json.field(name).number() as usize);
+    Case {
+        name: format!("case {}", json.field("id").number()),
+        source: base64(json.field("source").text()).expect("base64"),
+        table_len,
+        out_len,
+        asked: asked(&json, table_len, out_len),
     }
 }
 
@@ -109,19 +136,42 @@ fn sort(class: u64) -> String {
 
 // ---- What the reference tells
 
-fn reference_told(answer: Result<(Reading, String), Refusal>) -> Told {
+/// What it writes besides rows, and whether that is counted.
+struct Written {
+    output: Vec<u8>,
+    is_counted: bool,
+}
+
+fn reference_told(answer: Result<(reference::Reading, Written), Refusal>) -> Told {
     match answer {
-        Ok((Reading { rows, free }, text)) => Told {
-            answer: [0, 0, rows.len() as u64, free, 0, 0, text.len() as u64],
-            table: rows.into_flattened(),
-            output: text.into_bytes(),
-        },
+        Ok((reading, Written { output, is_counted })) => {
+            let written = if is_counted { output.len() as u64 } else { 0 };
+            let rows = reading.rows.len() as u64;
+            Told { answer: [0, 0, rows, reading.free, 0, 0, written], table: reading.rows.into_flattened(), output }
+        }
         Err(Refusal { number, place, position: Position { line, column }, need }) => Told {
             answer: [number, place as u64, need as u64, 0, line, column, 0],
             table: Vec::new(),
             output: Vec::new(),
         },
     }
+}
+
+fn reference_read(source: &[u8], table_len: usize) -> Told {
+    let nothing = |reading| (reading, Written { output: Vec::new(), is_counted: false });
+    reference_told(reference::read(source, table_len / ROW).map(nothing)).filled(table_len, 0)
+}
+
+fn reference_resolve(source: &[u8], table_len: usize, out_len: usize) -> Told {
+    let resolved = reference::resolve(source, table_len / ROW, out_len);
+    let text = |(reading, text): (_, String)| (reading, Written { output: text.into_bytes(), is_counted: true });
+    reference_told(resolved.map(text)).filled(table_len, out_len)
+}
+
+fn reference_show(source: &[u8], answers: &[u64], table_len: usize, out_len: usize) -> Told {
+    let shown = reference::show(source, answers, table_len / ROW, out_len);
+    let bytes = |(reading, output)| (reading, Written { output, is_counted: false });
+    reference_told(shown.map(bytes)).filled(table_len, out_len)
 }
 
 fn reference_tokens(source: &[u8]) -> Vec<Token> {
@@ -138,16 +188,20 @@ fn reference_tokens(source: &[u8]) -> Vec<Token> {
 }
 
 fn reference_case(case: &Case, outcomes: &mut Outcomes) {
-    let Case { name, source, table_len, out_len, .. } = case;
-    let rows = table_len / ROW;
+    let Case { name, source, table_len, out_len, asked } = case;
     let name = format!("{name}, reference");
-    let read = reference_told(reference::read(source, rows).map(|reading| (reading, String::new())));
-    let resolved = reference_told(reference::resolve(source, rows, *out_len));
-    outcomes.note(&name, differ("read", &read.filled(*table_len, 0), &case.read));
-    outcomes.note(&name, differ("resolve", &resolved.filled(*table_len, *out_len), &case.resolve));
-    outcomes.note(&name, differ("quick check", reference::quick_check(source), case.quick));
-    if let Some(tokens) = &case.tokens {
-        outcomes.note(&name, differ("tokens", &reference_tokens(source), tokens));
+    match asked {
+        Asked::Showing { answers, show } => {
+            outcomes.note(&name, differ("show", &reference_show(source, answers, *table_len, *out_len), show));
+        }
+        Asked::Reading(Reading { quick, tokens, read, resolve }) => {
+            outcomes.note(&name, differ("read", &reference_read(source, *table_len), read));
+            outcomes.note(&name, differ("resolve", &reference_resolve(source, *table_len, *out_len), resolve));
+            outcomes.note(&name, differ("quick check", reference::quick_check(source), *quick));
+            if let Some(tokens) = tokens {
+                outcomes.note(&name, differ("tokens", &reference_tokens(source), tokens));
+            }
+        }
     }
 }
 
@@ -165,6 +219,12 @@ fn library_resolve(source: &[u8], table_len: usize, out_len: usize) -> Told {
     Told { answer, table, output }
 }
 
+fn library_show(source: &[u8], answers: &[u64], table_len: usize, out_len: usize) -> Told {
+    let (mut table, mut output) = (vec![u64::MAX; table_len], vec![u8::MAX; out_len]);
+    let answer = library::show(source, answers, &mut table, &mut output).numbers();
+    Told { answer, table, output }
+}
+
 fn library_tokens(source: &[u8]) -> Vec<Token> {
     let told = |token: library::Token| (sort(token.class), token.start, token.end, token.line, token.column);
     library::walk(source).map(told).collect()
@@ -172,34 +232,50 @@ fn library_tokens(source: &[u8]) -> Vec<Token> {
 
 /// Where no tokens are given, those of the reference are taken.
 fn library_case(case: &Case, outcomes: &mut Outcomes) {
-    let Case { name, source, table_len, out_len, .. } = case;
+    let Case { name, source, table_len, out_len, asked } = case;
     let name = format!("{name}, library");
-    outcomes.note(&name, differ("read", &library_read(source, *table_len), &case.read));
-    outcomes.note(&name, differ("resolve", &library_resolve(source, *table_len, *out_len), &case.resolve));
-    outcomes.note(&name, differ("quick check", library::quick_check(source), case.quick));
-    if let Some(tokens) = &case.tokens {
-        outcomes.note(&name, differ("tokens", &library_tokens(source), tokens));
+    match asked {
+        Asked::Showing { answers, show } => {
+            outcomes.note(&name, differ("show", &library_show(source, answers, *table_len, *out_len), show));
+        }
+        Asked::Reading(Reading { quick, tokens, read, resolve }) => {
+            outcomes.note(&name, differ("read", &library_read(source, *table_len), read));
+            outcomes.note(&name, differ("resolve", &library_resolve(source, *table_len, *out_len), resolve));
+            outcomes.note(&name, differ("quick check", library::quick_check(source), *quick));
+            if let Some(tokens) = tokens {
+                outcomes.note(&name, differ("tokens", &library_tokens(source), tokens));
+            }
+            outcomes.note(&name, check::walk(source).err());
+        }
     }
-    outcomes.note(&name, check::walk(source).err());
 }
 
-fn main() -> ExitCode {
-    let Some(file) = env::args_os().nth(1) else {
-        eprintln!("given FILE");
-        return ExitCode::from(2);
-    };
-    let text = match fs::read_to_string(&file) {
-        Ok(text) => text,
-        Err(fault) => {
-            eprintln!("{}: {fault}", file.display());
-            return ExitCode::from(2);
-        }
-    };
+/// Checks all cases of a file; without one nothing has passed.
+fn run(file: &OsStr) -> std::io::Result<ExitCode> {
     let mut outcomes = Outcomes::default();
-    for line in text.lines() {
+    for line in fs::read_to_string(file)?.lines() {
         let case = case(line);
         reference_case(&case, &mut outcomes);
         library_case(&case, &mut outcomes);
     }
-    outcomes.exit("given cases")
+    Ok(outcomes.exit(&format!("given cases of {}", file.display())))
+}
+
+fn main() -> ExitCode {
+    let files: Vec<_> = env::args_os().skip(1).collect();
+    if files.is_empty() {
+        eprintln!("given FILE..");
+        return ExitCode::from(2);
+    }
+    for file in files {
+        match run(&file) {
+            Ok(ExitCode::SUCCESS) => {}
+            Ok(failure) => return failure,
+            Err(fault) => {
+                eprintln!("{}: {fault}", file.display());
+                return ExitCode::from(2);
+            }
+        }
+    }
+    ExitCode::SUCCESS
 }

@@ -1,22 +1,15 @@
 -- Numbers in lent memory, index by index.
 -- Assumes nothing.
-use Prim.Native.Nat.{ℕ, zero, suc, _+_, _≤_, _<_}
-use mathlib.Core.Path.{_≡_, refl, sym, _∙_}
+use Prim.Native.Nat.{ℕ, _+_, _≤_, _<_}
+use mathlib.Core.Path.{_≡_, sym, _∙_}
 use mathlib.Core.Logic.{_⊎_, inl, inr, _≢_}
-use mathlib.Core.List.{List, [], _∷_, _++_}
+use mathlib.Core.List.{List, _++_}
 use native.Mathlib.Nat.{eq-or-lt-of-le}
 use native.Mathlib.Omega.{arith}
 use lib.ListN.{length, getD, set, replicate, length-append, length-take, length-replicate}
 use lib.Seq.{ext-getD, getD-take, getD-set-same, getD-set-other}
+use Rattle.rows.proofs.CellLaws.{getD-padded}
 use Rattle.face.specs.Numbers.{inLent}
-
--- zeros behind a list change no number of it
-getD-padded : (l : List ℕ) (m i : ℕ) → getD (l ++ replicate m zero) i 0 ≡ getD l i 0
-getD-padded [] zero i = refl
-getD-padded [] (suc m) zero = refl
-getD-padded [] (suc m) (suc i) = getD-padded [] m i
-getD-padded (x ∷ l) m zero = refl
-getD-padded (x ∷ l) m (suc i) = getD-padded l m i
 
 -- the first k numbers of t are those of l, with zeros behind
 abbrev pub Written : List ℕ → List ℕ → ℕ → Type 0

@@ -21,6 +21,12 @@ getD-zeros zero i = refl
 getD-zeros (suc n) zero = refl
 getD-zeros (suc n) (suc i) = getD-zeros n i
 
+-- zeros behind a list change no number of it
+pub getD-padded : (l : List ℕ) (m i : ℕ) → getD (l ++ replicate m 0) i 0 ≡ getD l i 0
+getD-padded [] m i = getD-zeros m i
+getD-padded (x ∷ l) m zero = refl
+getD-padded (x ∷ l) m (suc i) = getD-padded l m i
+
 module _ (t : List ℕ) (n c : ℕ) where
   -- ---- a cell inside, one of no row, and one past its row
 

@@ -3,3 +3,5 @@ pub mod AnswerLaws
 pub mod FaultLaws
 pub mod RowLaws
 pub mod ShowLaws
+-- What a call does.
+pub mod Demands

@@ -81,7 +81,9 @@ module _ (answers t : List ℕ) (count free : ℕ) (o : List ℕ) where
       bytes-by e f g h l = rw (f, e, h, g, length-take-le count o l)
 
       -- the bytes take the place of the first `count`, and the rest is cleared
-      bytes-cleared : (bytes : List ℕ) → length bytes ≡ count → count ≤ length o → cleared (bytes ++ drop count o) count ≡ bytes ++ replicate (length o - count) 0
+      bytes-cleared :
+          (bytes : List ℕ) → length bytes ≡ count → count ≤ length o
+          → cleared (bytes ++ drop count o) count ≡ bytes ++ replicate (length o - count) 0
       unfolding cleared
       bytes-cleared bytes e l =
           let same : length (bytes ++ drop count o) ≡ length o = length-append bytes (drop count o) ∙ rw (length-drop count o, e) (omega arith) in

@@ -4,20 +4,20 @@ use Prim.Native.Nat.{ℕ, _-_, _*_, _<_}
 use native.Mathlib.Omega.{arith}
 use mathlib.Core.Path.{_≡_, refl, sym, ap, _∙_}
 use mathlib.Core.Logic.{_≢_}
-use mathlib.Core.Bool.{Bool, true, false, cond}
+use mathlib.Core.Bool.{Bool, false}
 use mathlib.Core.List.{List, _++_}
 use lib.Dec.{eqb}
 use lib.ListN.{length, replicate}
-use borrow.Author.Tests.{eq-eqb, ne-eqb, eqb-true}
+use borrow.Author.Tests.{ne-eqb, eqb-true}
 use Rattle.lexemes.proofs.Lists.{either}
 use Rattle.numbers.specs.Numbers.{used}
 use Rattle.rows.specs.Codes.{isQuestion}
 use Rattle.rows.specs.Table.{cleared}
 use Rattle.rows.proofs.ClearLaws.{cleared-whole}
 use Rattle.ll1.specs.Trees.{Trees}
-use Rattle.answers.specs.Answer.{Answer, accepts, refuses}
+use Rattle.answers.specs.Answer.{Answer, accepts}
 use Rattle.answers.specs.WholeAnswer.{readAnswer, rowsOf, readTable}
-use Rattle.answers.specs.Demand3.{Sound, PassesAll}
+use Rattle.answers.specs.Demand3.{PassesAll}
 use Rattle.answers.proofs.Answers.{passes-sound, passes-derived, passes-rows}
 use Rattle.answers.proofs.Demand3.{accepts-passing}
 use Rattle.replies.specs.Replies.{Reply, positionOf, accepting, readReplied, readReply}
@@ -26,8 +26,9 @@ use Rattle.saved_answers.specs.Good.{goodAnswers}
 use Rattle.saved_answers.proofs.GoodTheorems.{all-ascend}
 use Rattle.screen.specs.Screen.{sourceScreen}
 use Rattle.screen.specs.Bytes.{bytes}
+use Rattle.question_kinds.proofs.Marks.{kinds-held}
 use Rattle.table_screen.specs.Questions.{mapRead}
-use Rattle.table_screen.specs.SourceScreen.{borne, sourceRows, screenBytes}
+use Rattle.table_screen.specs.SourceScreen.{borne, screenBytes}
 use Rattle.table_screen.proofs.SourceScreen.{borne-used, bytes-count, source-screen}
 use Rattle.show.specs.Show.{shownBytes, goodFor, shownFor, showAnswer, showReply, showTable, showOutput}
 use Rattle.show.specs.ShownRows.{unplaced, goodIn, bytesIn, rowsAnswer, rowsTable, rowsOutput}
@@ -48,6 +49,11 @@ unplaced-replied s answers good m rows free (answer-at-fault z e) = refl
 unplaced-replied s answers good m rows free (fewer-bytes z e l) = refl
 unplaced-replied s answers good m rows free (rows-shown z e l) = refl
 
+-- the bytes are those of its derivation
+pub passes-bytes : (s answers : List ℕ) {n : ℕ} {tree : Trees} → PassesAll s n tree → shownBytes s answers ≡ screenBytes s tree answers
+unfolding shownBytes
+passes-bytes s answers p = rw (passes-derived p, shownBytes)
+
 module _ (s answers : List ℕ) (n : ℕ) (accepted : readAnswer s n .number ≡ 0) where
   abbrev t : List ℕ
   t = readTable s n
@@ -63,8 +69,7 @@ module _ (s answers : List ℕ) (n : ℕ) (accepted : readAnswer s n .number ≡
   passes = accepts-passing s n .0 accepted .1
 
   bytes-are : shownBytes s answers ≡ screenBytes s tree answers
-  unfolding shownBytes
-  bytes-are = rw (passes-derived passes, shownBytes)
+  bytes-are = passes-bytes s answers passes
 
   -- "one byte a row"
   pub bytes-many : length (shownBytes s answers) ≡ count
@@ -73,6 +78,10 @@ module _ (s answers : List ℕ) (n : ℕ) (accepted : readAnswer s n .number ≡
   -- the map of the rows' questions tells what a question of the source bears
   questions-same : used (mapRead s n isQuestion) ≡ borne (rowsOf s)
   questions-same = (λ i k. borne-used s n accepted tree (passes-sound passes) k i) ∙ ap borne (sym (passes-rows passes))
+
+  -- "a number no question bears" is 0, among others
+  pub none-bears-0 : borne (rowsOf s) 0 ≡ false
+  none-bears-0 = ap (λ (b : ℕ → Bool). b 0) (sym questions-same) ∙ kinds-held isQuestion (readTable s n) (readAnswer s n .rows) 0
 
   pub good-same : goodIn answers t count ≡ goodFor s answers
   unfolding goodIn goodFor
@@ -141,7 +150,8 @@ shown-accepted s answers n o e f l p =
 
 -- ---- refused by reading
 
-module _ (s answers : List ℕ) (n : ℕ) (o : List ℕ) {t o′ : List ℕ} {r : Reply} (e : r ≡ readReply s n) (f : t ≡ readTable s n) (g : o′ ≡ cleared o 0) where
+module _ (s answers : List ℕ) (n : ℕ) (o : List ℕ) {t o′ : List ℕ} {r : Reply}
+    (e : r ≡ readReply s n) (f : t ≡ readTable s n) (g : o′ ≡ cleared o 0) where
   pub unshown : readAnswer s n .number ≢ 0 → Shows s answers n (length o) r t o′
   unfolding readTable showAnswer showTable showOutput
   unshown h =

@@ -1,5 +1,4 @@
 // Which items of a source are hidden or grey, by saved answers (document 02, W-202).
-use numbers::Map;
 use question_kinds::mark_rows;
 use read::Answer;
 use rows::clear_bytes;

@@ -38,7 +38,8 @@ returns c =
     let refuse = c .before .before .before .before .refuse in
     let if1 = c .before .before .before .before .before .before .before in
     let marked = if1 .before .before .before in
-    let good = good-counted _ _ _ (marked .before .before .before .before .before .empty3 .ensures) (marked .mark-rows .ensures .1 .1) (if1 .before .good-answers .ensures) in
+    let emptied = marked .before .before .before .before .before in
+    let good = good-counted _ _ _ (emptied .empty3 .ensures) (marked .mark-rows .ensures .1 .1) (if1 .before .good-answers .ensures) in
     at-fault _ _ _ _ _ good (if1 .if1 .taken) (refuse .ensures .0) (refuse .ensures .1 .0) (refuse .ensures .1 .1)
 
 refuse-requires-2 : tie.Need-refuse-requires-2
@@ -56,7 +57,8 @@ returns-2 c =
     let if2 = c .before .before .before .before .before .before .before in
     let if1 = if2 .before in
     let marked = if1 .before .before .before in
-    let good = good-counted _ _ _ (marked .before .before .before .before .before .empty3 .ensures) (marked .mark-rows .ensures .1 .1) (if1 .before .good-answers .ensures) in
+    let emptied = marked .before .before .before .before .before in
+    let good = good-counted _ _ _ (emptied .empty3 .ensures) (marked .mark-rows .ensures .1 .1) (if1 .before .good-answers .ensures) in
     too-few _ _ _ _ _ good (if1 .if1 .left) (if2 .if2 .taken) (refuse2 .ensures .0) (refuse2 .ensures .1 .0) (refuse2 .ensures .1 .1)
 
 slice-relend-prefix-show-table : tie.Need-slice-relend-prefix-show-table

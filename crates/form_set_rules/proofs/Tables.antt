@@ -2,7 +2,7 @@
 -- Assumes nothing.
 use Prim.Native.Nat.{ℕ, _+_, _≤_, _<_}
 use native.Mathlib.Omega.{arith}
-use mathlib.Core.Path.{_≡_, sym, ap, _∙_}
+use mathlib.Core.Path.{_≡_, sym, _∙_}
 use mathlib.Core.List.{List, []}
 use borrow.Author.Tests.{eq-eqb}
 use lib.ListN.{length, getD}
@@ -10,7 +10,8 @@ use Rattle.rows.specs.Codes as code
 use Rattle.rows.specs.Columns as column
 use Rattle.rows.specs.Table.{rowAt, cellAt}
 use Rattle.rows.specs.Rows.{rowsFrom, laid}
-use Rattle.rows.proofs.RunLaws.{rows-flat, row-of-run}
+use Rattle.rows.proofs.RunLaws.{rows-flat}
+use Rattle.rows.proofs.LaidLaws.{row-laid}
 use Rattle.ll1.specs.Trees.{Trees}
 use Rattle.grammar.specs.Derivation.{Derives}
 use Rattle.grammar.specs.Source.{sourceTokens, numberAt}
@@ -48,9 +49,7 @@ module _ (s : List ℕ) (tree : Trees) where
     rows-start = rw (← finished-count s (drafts s tree)) (rows-flat (rows-whole s tree derives) _)
 
     row-at : (i : ℕ) → i < count → rowAt t i ≡ getD rows i []
-    row-at i h =
-        let e : 0 + i ≡ i = omega arith in
-        sym (rw e at (row-of-run t 0 count i h)) ∙ ap (λ (rs : List (List ℕ)). getD rs i []) rows-start
+    row-at i h = row-laid (rows-whole s tree derives) n i (rw (finished-count s (drafts s tree)) h)
 
     pub rules-laid : RuleRows t count 0 0 (sourceRules s tree)
     unfolding drafts

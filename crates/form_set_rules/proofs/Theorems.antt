@@ -34,9 +34,9 @@ use Rattle.formulas.proofs.Fitted.{fitted}
 use Rattle.laid.specs.Laid.{Stretch}
 use Rattle.meaning.specs.Meaning.{meaning}
 use Rattle.meaning.specs.References.{references}
-use Rattle.meaning.specs.Rules.{ruleAt, steps, RuleSet, Solves, OneSolution}
+use Rattle.meaning.specs.Rules.{ruleAt, steps, RuleSet, Solves}
 use Rattle.meaning.proofs.Steps.{steps-lead, steps-within}
-use Rattle.meaning.proofs.Theorems.{rules-solved, meaning-named}
+use Rattle.meaning.proofs.Theorems.{meaning-named}
 use Rattle.stored.specs.Stored.{room, valueAt}
 use Rattle.saved_answers.specs.Search.{questionValue}
 use Rattle.evaluate.specs.Machine.{ROOM}
@@ -178,10 +178,6 @@ module _ (s : List ℕ) (tree : Trees) (derives : Derives (sourceTokens s) tree)
     -- ---- and no step stands on a circle
 
     module _ (free : NoCircle (ruleSteps (rows s tree))) where
-      -- the rules are worth one value each, whatever the questions answer
-      pub rules-worth : (questions : ℕ → Scalar) → OneSolution (sourceRules s tree) questions
-      rules-worth questions = rules-solved (sourceRules s tree) rule-set (circles-same .0 free) questions
-
       -- The rules' values are found in any order that follows the steps, with whatever answers and maps of kinds, in whatever is lent for places and
       -- values.
       module _ (deep : NowhereTooDeep tree)

@@ -1,14 +1,13 @@
 -- The bytes that the passes give are those of the screen (document 02, W-202): for a table in which a source's statements are laid, and so for the
 -- table that reading leaves of an accepted source.
 -- Assumes nothing.
-use Prim.Native.Nat.{ℕ, zero, suc, _+_, _/_, _%_, _<_}
+use Prim.Native.Nat.{ℕ, zero, suc, _+_, _<_}
 use mathlib.Core.Path.{_≡_, refl, sym, ap, ap₂, _∙_}
 use mathlib.Core.Bool.{true, false, cond}
 use mathlib.Core.List.{List, _∷_, _++_}
 use mathlib.Core.Logic.{_↔_}
 use mathlib.Core.Option.{Option}
 use native.Mathlib.Omega.{arith}
-use lib.ListN.{getD}
 use Rattle.rows.specs.Codes.{member}
 use Rattle.rows.specs.Columns as column
 use Rattle.rows.specs.Table.{cellAt}
@@ -33,10 +32,10 @@ use Rattle.expression_rows.specs.Ends.{valueAfter}
 use Rattle.screen.specs.Kinds.{items, hiding, greying, isItem, hides, greys, byte}
 use Rattle.screen.specs.Screen.{Screen, screenOf, sourceScreen}
 use Rattle.screen.specs.Bytes.{bytes}
-use Rattle.screen.specs.Round.{size, Stands, ItemAt, SomeTrue, EachExpression}
+use Rattle.screen.specs.Round.{size, Stands, ItemAt, EachExpression}
 use Rattle.screen.proofs.RowLaws.{stands-cases, in-item}
 use Rattle.screen.proofs.ExpressionLaws.{each-within}
-use Rattle.screen.proofs.Theorems.{hidden-exactly, grey-exactly, byte-small, other-rows-zero, bytes-named, source-shallow}
+use Rattle.screen.proofs.Theorems.{bytes-named, source-shallow}
 use Rattle.screen_rows.specs.StatementRow.{StatementRow}
 use Rattle.screen_rows.specs.Passes.{ownFlags, flagsIn, allFlags, shown}
 use Rattle.screen_rows.proofs.LaidRows.{laid-size, stands-laid, item-laid}
@@ -142,28 +141,8 @@ module _ (s : List ℕ) (n : ℕ) (accepted : readAnswer s n .number ≡ 0) (tre
     abbrev questions : ℕ → Scalar
     questions = answered answers gotos checkboxes
 
-    abbrev pub bytesShown : List ℕ
-    bytesShown = shown answers gotos checkboxes rules (readTable s n) (readAnswer s n .rows)
-
-    pub screen-shown : bytesShown ≡ bytes questions values false false screenRead
+    pub screen-shown : shown answers gotos checkboxes rules (readTable s n) (readAnswer s n .rows) ≡ bytes questions values false false screenRead
     screen-shown =
         accepted-shown answers gotos checkboxes rules
         ∙ ap (λ (q : ℕ → Scalar). bytes q (valueAt rules) false false screenRead) (value-answered answers ascending gotos checkboxes)
         ∙ bytes-named questions questions (valueAt rules) values screenRead (λ k i e inner st. (λ m h. refl, valued k i e inner st)) false false
-
-    module _ (row : ℕ) where
-      -- "An item is hidden when some `suppressif` or `disableif` round it is TRUE": its byte has 1
-      pub item-hidden : ItemAt row screenRead → (getD bytesShown row 0 % 2 ≡ 1) ↔ SomeTrue questions values hides row screenRead
-      item-hidden i = rw screen-shown (hidden-exactly questions values screenRead i)
-
-      -- "grey when some `grayoutif` is": its byte has 2
-      pub item-grey : ItemAt row screenRead → (getD bytesShown row 0 / 2 ≡ 1) ↔ SomeTrue questions values greys row screenRead
-      item-grey i = rw screen-shown (grey-exactly questions values screenRead i)
-
-      -- and nothing else
-      pub item-small : ItemAt row screenRead → getD bytesShown row 0 < 4
-      item-small i = rw screen-shown (byte-small questions values screenRead i)
-
-      -- "0 for other rows"
-      pub other-row : (ItemAt row screenRead → ⊥) → getD bytesShown row 0 ≡ 0
-      other-row no-item = rw screen-shown (other-rows-zero questions values screenRead row no-item)

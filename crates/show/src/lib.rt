@@ -13,9 +13,9 @@ ghost use Rattle.show.specs.Show.{showReply, showTable, showOutput};
 ghost use Rattle.show.specs.ShownRows.{unplaced, rowsAnswer, rowsTable, rowsOutput};
 
 // The numbers of answers out of order or for no question, and of an output with fewer bytes than the table has rows.
-pub const BAD_ANSWER: u64 = 15;
+const BAD_ANSWER: u64 = 15;
 
-pub const TOO_FEW_BYTES: u64 = 30;
+const TOO_FEW_BYTES: u64 = 30;
 
 // A refusal after reading, with all that is lent for results set to 0. Its place is none in the source.
 fn refuse(table: &mut [u64], out: &mut [u8], number: u64, place: usize) -> Answer

@@ -1,4 +1,4 @@
--- What docs/DECISIONS.md decides of stages, rows and numbers (entries D25 to D63), from bytes to answer and rows, by computation.
+-- What docs/DECISIONS.md decides of stages, rows and numbers (entries D25 to D63, W203.18 to W203.20), from bytes to answer and rows, by computation.
 -- Assumes nothing.
 use mathlib.Core.Path.{_≡_, refl}
 use mathlib.Core.List.{List, [], _∷_, _++_, map}
@@ -33,6 +33,10 @@ framed-bytes s = bytes opening ++ (s ++ bytes "endform;endformset;")
 
 abbrev framed : String → List ℕ
 framed t = framed-bytes (bytes t)
+
+-- two forms, numbers 1 and 2
+abbrev two-forms : String → String → List ℕ
+two-forms t u = framed-bytes (bytes t ++ (bytes "endform;form formid=2,title=STRING_TOKEN(4);" ++ bytes u))
 
 -- ---- sources that are refused
 
@@ -88,6 +92,29 @@ pub refused-as-decided : map (λ x. outcome (x .source) .answer) refusedCases �
 unfolding refusedCases outcomeIn
 refused-as-decided = refl
 
+-- ---- a ruleref whose rule stands in another form (document 02, W-203)
+
+unfoldable pub strayCases : List Refused
+strayCases =
+    -- W203.18: the rule is of an earlier form, or of a later one
+    two-forms "rule A,1 endrule;" "suppressif ruleref(A);endif;"
+    gives refuses 11 220
+    ∷ two-forms "suppressif ruleref(A);endif;" "rule A,1 endrule;"
+    gives refuses 11 159
+    -- W203.19: two forms may not have rules of one name
+    ∷ two-forms "rule A,1 endrule;" "rule A,1 endrule;suppressif ruleref(A);endif;"
+    gives refuses 9 206
+    -- W203.20: 11 comes before 14, whether the circle would go through both forms or lies in one of them
+    ∷ two-forms "rule A,ruleref(B)endrule;" "rule B,ruleref(A)endrule;"
+    gives refuses 11 155
+    ∷ two-forms "rule A,ruleref(A)endrule;" "suppressif ruleref(A);endif;"
+    gives refuses 11 228
+    ∷ []
+
+pub stray-as-decided : map (λ x. outcome (x .source) .answer) strayCases ≡ map (λ x. x .answer) strayCases
+unfolding strayCases outcomeIn
+stray-as-decided = refl
+
 -- ---- sources that are accepted, and their rows
 
 infix 68 _has_
@@ -136,6 +163,11 @@ foundCases =
     ∷ framed "goto 1,prompt=STRING_TOKEN(5),help=STRING_TOKEN(6);rule A,ruleref(A) endrule;"
     -- a questionref to a later question, by name and by number
     ∷ framed "rule A,questionref(B)+questionref(9) endrule;checkbox name=B,questionid=9,prompt=STRING_TOKEN(5),help=STRING_TOKEN(6),endcheckbox;"
+    -- W203.18: a later rule of its form; one of its form, which is not the first, from conditions inside one another
+    ∷ framed "suppressif ruleref(A);endif;rule A,1 endrule;"
+    ∷ two-forms "rule B,1 endrule;" "rule A,1 endrule;grayoutif 1;disableif ruleref(A);endif;endif;"
+    -- W203.19: a questionref to a question of another form
+    ∷ two-forms "checkbox name=A,prompt=STRING_TOKEN(5),help=STRING_TOKEN(6),endcheckbox;" "suppressif questionref(A);endif;"
     ∷ []
 
 pub found-as-decided : map (λ s. unfoundRead s) foundCases ≡ map (λ s. []) foundCases

@@ -80,7 +80,7 @@ pub question-numbers : (s : List ℕ) (ds : List Draft) → Wide ds → question
 unfolding numberedRows
 question-numbers s ds w =
     ap questionNumbers (finished-numbered s ds)
-    ∙ given s (λ d. ownOfFirst s (finds s d) (numberedRows ds)) (numbered (ownNumbers ds)) w (numbering (ownNumbers ds) .long)
+    ∙ given s (λ d. ownOfFirst s (finds s (numberedRows ds) d) (numberedRows ds)) (numbered (ownNumbers ds)) w (numbering (ownNumbers ds) .long)
 
 -- ---- there are numbers enough: the first row, the form set's, is no question
 

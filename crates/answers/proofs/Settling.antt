@@ -34,7 +34,7 @@ module _ {X : Type 0} (f : Draft → X) where
 
     pub references-leave : (ds : List Draft) → map f (withReferences s ds) ≡ map f ds
     unfolding withReferences
-    references-leave ds = found-leave (λ d. ownOfFirst s (finds s d) ds) ds
+    references-leave ds = found-leave (λ d. ownOfFirst s (finds s ds d) ds) ds
 
   pub settling-leaves :
       ((d : Draft) (v : ℕ) → f (withCell column.OWN v d) ≡ f d) → ((d : Draft) (v : ℕ) → f (withCell column.A v d) ≡ f d)
@@ -75,6 +75,6 @@ found-rows s look (d ∷ ds) = either (refers s d) (λ e. rw (e, found-rows s lo
 
 module _ (s : List ℕ) (ds : List Draft) where
   -- those of the numbered drafts
-  pub finished-numbered : finished s ds ≡ map (foundRow s (λ d. ownOfFirst s (finds s d) (numberedRows ds))) (numberedRows ds)
+  pub finished-numbered : finished s ds ≡ map (foundRow s (λ d. ownOfFirst s (finds s (numberedRows ds) d) (numberedRows ds))) (numberedRows ds)
   unfolding finished settled withReferences
-  finished-numbered = found-rows s (λ d. ownOfFirst s (finds s d) (numberedRows ds)) (numberedRows ds)
+  finished-numbered = found-rows s (λ d. ownOfFirst s (finds s (numberedRows ds) d) (numberedRows ds)) (numberedRows ds)

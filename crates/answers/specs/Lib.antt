@@ -13,3 +13,5 @@ pub mod Resolution
 -- What theorems say of rows: their places, and where a walk down a derivation meets them.
 pub mod RowPlaces
 pub mod Reached
+-- The form that a row stands in, and document 02's W-203.
+pub mod Forms

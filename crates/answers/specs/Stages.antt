@@ -1,6 +1,6 @@
 -- Stages 7 to 12 over the rows of a derivation: the marks of what is at fault, in source order; the finished rows (document 01, Rows and Refusal
--- numbers); and stage 14 over settled rows (document 02, W-202). Assumes nothing.
-use Prim.Native.Nat.{ℕ, _-_}
+-- numbers), with the form that a rule belongs to (document 02, W-203); and stage 14 over settled rows (W-202). Assumes nothing.
+use Prim.Native.Nat.{ℕ, zero, suc, _-_}
 use mathlib.Core.Bool.{Bool, false, not, cond, _&&_, _||_}
 use mathlib.Core.List.{List, [], _∷_, _++_, map}
 use lib.Dec.{eqb, ltb}
@@ -12,8 +12,9 @@ use Rattle.rule_steps.specs.Steps.{ruleRound, ruleFound, isStep, ruleSteps, gre
 use Rattle.rows.specs.Codes as code
 use Rattle.rows.specs.Codes.{isQuestion}
 use Rattle.rows.specs.Columns as column
-use Rattle.answers.specs.Rows.{Draft}
+use Rattle.answers.specs.Rows.{Draft, withoutMarks}
 use Rattle.grammar.specs.Parts.{mark}
+use Rattle.grammar.specs.Derivation.{maxConditions}
 
 -- ---- of a row
 
@@ -76,25 +77,46 @@ module _ (s : List ℕ) where
 unfoldable pub rulesOverLimit : List Draft → List ℕ
 rulesOverLimit ds = faultsIn (λ before d. faultIf (is code.RULE d && ltb 255 (cell column.OWN d)) (mark (cell column.PLACE d))) ds
 
+-- ---- "the form it stands in" (document 02, W-203)
+
+-- row p of the rows
+abbrev pub rowAmong : List Draft → ℕ → Draft
+rowAmong ds p = getD ds p (withoutMarks [])
+
+-- from row p up, by n parents at most, as far as no form is reached
+unfoldable pub formFrom : List Draft → ℕ → ℕ → ℕ
+formFrom ds zero p = p
+formFrom ds (suc n) p = let above = formFrom ds n (cell column.PARENT (rowAmong ds p)) in cond (is code.FORM (rowAmong ds p)) p above
+
+-- the form round what a rule or condition holds, from that one up: "at most 16 conditions open at once" are between (document 01, Depths)
+unfoldable pub formRound : List Draft → Draft → ℕ
+formRound ds d = formFrom ds maxConditions (cell column.PARENT d)
+
 module _ (s : List ℕ) where
-  -- the rows that a reference finds: by a number, the question that writes it; by a name, the question or rule that declares it
-  abbrev pub finds : Draft → Draft → Bool
-  finds d e =
-      cond (is code.RULE-REF d) (is code.RULE e && declares s (placeOf (d .ownAt)) e)
+  -- the row is a rule that declares the name at a place
+  abbrev pub ruleNamed : ℕ → Draft → Bool
+  ruleNamed p e = is code.RULE e && declares s p e
+
+  -- of all rows, those that a reference finds: a rule that declares the name, of the form that the reference stands in, a rule's parent being its
+  -- form; by a number, the question that writes it; by a name, the question that declares it
+  abbrev pub finds : List Draft → Draft → Draft → Bool
+  finds ds d e =
+      cond (is code.RULE-REF d) (ruleNamed (placeOf (d .ownAt)) e && eqb (cell column.PARENT e) (formRound ds d))
       (cond (ltb 0 (cell column.A d)) (writes e && eqb (cell column.OWN e) (cell column.A d))
       (asks e && declares s (placeOf (d .ownAt)) e))
 
   abbrev pub refers : Draft → Bool
   refers d = is code.QUESTION-REF d || is code.RULE-REF d
 
-  -- 11: goto, questionref or ruleref finds nothing; names and numbers are found anywhere in the form set
-  unfoldable pub unfound : List Draft → List ℕ
-  unfound ds =
-      faultsIn
-      (λ before d.
+  -- what a row names in vain: a goto finds its form anywhere in the form set
+  abbrev pub inVain : List Draft → Draft → List ℕ
+  inVain ds d =
       faultIf (is code.GOTO d && not (any (λ e. is code.FORM e && eqb (cell column.OWN e) (cell column.A d)) ds)) (d .limitAt)
-      ++ faultIf (refers d && not (any (finds d) ds)) (d .ownAt))
-      ds
+      ++ faultIf (refers d && not (any (finds ds d) ds)) (d .ownAt)
+
+  -- 11: goto, questionref or ruleref finds nothing
+  unfoldable pub unfound : List Draft → List ℕ
+  unfound ds = faultsIn (λ before d. inVain ds d) ds
 
 -- 12: of a numeric, maximum below minimum, or default outside them; of an option, its value or DEFAULT repeated in its oneof
 
@@ -152,7 +174,7 @@ module _ (s : List ℕ) where
 
   -- each reference of the rows with the number that it finds among them
   unfoldable pub withReferences : List Draft → List Draft
-  withReferences ds = map (λ d. cond (refers s d) (withCell column.A (ownOfFirst (finds s d) ds) d) d) ds
+  withReferences ds = map (λ d. cond (refers s d) (withCell column.A (ownOfFirst (finds s ds d) ds) d) d) ds
 
   -- the settled rows: questions numbered, then each reference with the number that it finds; their marks are still there
   unfoldable pub settled : List Draft → List Draft

@@ -291,7 +291,7 @@ met-next {all} {before} {rest} {d} {i} v =
     late-next p false e false f g = at-row p e ∙ rw f
 
 -- a first row from row i on is not before it
-first-after : (p : Draft → Bool) (i : ℕ) (ds : List Draft) → 0 < firstRow p i ds → i < firstRow p i ds
+pub first-after : (p : Draft → Bool) (i : ℕ) (ds : List Draft) → 0 < firstRow p i ds → i < firstRow p i ds
 unfolding firstRow
 first-after p i [] h = absurd (omega arith)
 first-after p i (d ∷ ds) h = go (p d) (first-after p (i + 1) ds) h

@@ -3,6 +3,7 @@
 pub mod RepeatLaws
 pub mod RepeatFaults
 pub mod RuleLaws
+pub mod FormLaws
 pub mod ReferenceLaws
 pub mod ReferenceFaults
 pub mod ChoiceLaws

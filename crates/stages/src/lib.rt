@@ -1,5 +1,6 @@
 // Stages 7 to 12 over the draft rows: each answers the mark of the first fault, or 0 (document 01, Refusal numbers).
 mod choices;
+mod forms;
 mod references;
 mod repeats;
 mod rules;

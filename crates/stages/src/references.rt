@@ -1,8 +1,10 @@
-// 11: gotos and references.
+// 11: gotos and references (document 01; a rule by its form: document 02, W-203).
+use crate::forms::form_round;
+use crate::forms::parent;
 ghost use mathlib.Core.Path.{_≡_};
 ghost use Rattle.answers.specs.Drafts.{draftsFrom};
 ghost use Rattle.drafts.specs.Faults.{draftAt, alone, firstFault};
-ghost use Rattle.stages.specs.References.{findsQuestion, referenceFault};
+ghost use Rattle.stages.specs.References.{findsQuestion, findsRule, referenceFault};
 use drafts::limit_mark;
 use drafts::own_mark;
 use names::find;
@@ -22,16 +24,28 @@ fn finds_question(src: &[u8], table: &[u64], row: usize, index: &[u64], used: &[
     numbers::has(used, n)
 }
 
+// The ruleref in a row finds a rule: by its name, in the form that it stands in.
+fn finds_rule(src: &[u8], table: &[u64], count: usize, row: usize, index: &[u64]) -> bool
+    ensures { λ r. ⌜ r ≡ findsRule (now (src .entry)) (now (index .entry)) (draftsFrom (now (table .entry)) 0 count) (draftAt (now (table .entry)) row) ⌝ }
+{
+    let at = find(src, index, own_mark(table, row), true);
+    if at == 0 {
+        return false;
+    }
+    parent(table, count, (at - 1) as usize) == form_round(table, count, row)
+}
+
 // The mark of what a row names in vain, or 0.
 fn unfound_in(
     src: &[u8],
     table: &[u64],
+    count: usize,
     row: usize,
     index: &[u64],
     forms: &[u64; 1024],
     used: &[u64; 1024],
 ) -> u64
-    ensures { λ r. ⌜ r ≡ referenceFault (now (src .entry)) (now (index .entry)) (now (forms .entry)) (now (used .entry)) (draftAt (now (table .entry)) row) ⌝ }
+    ensures { λ r. ⌜ r ≡ referenceFault (now (src .entry)) (now (index .entry)) (now (forms .entry)) (now (used .entry)) (draftsFrom (now (table .entry)) 0 count) (draftAt (now (table .entry)) row) ⌝ }
 {
     let code = cell(table, row, CODE);
     if code == codes::GOTO {
@@ -47,11 +61,10 @@ fn unfound_in(
         return own_mark(table, row);
     }
     if code == codes::RULE_REF {
-        let name = own_mark(table, row);
-        if find(src, index, name, true) == 0 {
-            return name;
+        if finds_rule(src, table, count, row, index) {
+            return 0;
         }
-        return 0;
+        return own_mark(table, row);
     }
     0
 }
@@ -65,11 +78,11 @@ pub fn unfound(
     forms: &[u64; 1024],
     used: &[u64; 1024],
 ) -> u64
-    ensures { λ r. ⌜ r ≡ firstFault (alone (referenceFault (now (src .entry)) (now (index .entry)) (now (forms .entry)) (now (used .entry)))) (draftsFrom (now (table .entry)) 0 count) ⌝ }
+    ensures { λ r. ⌜ r ≡ firstFault (alone (referenceFault (now (src .entry)) (now (index .entry)) (now (forms .entry)) (now (used .entry)) (draftsFrom (now (table .entry)) 0 count))) (draftsFrom (now (table .entry)) 0 count) ⌝ }
 {
     let mut row = 0;
     while row < count {
-        let fault = unfound_in(src, table, row, index, forms, used);
+        let fault = unfound_in(src, table, count, row, index, forms, used);
         if fault != 0 {
             return fault;
         }

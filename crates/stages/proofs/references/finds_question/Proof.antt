@@ -22,7 +22,7 @@ returns c =
     let s = c .before .before .before .before .before .before .before .args .src .now in
     let t = c .before .before .before .before .before .before .before .args .table .now in
     let i = c .before .before .before .before .before .before .before .args .row in
-    question-named s (c .before .before .before .before .before .before .before .args .index .now) (c .before .before .before .before .before .before .before .args .used .now) (c .before .before .before .before .before .before .before .args .used .now) (draftAt t i) (cell-read t i column.A refl (c .before .before .before .cell .ensures)) (c .before .before .if1 .taken) (c .before .own-mark .ensures) (c .find .ensures)
+    question-named s (c .before .before .before .before .before .before .before .args .index .now) (c .before .before .before .before .before .before .before .args .used .now) (draftAt t i) (cell-read t i column.A refl (c .before .before .before .cell .ensures)) (c .before .before .if1 .taken) (c .before .own-mark .ensures) (c .find .ensures)
 
 has-requires : tie.Need-has-requires
 has-requires c κs = search needs
@@ -32,7 +32,7 @@ returns-2 c =
     let s = c .before .before .before .before .before .before .args .src .now in
     let t = c .before .before .before .before .before .before .args .table .now in
     let i = c .before .before .before .before .before .before .args .row in
-    c .has .ensures ∙ question-numbered s (c .before .before .before .before .before .before .args .index .now) (c .before .before .before .before .before .before .args .used .now) (c .before .before .before .before .before .before .args .used .now) (draftAt t i) (cell-read t i column.A refl (c .before .before .cell .ensures)) (c .before .if1 .left)
+    c .has .ensures ∙ question-numbered s (c .before .before .before .before .before .before .args .index .now) (c .before .before .before .before .before .before .args .used .now) (draftAt t i) (cell-read t i column.A refl (c .before .before .cell .ensures)) (c .before .if1 .left)
 
 pub finds-question-spec : {M : Type 1} → statement M
 finds-question-spec =

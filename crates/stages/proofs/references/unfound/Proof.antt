@@ -1,6 +1,7 @@
 -- `stages::references::unfound` meets its contract: no row before the loop's names anything in vain.
 use borrow.Author.Needs.{needs}
 use Prim.Native.Nat.{_-_}
+use Rattle.answers.specs.Drafts.{draftsFrom}
 use Rattle.drafts.specs.Faults.{alone}
 use Rattle.stages.specs.References.{referenceFault}
 use Rattle.drafts.proofs.FaultLaws.{Searching, searching-start, searching-found, searching-next, searching-end}
@@ -8,7 +9,7 @@ use Rattle.stages.proofs.references.unfound.Statement.{statement}
 use Rattle.stages.proofs.references.unfound.Tie as tie
 
 abbrev Inv-loop : tie.InvT-loop
-Inv-loop src table count index forms used row₀ row = Searching (alone (referenceFault src index forms used)) table count row
+Inv-loop src table count index forms used row₀ row = Searching (alone (referenceFault src index forms used (draftsFrom table 0 count))) table count row
 
 abbrev μ-loop : tie.MeasureT-loop
 μ-loop src table count index forms used row₀ row = count - row

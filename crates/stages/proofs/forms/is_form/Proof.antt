@@ -1,0 +1,17 @@
+-- `stages::forms::is_form` meets its contract.
+use borrow.Author.Needs.{needs}
+use Rattle.stages.proofs.FormLaws.{form-read, no-form}
+use Rattle.stages.proofs.forms.is_form.Statement.{statement}
+use Rattle.stages.proofs.forms.is_form.Tie as tie
+
+returns : tie.Need-returns
+returns c = no-form (c .before .before .args .table .now) (c .before .before .args .count) (c .before .before .args .row) (c .if1 .taken)
+
+cell-requires : tie.Need-cell-requires
+cell-requires c κs = search needs
+
+returns-2 : tie.Need-returns-2
+returns-2 c = form-read (c .before .before .before .args .table .now) (c .before .before .before .args .count) (c .before .before .before .args .row) (c .before .if1 .left) (c .cell .ensures)
+
+pub is-form-spec : {M : Type 1} → statement M
+is-form-spec = tie.close (tie.spec returns cell-requires returns-2)

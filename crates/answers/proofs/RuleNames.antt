@@ -1,8 +1,8 @@
 -- Rule names stay unique in the form set (document 02, W-203): where stage 9 finds no fault, at most one rule declares a name. So a rule that is found
 -- by its name is the one that a ruleref finds, if it is of its form.
 -- Assumes nothing.
-use mathlib.Core.Path.{_≡_, refl, sym, ap, _∙_}
-use mathlib.Core.List.{List, [], _∷_}
+use mathlib.Core.Path.{_≡_, refl, sym, ap₂, _∙_}
+use mathlib.Core.List.{List, [], _∷_, map}
 use mathlib.Core.Bool.{Bool, true, false, cond, _&&_, _||_, or-true, true≢false}
 use Prim.Native.Nat.{ℕ}
 use lib.Dec.{ltb}
@@ -11,7 +11,7 @@ use Rattle.lexemes.proofs.Lists.{either, and-true}
 use Rattle.lexemes.proofs.Equality.{same-word-true, eq-same-word}
 use Rattle.rows.specs.Codes as code
 use Rattle.rows.specs.Columns as column
-use Rattle.ll1.proofs.Basics.{append-empty}
+use Rattle.ll1.proofs.Basics.{clash, append-empty}
 use Rattle.answers.specs.Rows.{Draft}
 use Rattle.answers.specs.Stages.{cell, is, asks, any, faultIf, faultsAfter, placeOf, sameSort, declares, ruleNamed, repeatedNames, ownOfFirst}
 use Rattle.answers.proofs.Faults.{no-fault}
@@ -46,6 +46,23 @@ module _ (p q : Draft → Bool) where
       go true e true f h = refl
       go true e false f h = absurd (true≢false (sym h ∙ any-first ds (o .0 e)))
       go false e c f h = f h
+
+-- rows of which a test says the same
+pub same-any : (p : Draft → Bool) (ds es : List Draft) → map p ds ≡ map p es → any p ds ≡ any p es
+unfolding any
+same-any p [] [] e = refl
+same-any p [] (y ∷ es) e = clash cc
+same-any p (x ∷ ds) [] e = clash cc
+same-any p (x ∷ ds) (y ∷ es) e = let z : p x ≡ p y = cc in ap₂ _||_ z (same-any p ds es (cc))
+
+pub same-once : (p : Draft → Bool) (ds es : List Draft) → map p ds ≡ map p es → Once p ds → Once p es
+same-once p [] [] e o = tt
+same-once p [] (y ∷ es) e o = clash cc
+same-once p (x ∷ ds) [] e o = clash cc
+same-once p (x ∷ ds) (y ∷ es) e o =
+    let z : p x ≡ p y = cc in
+    let l : map p ds ≡ map p es = cc in
+    ((λ h. sym (same-any p ds es l) ∙ o .0 (z ∙ h)), same-once p ds es l (o .1))
 
 -- ---- stage 9
 

@@ -19,6 +19,7 @@ pub mod RowPlaces
 pub mod Faults
 pub mod RuleNames
 pub mod Forms
+pub mod FoundRules
 -- What demand 3 rests on: the stages in order, and the numbers that questions get.
 pub mod Checks
 pub mod Circles

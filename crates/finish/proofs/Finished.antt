@@ -53,25 +53,11 @@ rule-ref-not = refl
 
 -- ---- stage 11 passed: every reference finds something
 
-no-fault : (b : Bool) (m : ℕ) (l : List ℕ) → faultIf b m ++ l ≡ [] → (b ≡ false) × (l ≡ [])
-no-fault true m l e = absurd (let z : _≡_ {A = ℕ} 0 1 = cc in omega arith)
-no-fault false m l e = (refl, e)
-
--- the faults of a row as grammar lists them, with all rows of the form set
-abbrev referenceFaults : List ℕ → List Draft → List Draft → Draft → List ℕ
-referenceFaults s all before d =
-    faultIf (is code.GOTO d && not (any (λ e. is code.FORM e && eqb (cell column.OWN e) (cell column.A d)) all)) (d .limitAt)
-    ++ faultIf (refers s d && not (any (finds s d) all)) (d .ownAt)
-
--- where there is no fault, a reference finds something, and the other rows have no fault either
-no-faults : (s : List ℕ) (all before : List Draft) (d : Draft) (l : List ℕ) → referenceFaults s all before d ++ l ≡ []
-    → (refers s d ≡ true → any (finds s d) all ≡ true) × (l ≡ [])
-no-faults s all before d l e =
-    let g : Bool = is code.GOTO d && not (any (λ x. is code.FORM x && eqb (cell column.OWN x) (cell column.A d)) all) in
-    let r : Bool = refers s d && not (any (finds s d) all) in
-    let first : (g ≡ false) × (faultIf r (d .ownAt) ++ l ≡ []) = no-fault g (d .limitAt) (faultIf r (d .ownAt) ++ l) (sym (append-assoc (faultIf g (d .limitAt)) (faultIf r (d .ownAt)) l) ∙ e) in
-    let second = no-fault r (d .ownAt) l (first .1) in
-    (λ y. not-false (any (finds s d) all) (sym (ap (λ (b : Bool). b && not (any (finds s d) all)) y) ∙ second .0), second .1)
+-- where a row names nothing in vain, a reference finds something
+finds-some : (s : List ℕ) (all : List Draft) (d : Draft) → inVain s all d ≡ [] → refers s d ≡ true → any (finds s all d) all ≡ true
+finds-some s all d e y =
+    let none = no-fault (refers s d && not (any (finds s all d) all)) (d .ownAt) (append-empty (faultIf _ (d .limitAt)) _ e .1) in
+    not-false (any (finds s all d) all) (sym (ap (λ (b : Bool). b && not (any (finds s all d) all)) y) ∙ none)
 
 pub data AllRefer (s : List ℕ) (ns : List Draft) : List Draft → Type 0 where
   no-references : AllRefer s ns []
@@ -82,7 +68,7 @@ pub data AllRefer (s : List ℕ) (ns : List Draft) : List Draft → Type 0 where
 found-encoded : (s es t : List ℕ) (ns : List Draft)
     (index : (m : ℕ) (rule : Bool) → 0 < m → findIn s es m rule ≡ firstRow (declaresMark s m rule) 0 ns) (owns : Owns t 0 ns)
     → {ds : List Draft} → AllRefer s ns ds
-    → map (resolved s es t) (map encoded ds) ≡ map encoded (map (λ d. cond (refers s d) (withCell column.A (ownOfFirst s (finds s d) ns) d) d) ds)
+    → map (resolved s es t) (map encoded ds) ≡ map encoded (map (λ d. cond (refers s d) (withCell column.A (ownOfFirst s (finds s ns d) ns) d) d) ds)
 found-encoded s es t ns index owns no-references = refl
 found-encoded s es t ns index owns (add-reference v r) = rw (row-settled s es t ns index owns v, found-encoded s es t ns index owns r)
 
@@ -107,7 +93,8 @@ fit-found b look (add-fit {d = d} f r) = add-fit (go (b d)) (fit-found b look r)
     go true = fits-found d (look d) f
     go false = f
 
-module _ (s : List ℕ) (all ns : List Draft) (written : (k : ℕ) → any (bears writes k) ns ≡ any (bears writes k) all) where
+module _ (s : List ℕ) (all ns : List Draft) (written : (k : ℕ) → any (bears writes k) ns ≡ any (bears writes k) all)
+    (once : (p : ℕ) → Once (ruleNamed s p) ns) (rules : (d : Draft) → is code.RULE-REF d ≡ true → any (finds s ns d) ns ≡ any (finds s all d) all) where
   -- a question that got a number
   question-refers : {d : Draft} → SoundRow d → asks d ≡ true → (v : ℕ) → Refers s ns (withCell column.OWN v d)
   question-refers {d} u q v =
@@ -120,6 +107,8 @@ module _ (s : List ℕ) (all ns : List Draft) (written : (k : ℕ) → any (bear
         rule-name = λ y. absurd (true≢false (sym y ∙ rule-ref));
         named = λ y. absurd (true≢false (sym y ∙ none));
         numbered = λ y. absurd (true≢false (sym y ∙ none));
+        once = λ y. absurd (true≢false (sym y ∙ rule-ref));
+        found = λ y. absurd (true≢false (sym y ∙ rule-ref));
       }
     where
       not-code : (k : ℕ) → isQuestion k ≡ false → is k d ≡ false
@@ -130,27 +119,29 @@ module _ (s : List ℕ) (all ns : List Draft) (written : (k : ℕ) → any (bear
           go false y = refl
 
   -- a row that is none, and finds what it names
-  other-refers : {d : Draft} → SoundRow d → (refers s d ≡ true → any (finds s d) all ≡ true) → Refers s ns d
+  other-refers : {d : Draft} → SoundRow d → (refers s d ≡ true → any (finds s all d) all ≡ true) → Refers s ns d
   other-refers {d} u f =
       record {
         fits = sound-fits u;
         rule-name = u .rule-name;
         named = u .reference;
-        numbered = λ y z. written (cell column.A d) ∙ any-same (bears writes (cell column.A d)) (finds s d) (finds-numbered s d (no-rule z (is code.RULE-REF d) refl) z) all ∙ f y;
+        numbered = λ y z. written (cell column.A d) ∙ any-same (bears writes (cell column.A d)) (finds s all d) (finds-numbered s all d (no-rule z (is code.RULE-REF d) refl) z) all ∙ f y;
+        once = λ y. once (placeOf (d .ownAt));
+        found = λ y. rules d y ∙ f (rw y (or-true (is code.QUESTION-REF d)));
       }
     where
       no-rule : (cell column.A d ≡ 0 → ⊥) → (b : Bool) → is code.RULE-REF d ≡ b → is code.RULE-REF d ≡ false
       no-rule z true r = absurd (z (u .rule-name r))
       no-rule z false r = r
 
-  all-refer : {ds : List Draft} → AllSound ds → (own : List ℕ) (before : List Draft) → faultsAfter (referenceFaults s all) before ds ≡ [] → AllRefer s ns (withNumbers own ds)
+  all-refer : {ds : List Draft} → AllSound ds → (own : List ℕ) (before : List Draft) → faultsAfter (λ b e. inVain s all e) before ds ≡ [] → AllRefer s ns (withNumbers own ds)
   unfolding withNumbers faultsAfter
   all-refer no-rows own before e = no-references
   all-refer (add-row {d = d} {ds = ds} u r) own before e =
-      let f = no-faults s all before d (faultsAfter (referenceFaults s all) (d ∷ before) ds) e in
-      go (asks d) refl (f .0) (all-refer r own (d ∷ before) (f .1)) (all-refer r (drop 1 own) (d ∷ before) (f .1))
+      let f = append-empty (inVain s all d) _ e in
+      go (asks d) refl (finds-some s all d (f .0)) (all-refer r own (d ∷ before) (f .1)) (all-refer r (drop 1 own) (d ∷ before) (f .1))
     where
-      go : (b : Bool) → asks d ≡ b → (refers s d ≡ true → any (finds s d) all ≡ true) → AllRefer s ns (withNumbers own ds) → AllRefer s ns (withNumbers (drop 1 own) ds)
+      go : (b : Bool) → asks d ≡ b → (refers s d ≡ true → any (finds s all d) all ≡ true) → AllRefer s ns (withNumbers own ds) → AllRefer s ns (withNumbers (drop 1 own) ds)
           → AllRefer s ns (cond b (withCell column.OWN (getD own 0 0) d ∷ withNumbers (drop 1 own) ds) (d ∷ withNumbers own ds))
       go true q f x y = add-reference (question-refers u q (getD own 0 0)) y
       go false q f x y = add-reference (other-refers u f) x
@@ -202,7 +193,7 @@ module _ {t : List ℕ} {ds : List Draft} (v : DraftsIn t ds) where
 abbrev withTheirs : List Draft → List Draft
 withTheirs ds = withNumbers (numbered (ownNumbers ds)) ds
 
-module _ {ds : List Draft} (v : SoundRows ds) (s : List ℕ) (found : unfound s ds ≡ []) {es : List ℕ} (index : Indexes s ds es) {ws : List ℕ} (holds : Holds ws (ownNumbers ds))
+module _ {ds : List Draft} (v : SoundRows ds) (s : List ℕ) (names : repeatedNames s ds ≡ []) (found : unfound s ds ≡ []) {es : List ℕ} (index : Indexes s ds es) {ws : List ℕ} (holds : Holds ws (ownNumbers ds))
     (t : List ℕ) (room : length ds ≤ wholeRows t) (held : rowsFrom t 0 (length ds) ≡ map encoded ds) where
   fit : AllFit (withTheirs ds)
   fit = fit-with (sound-fit (v .each)) (numbered (ownNumbers ds))
@@ -225,6 +216,15 @@ module _ {ds : List Draft} (v : SoundRows ds) (s : List ℕ) (found : unfound s 
   rows-numbered : rowsFrom t₁ 0 (length (withTheirs ds)) ≡ map encoded (withTheirs ds)
   rows-numbered = rw (← length-map (withTheirs ds) encoded) (rows-held t (are-encoded fit) fewer table-numbered)
 
+  -- rules keep their names, and rulerefs their forms
+  named : (p : ℕ) → Once (ruleNamed s p) (withTheirs ds)
+  named p =
+      same-once (ruleNamed s p) ds (withTheirs ds) (sym (numbers-leave (ruleNamed s p) (λ d x. declares-with d x s (suc p) true) (numbered (ownNumbers ds)) ds))
+      (named-once s p ds names)
+
+  rules : (d : Draft) → is code.RULE-REF d ≡ true → any (finds s (withTheirs ds) d) (withTheirs ds) ≡ any (finds s ds d) ds
+  rules d r = {!!}
+
   -- after `resolve_references`
   cells-settled : map (resolved s es t₁) (map encoded (withTheirs ds)) ≡ map encoded (settled s ds)
   unfolding settled withReferences numberedRows unfound
@@ -233,11 +233,11 @@ module _ {ds : List Draft} (v : SoundRows ds) (s : List ℕ) (found : unfound s 
       found-encoded s es t₁ (withTheirs ds)
       (λ m rule h. index .finds m rule h ∙ sym (first-with (declaresMark s m rule) (λ d x. declares-with d x s m rule) ds own 0))
       (owns-held fit t₁ 0 rows-numbered)
-      (all-refer s ds (withTheirs ds) (writes-with (v .each) own (numbering (ownNumbers ds) .stands)) (v .each) own [] found)
+      (all-refer s ds (withTheirs ds) (writes-with (v .each) own (numbering (ownNumbers ds) .stands)) named rules (v .each) own [] found)
 
   fit-settled : AllFit (settled s ds)
   unfolding settled withReferences numberedRows
-  fit-settled = fit-found (refers s) (λ d. ownOfFirst s (finds s d) (withTheirs ds)) fit
+  fit-settled = fit-found (refers s) (λ d. ownOfFirst s (finds s (withTheirs ds) d) (withTheirs ds)) fit
 
   -- after `settle`
   module _ {t₂ : List ℕ} (two : t₂ ≡ tableSettled s es ws t (length ds)) where

@@ -13,10 +13,12 @@ use Rattle.rows.specs.Table.{rowAt, cellAt}
 use Rattle.rows.specs.Rows.{rowsFrom}
 use Rattle.numbers.proofs.Ranges.{and-yes}
 use Rattle.answers.specs.Rows.{Draft}
-use Rattle.answers.specs.Stages.{cell, is, asks, writes, any, withCell, declares, finds, refers, ownOfFirst, placeOf}
+use Rattle.answers.specs.Stages.{cell, is, writes, any, placeOf, withCell, ruleNamed, formRound, finds, refers, ownOfFirst}
 use Rattle.answers.specs.Drafts.{encoded}
+use Rattle.answers.proofs.RuleNames.{Once, own-once}
 use Rattle.drafts.specs.Fits.{FitsCells, AllFit, none-fit, add-fit}
 use Rattle.names.specs.Names.{findIn, declaresMark, firstRow}
+use Rattle.drafts.proofs.RowTests.{any-same}
 use Rattle.drafts.proofs.CodingLaws.{cell-encoded, set-encoded, decoded-encoded}
 use Rattle.stages.proofs.RepeatFaults.{bears}
 use Rattle.finish.specs.Finish.{numberFound, resolved}
@@ -64,26 +66,39 @@ unfolding ownOfFirst
 own-alike s p q h [] = refl
 own-alike s p q h (d ∷ ds) = rw (h d, own-alike s p q h ds)
 
--- ---- a reference among the numbered drafts ns: it names something, and a number that it names is written
+-- ---- a reference among the numbered drafts ns: it names something, a number that it names is written, and a rule is found whose name no other rule has
 
 pub record Refers (s : List ℕ) (ns : List Draft) (d : Draft) : Type 0 where
   pub fits : FitsCells d
   pub rule-name : is code.RULE-REF d ≡ true → cell column.A d ≡ 0
   pub named : refers s d ≡ true → 0 < d .ownAt
   pub numbered : refers s d ≡ true → (cell column.A d ≡ 0 → ⊥) → any (bears writes (cell column.A d)) ns ≡ true
+  pub once : is code.RULE-REF d ≡ true → Once (ruleNamed s (placeOf (d .ownAt))) ns
+  pub found : is code.RULE-REF d ≡ true → any (finds s ns d) ns ≡ true
 
--- what it finds, by its code and number
-finds-named : (s : List ℕ) (d : Draft) → cell column.A d ≡ 0 → (e : Draft) → declaresMark s (d .ownAt) (is code.RULE-REF d) e ≡ finds s d e
-finds-named s d z e = go (is code.RULE-REF d)
+-- what a questionref finds by a number
+pub finds-numbered :
+    (s : List ℕ) (ns : List Draft) (d : Draft)
+    → is code.RULE-REF d ≡ false → (cell column.A d ≡ 0 → ⊥) → (e : Draft) → bears writes (cell column.A d) e ≡ finds s ns d e
+finds-numbered s ns d r z e = rw (r, lt-ltb 0 (cell column.A d) (omega (arith, z)))
+
+-- and what a reference finds by a name: of a ruleref, the one rule that has it
+named-found :
+    {s : List ℕ} {ns : List Draft} {d : Draft}
+    → Refers s ns d → cell column.A d ≡ 0 → ownOfFirst s (declaresMark s (d .ownAt) (is code.RULE-REF d)) ns ≡ ownOfFirst s (finds s ns d) ns
+named-found {s} {ns} {d} v z = go (is code.RULE-REF d) refl
   where
-    go : (b : Bool) → declaresMark s (d .ownAt) b e
-        ≡ cond b (is code.RULE e && declares s (placeOf (d .ownAt)) e)
-        (cond (ltb 0 (cell column.A d)) (writes e && eqb (cell column.OWN e) (cell column.A d)) (asks e && declares s (placeOf (d .ownAt)) e))
-    go true = refl
-    go false = rw z
+    named : Draft → Bool
+    named = ruleNamed s (placeOf (d .ownAt))
 
-pub finds-numbered : (s : List ℕ) (d : Draft) → is code.RULE-REF d ≡ false → (cell column.A d ≡ 0 → ⊥) → (e : Draft) → bears writes (cell column.A d) e ≡ finds s d e
-finds-numbered s d r z e = rw (r, lt-ltb 0 (cell column.A d) (omega (arith, z)))
+    of-form : Draft → Bool
+    of-form e = eqb (cell column.PARENT e) (formRound ns d)
+
+    go : (b : Bool) → is code.RULE-REF d ≡ b → ownOfFirst s (declaresMark s (d .ownAt) b) ns ≡ ownOfFirst s (finds s ns d) ns
+    go true r =
+        let alike : (e : Draft) → finds s ns d e ≡ (named e && of-form e) = λ e. rw r in
+        sym (own-alike s (finds s ns d) _ alike ns ∙ own-once named of-form s ns (v .once r) (sym (any-same (finds s ns d) _ alike ns) ∙ v .found r))
+    go false r = own-alike s (declaresMark s (d .ownAt) false) (finds s ns d) (λ e. rw (r, z)) ns
 
 module _ (s es t : List ℕ) (ns : List Draft)
     (index : (m : ℕ) (rule : Bool) → 0 < m → findIn s es m rule ≡ firstRow (declaresMark s m rule) 0 ns) (owns : Owns t 0 ns) where
@@ -96,7 +111,7 @@ module _ (s es t : List ℕ) (ns : List Draft)
     unfolding numberFound
     number-encoded = rw (cell-encoded (v .fits) column.A refl, cell-encoded (v .fits) column.CODE refl, decoded-encoded (v .fits))
 
-    pub number-found : refers s d ≡ true → numberFound s es t (encoded d) ≡ ownOfFirst s (finds s d) ns
+    pub number-found : refers s d ≡ true → numberFound s es t (encoded d) ≡ ownOfFirst s (finds s ns d) ns
     number-found y = number-encoded ∙ go (eqb (cell column.A d) 0) refl
       where
         rule : Bool
@@ -105,12 +120,12 @@ module _ (s es t : List ℕ) (ns : List Draft)
         at : ℕ
         at = findIn s es (d .ownAt) rule
 
-        go : (b : Bool) → eqb (cell column.A d) 0 ≡ b → cond b (cond (eqb at 0) 0 (cellAt t (at - 1) column.OWN)) (cell column.A d) ≡ ownOfFirst s (finds s d) ns
+        go : (b : Bool) → eqb (cell column.A d) 0 ≡ b → cond b (cond (eqb at 0) 0 (cellAt t (at - 1) column.OWN)) (cell column.A d) ≡ ownOfFirst s (finds s ns d) ns
         go true z =
             rw (index (d .ownAt) rule (v .named y))
-            (own-at s t (declaresMark s (d .ownAt) rule) ns 0 owns ∙ own-alike s (declaresMark s (d .ownAt) rule) (finds s d) (finds-named s d (eqb-true _ _ z)) ns)
+            (own-at s t (declaresMark s (d .ownAt) rule) ns 0 owns ∙ named-found v (eqb-true _ _ z))
         go false z =
-            sym (sym (own-alike s (bears writes (cell column.A d)) (finds s d) (finds-numbered s d (no-rule rule refl) (eqb-false _ _ z)) ns)
+            sym (sym (own-alike s (bears writes (cell column.A d)) (finds s ns d) (finds-numbered s ns d (no-rule rule refl) (eqb-false _ _ z)) ns)
             ∙ own-same s (bears writes (cell column.A d)) (cell column.A d) (λ e f. eqb-true _ _ (and-yes (writes e) _ f .1)) ns (v .numbered y (eqb-false _ _ z)))
           where
             no-rule : (b : Bool) → rule ≡ b → rule ≡ false
@@ -118,12 +133,12 @@ module _ (s es t : List ℕ) (ns : List Draft)
             no-rule false r = r
 
     -- the settled draft's cells
-    pub row-settled : resolved s es t (encoded d) ≡ encoded (cond (refers s d) (withCell column.A (ownOfFirst s (finds s d) ns) d) d)
+    pub row-settled : resolved s es t (encoded d) ≡ encoded (cond (refers s d) (withCell column.A (ownOfFirst s (finds s ns d) ns) d) d)
     unfolding resolved
     row-settled = rw (cell-encoded (v .fits) column.CODE refl) (go (refers s d) refl)
       where
         go : (b : Bool) → refers s d ≡ b
             → cond b (set (encoded d) column.A (numberFound s es t (encoded d))) (encoded d)
-            ≡ encoded (cond b (withCell column.A (ownOfFirst s (finds s d) ns) d) d)
+            ≡ encoded (cond b (withCell column.A (ownOfFirst s (finds s ns d) ns) d) d)
         go true y = rw (number-found y) (set-encoded d column.A _ refl)
         go false y = refl

@@ -18,6 +18,7 @@ pub mod RowPlaces
 -- What stages leave of rows, and the rule that a ruleref finds (document 02, W-203).
 pub mod Faults
 pub mod RuleNames
+pub mod RuleForms
 -- What demand 3 rests on: the stages in order, and the numbers that questions get.
 pub mod Checks
 pub mod Circles

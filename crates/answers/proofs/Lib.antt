@@ -20,6 +20,7 @@ pub mod Faults
 pub mod RuleNames
 pub mod Forms
 pub mod FoundRules
+pub mod RuleForms
 -- What demand 3 rests on: the stages in order, and the numbers that questions get.
 pub mod Checks
 pub mod Circles

@@ -64,8 +64,8 @@ module _ (s : List ℕ) where
         (numbers-leave (cell column.PARENT) (other-cell column.PARENT (λ q. omega arith)) ns ds)
         d d refl
 
-    pub finds-numbered : (d : Draft) → is code.RULE-REF d ≡ true → any (finds s (withNumbers ns ds) d) (withNumbers ns ds) ≡ any (finds s ds d) ds
-    finds-numbered d r =
+    pub finds-rules : (d : Draft) → is code.RULE-REF d ≡ true → any (finds s (withNumbers ns ds) d) (withNumbers ns ds) ≡ any (finds s ds d) ds
+    finds-rules d r =
         let p = placeOf (d .ownAt) in
         let f = formRound ds d in
         let alike : (e : Draft) (v : ℕ) → ofForm p f (withCell column.OWN v e) ≡ ofForm p f e =

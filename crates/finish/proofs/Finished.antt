@@ -2,11 +2,10 @@
 -- counts the free numbers.
 use Prim.Native.Nat.{ℕ, suc, _+_, _*_, _≤_, _<_}
 use mathlib.Core.Path.{_≡_, refl, sym, ap, ap₂, _∙_}
-use mathlib.Core.Bool.{Bool, true, false, not, cond, _&&_, true≢false}
-use mathlib.Core.List.{List, [], _∷_, _++_, map, append-assoc}
+use mathlib.Core.Bool.{Bool, true, false, cond, or-true, true≢false}
+use mathlib.Core.List.{List, [], _∷_, map}
 use native.Mathlib.Omega.{arith}
-use borrow.Author.Tests.{eqb-true, not-false}
-use lib.Dec.{eqb}
+use borrow.Author.Tests.{eqb-true}
 use lib.ListN.{length, getD, drop, length-set, length-map}
 use lib.Seq.{getD-set-other}
 use Rattle.numbers.specs.Numbers.{numbered, freeCount, usedCount, givenMap, Holds}
@@ -22,9 +21,13 @@ use Rattle.rows.proofs.FlatLaws.{are-rows-map}
 use Rattle.rows.proofs.RunLaws.{length-put, rows-put, put-twice}
 use Rattle.rows.proofs.LaidLaws.{put-cleared}
 use Rattle.answers.specs.Rows.{Draft}
-use Rattle.answers.specs.Stages.{cell, is, asks, writes, any, faultIf, faultsAfter, unfound, ownNumbers, withCell, withNumbers, numberedRows, finds, refers, ownOfFirst, withReferences, settled, finished}
+use Rattle.answers.specs.Stages.{cell, is, asks, writes, any, placeOf, faultsAfter, repeatedNames, ruleNamed, finds, refers, inVain, unfound}
+use Rattle.answers.specs.Stages.{ownNumbers, withCell, withNumbers, numberedRows, ownOfFirst, withReferences, settled, finished}
 use Rattle.answers.specs.Drafts.{encoded, draftsFrom}
-use Rattle.answers.proofs.Settling.{settled-count}
+use Rattle.answers.proofs.Settling.{numbers-leave, settled-count}
+use Rattle.answers.proofs.RuleNames.{Once, same-once, named-once}
+use Rattle.answers.proofs.FoundRules.{rule-numbered, finds-some, finds-rules}
+use Rattle.answers.proofs.Faults.{clean-first}
 use Rattle.drafts.specs.Fits.{FitsCells, AllFit, none-fit, add-fit}
 use Rattle.drafts.specs.Sound.{SoundRow, AllSound, no-rows, add-row, SoundRows}
 use Rattle.names.specs.Names.{findIn, declaresMark, firstRow, Indexes}
@@ -52,12 +55,6 @@ unfolding isQuestion questions member
 rule-ref-not = refl
 
 -- ---- stage 11 passed: every reference finds something
-
--- where a row names nothing in vain, a reference finds something
-finds-some : (s : List ℕ) (all : List Draft) (d : Draft) → inVain s all d ≡ [] → refers s d ≡ true → any (finds s all d) all ≡ true
-finds-some s all d e y =
-    let none = no-fault (refers s d && not (any (finds s all d) all)) (d .ownAt) (append-empty (faultIf _ (d .limitAt)) _ e .1) in
-    not-false (any (finds s all d) all) (sym (ap (λ (b : Bool). b && not (any (finds s all d) all)) y) ∙ none)
 
 pub data AllRefer (s : List ℕ) (ns : List Draft) : List Draft → Type 0 where
   no-references : AllRefer s ns []
@@ -138,7 +135,7 @@ module _ (s : List ℕ) (all ns : List Draft) (written : (k : ℕ) → any (bear
   unfolding withNumbers faultsAfter
   all-refer no-rows own before e = no-references
   all-refer (add-row {d = d} {ds = ds} u r) own before e =
-      let f = append-empty (inVain s all d) _ e in
+      let f = clean-first (inVain s all) d ds before e in
       go (asks d) refl (finds-some s all d (f .0)) (all-refer r own (d ∷ before) (f .1)) (all-refer r (drop 1 own) (d ∷ before) (f .1))
     where
       go : (b : Bool) → asks d ≡ b → (refers s d ≡ true → any (finds s all d) all ≡ true) → AllRefer s ns (withNumbers own ds) → AllRefer s ns (withNumbers (drop 1 own) ds)
@@ -216,14 +213,11 @@ module _ {ds : List Draft} (v : SoundRows ds) (s : List ℕ) (names : repeatedNa
   rows-numbered : rowsFrom t₁ 0 (length (withTheirs ds)) ≡ map encoded (withTheirs ds)
   rows-numbered = rw (← length-map (withTheirs ds) encoded) (rows-held t (are-encoded fit) fewer table-numbered)
 
-  -- rules keep their names, and rulerefs their forms
+  -- rules keep their names
   named : (p : ℕ) → Once (ruleNamed s p) (withTheirs ds)
   named p =
-      same-once (ruleNamed s p) ds (withTheirs ds) (sym (numbers-leave (ruleNamed s p) (λ d x. declares-with d x s (suc p) true) (numbered (ownNumbers ds)) ds))
+      same-once (ruleNamed s p) ds (withTheirs ds) (sym (numbers-leave (ruleNamed s p) (rule-numbered s p) (numbered (ownNumbers ds)) ds))
       (named-once s p ds names)
-
-  rules : (d : Draft) → is code.RULE-REF d ≡ true → any (finds s (withTheirs ds) d) (withTheirs ds) ≡ any (finds s ds d) ds
-  rules d r = {!!}
 
   -- after `resolve_references`
   cells-settled : map (resolved s es t₁) (map encoded (withTheirs ds)) ≡ map encoded (settled s ds)
@@ -233,7 +227,7 @@ module _ {ds : List Draft} (v : SoundRows ds) (s : List ℕ) (names : repeatedNa
       found-encoded s es t₁ (withTheirs ds)
       (λ m rule h. index .finds m rule h ∙ sym (first-with (declaresMark s m rule) (λ d x. declares-with d x s m rule) ds own 0))
       (owns-held fit t₁ 0 rows-numbered)
-      (all-refer s ds (withTheirs ds) (writes-with (v .each) own (numbering (ownNumbers ds) .stands)) named rules (v .each) own [] found)
+      (all-refer s ds (withTheirs ds) (writes-with (v .each) own (numbering (ownNumbers ds) .stands)) named (finds-rules s own ds) (v .each) own [] found)
 
   fit-settled : AllFit (settled s ds)
   unfolding settled withReferences numberedRows

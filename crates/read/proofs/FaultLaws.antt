@@ -50,7 +50,7 @@ module _ (s es ws : List ℕ) (ds : List Draft) where
   ruleMark = firstFault (alone ruleFault) ds
 
   abbrev pub referenceMark : ℕ
-  referenceMark = firstFault (alone (referenceFault s es (mapAfter formNumber emptyMap ds) (mapAfter writtenNumber ws ds))) ds
+  referenceMark = firstFault (alone (referenceFault s es (mapAfter formNumber emptyMap ds) (mapAfter writtenNumber ws ds) ds)) ds
 
   abbrev pub choiceMark : ℕ
   choiceMark = firstFault choiceFault ds
@@ -86,7 +86,7 @@ module _ (s es ws : List ℕ) (ds : List Draft) where
           unfolding firstFaultOf
           rule-fault h g = (g ∙ rw (zero e₇ z₇, zero e₈ z₈, zero e₉ z₉, nonzero e₁₀ h, e₁₀), map-after)
 
-          module _ (z₁₀ : rule ≡ 0) {fs′ : List ℕ} (forms : fs′ ≡ mapAfter formNumber fs ds) {reference : ℕ} (by-11 : reference ≡ firstFault (alone (referenceFault s es fs′ ws′)) ds) where
+          module _ (z₁₀ : rule ≡ 0) {fs′ : List ℕ} (forms : fs′ ≡ mapAfter formNumber fs ds) {reference : ℕ} (by-11 : reference ≡ firstFault (alone (referenceFault s es fs′ ws′ ds)) ds) where
             e₁₁ : reference ≡ referenceMark
             e₁₁ = by-11 ∙ rw (forms, none, written)
 
@@ -142,8 +142,14 @@ module _ {ds : List Draft} (v : SoundRows ds) {s es : List ℕ} (index : Indexes
   abbrev from-8 : Fault
   from-8 = stageFault 8 (questionMark s es emptyMap ds) from-9
 
-  references : formMark s es emptyMap ds ≡ 0 → questionMark s es emptyMap ds ≡ 0 → First (referenceMark s es emptyMap ds) (unfound s ds)
-  references z₇ z₈ = references-first v index (forms-told v z₇) (questions-told v z₈)
+  -- no two rules of one name
+  names : nameMark s es emptyMap ds ≡ 0 → repeatedNames s ds ≡ []
+  names z₉ = first-none (names-first v index) z₉
+
+  references :
+      formMark s es emptyMap ds ≡ 0 → questionMark s es emptyMap ds ≡ 0 → nameMark s es emptyMap ds ≡ 0
+      → First (referenceMark s es emptyMap ds) (unfound s ds)
+  references z₇ z₈ z₉ = references-first v index (forms-told v z₇) (questions-told v z₈) (names z₉)
 
   -- the first fault is the answer of document 01's stages
   pub stages-answer : (a : Answer) → answered (firstFaultOf s es emptyMap ds) a ≡ stage 7 (repeatedForms ds) (stage 8 (repeatedQuestions ds) (stage 9 (repeatedNames s ds) (stage 10 (rulesOverLimit ds) (stage 11 (unfound s ds) (stage 12 (badChoices ds) a)))))
@@ -153,12 +159,13 @@ module _ {ds : List Draft} (v : SoundRows ds) {s es : List ℕ} (index : Indexes
       step 8 (questionMark s es emptyMap ds) from-9 a _ (λ z. omega arith) (questions-first v) (λ z₈.
       step 9 (nameMark s es emptyMap ds) from-10 a _ (λ z. omega arith) (names-first v index) (λ z₉.
       step 10 (ruleMark s es emptyMap ds) from-11 a _ (λ z. omega arith) (rules-first v) (λ z₁₀.
-      step 11 (referenceMark s es emptyMap ds) from-12 a _ (λ z. omega arith) (references z₇ z₈) (λ z₁₁.
+      step 11 (referenceMark s es emptyMap ds) from-12 a _ (λ z. omega arith) (references z₇ z₈ z₉) (λ z₁₁.
       step 12 (choiceMark s es emptyMap ds) noFault a a (λ z. omega arith) (choices-first v) (λ z₁₂. refl))))))
 
-  -- where there is none, every reference finds something and the map has the written numbers
+  -- where there is none, no two rules have one name, every reference finds something and the map has the written numbers
   pub record Passed : Type 0 where
     pub forms : formMark s es emptyMap ds ≡ 0
+    pub named : repeatedNames s ds ≡ []
     pub found : unfound s ds ≡ []
     pub holds : Holds (mapAfter writtenNumber emptyMap ds) (ownNumbers ds)
 
@@ -172,6 +179,7 @@ module _ {ds : List Draft} (v : SoundRows ds) {s es : List ℕ} (index : Indexes
       let p₁₁ = passed 11 (referenceMark s es emptyMap ds) from-12 (λ z. omega arith) (p₁₀ .1) in
       record {
         forms = p₇ .0;
-        found = first-none (references (p₇ .0) (p₈ .0)) (p₁₁ .0);
+        named = names (p₉ .0);
+        found = first-none (references (p₇ .0) (p₈ .0) (p₉ .0)) (p₁₁ .0);
         holds = written-held v (questions-told v (p₈ .0));
       }

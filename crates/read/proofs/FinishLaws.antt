@@ -54,7 +54,7 @@ module _ {s xs t : List ℕ} {count : ℕ} (pre : Drafted t count) (index : Inde
     unfolding writtenAfter
     ready e =
         let p = stages-passed (pre .sound) index (rw (← fault-is) z) in
-        record { drafted = pre; index = index; found = p .found; written = rw (e, none, eq-eqb _ 0 (p .forms)) (p .holds) }
+        record { drafted = pre; index = index; named = p .named; found = p .found; written = rw (e, none, eq-eqb _ 0 (p .forms)) (p .holds) }
 
     past-12 : answerPast12 s ds ≡ answerOf s ds (length t / ROW)
     past-12 = sym (answer-is ∙ rw (eq-eqb (f .number) 0 z))

@@ -12,7 +12,7 @@ use Rattle.rows.specs.Table.{wholeRows}
 use Rattle.rows.specs.Rows.{rowsFrom, laid}
 use Rattle.answers.specs.Rows.{Draft}
 use Rattle.answers.specs.Drafts.{encoded, draftsFrom}
-use Rattle.answers.specs.Stages.{unfound, ownNumbers, finished}
+use Rattle.answers.specs.Stages.{repeatedNames, unfound, ownNumbers, finished}
 use Rattle.answers.specs.Answer.{Answer, answerPast12, answerOf}
 use Rattle.drafts.specs.Sound.{SoundRows}
 use Rattle.names.specs.Names.{namesIn, Indexes}
@@ -33,6 +33,7 @@ pub record Drafted (t : List ℕ) (count : ℕ) : Type 0 where
 pub record Ready (s es ws t : List ℕ) (count : ℕ) : Type 0 where
   pub drafted : Drafted t count
   pub index : Indexes s (draftsFrom t 0 count) es
+  pub named : repeatedNames s (draftsFrom t 0 count) ≡ []
   pub found : unfound s (draftsFrom t 0 count) ≡ []
   pub written : Holds ws (ownNumbers (draftsFrom t 0 count))
 

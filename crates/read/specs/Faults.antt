@@ -34,7 +34,7 @@ firstFaultOf s es ws ds =
     (stageFault 8 (repeatedMark writtenNumber ws ds)
     (stageFault 9 (repeatedFrom s es 0 ds)
     (stageFault 10 (firstFault (alone ruleFault) ds)
-    (stageFault 11 (firstFault (alone (referenceFault s es forms written)) ds)
+    (stageFault 11 (firstFault (alone (referenceFault s es forms written ds)) ds)
     (stageFault 12 (firstFault choiceFault ds) noFault)))))
 
 -- the map after them: with the written question numbers up to the first repeated one, where no form number is repeated

@@ -17,7 +17,7 @@ use Rattle.answers.specs.Stages.{cell, is, rowAmong, formFrom, formRound
 use Rattle.answers.specs.Forms.{columnOf, StandsIn, directly, within}
 
 -- an element of a list's image, also past the end
-map-getD : {A B : Type 0} (f : A → B) (l : List A) (i : ℕ) (x : A) → getD (map f l) i (f x) ≡ f (getD l i x)
+pub map-getD : {A B : Type 0} (f : A → B) (l : List A) (i : ℕ) (x : A) → getD (map f l) i (f x) ≡ f (getD l i x)
 map-getD f [] i x = refl
 map-getD f (a ∷ l) zero x = refl
 map-getD f (a ∷ l) (suc i) x = map-getD f l i x

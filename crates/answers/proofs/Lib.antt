@@ -1,5 +1,7 @@
 -- Demand 3 as theorems of the definitions.
 pub mod Demand3
+-- Document 02's W-203.
+pub mod OwnForm
 -- Decided points of document 01, by computation.
 pub mod Computed
 pub mod Decided

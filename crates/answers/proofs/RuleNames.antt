@@ -4,16 +4,17 @@
 use mathlib.Core.Path.{_≡_, refl, sym, ap₂, _∙_}
 use mathlib.Core.List.{List, [], _∷_, map}
 use mathlib.Core.Bool.{Bool, true, false, cond, _&&_, _||_, or-true, true≢false}
-use Prim.Native.Nat.{ℕ}
+use Prim.Native.Nat.{ℕ, zero, suc, _<_}
+use native.Mathlib.Omega.{arith}
 use lib.Dec.{ltb}
-use Rattle.lexemes.specs.Words.{sameWord}
+use lib.ListN.{length}
 use Rattle.lexemes.proofs.Lists.{either, and-true}
 use Rattle.lexemes.proofs.Equality.{same-word-true, eq-same-word}
 use Rattle.rows.specs.Codes as code
 use Rattle.rows.specs.Columns as column
 use Rattle.ll1.proofs.Basics.{clash, append-empty}
 use Rattle.answers.specs.Rows.{Draft}
-use Rattle.answers.specs.Stages.{cell, is, asks, any, faultIf, faultsAfter, placeOf, sameSort, declares, ruleNamed, repeatedNames, ownOfFirst}
+use Rattle.answers.specs.Stages.{cell, is, asks, any, faultIf, faultsAfter, placeOf, sameSort, declares, rowAmong, ruleNamed, repeatedNames, ownOfFirst}
 use Rattle.answers.proofs.Faults.{no-fault}
 
 -- ---- a test that at most one row passes
@@ -21,6 +22,13 @@ use Rattle.answers.proofs.Faults.{no-fault}
 abbrev pub Once : (Draft → Bool) → List Draft → Type 0
 Once p [] = Unit {0}
 Once p (d ∷ ds) = (p d ≡ true → any p ds ≡ false) × Once p ds
+
+-- a row that passes the test
+any-row : (p : Draft → Bool) (ds : List Draft) (j : ℕ) → j < length ds → p (rowAmong ds j) ≡ true → any p ds ≡ true
+unfolding any
+any-row p [] j h x = absurd (omega arith)
+any-row p (d ∷ ds) zero h x = rw x
+any-row p (d ∷ ds) (suc j) h x = rw (any-row p ds j (omega arith) x) (or-true (p d))
 
 module _ (p q : Draft → Bool) where
   -- a row that passes two tests passes the first
@@ -46,6 +54,18 @@ module _ (p q : Draft → Bool) where
       go true e true f h = refl
       go true e false f h = absurd (true≢false (sym h ∙ any-first ds (o .0 e)))
       go false e c f h = f h
+
+  -- and where that one fails the second, none passes both
+  pub any-only :
+      (ds : List Draft) → Once p ds → (j : ℕ) → j < length ds → p (rowAmong ds j) ≡ true → q (rowAmong ds j) ≡ false → any (λ e. p e && q e) ds ≡ false
+  unfolding any
+  any-only [] o j h x y = absurd (omega arith)
+  any-only (d ∷ ds) o zero h x y = rw (x, y) (any-first ds (o .0 x))
+  any-only (d ∷ ds) o (suc j) h x y = go (p d) refl (any-only ds (o .1) j (omega arith) x y)
+    where
+      go : (b : Bool) → p d ≡ b → any (λ e. p e && q e) ds ≡ false → (b && q d || any (λ e. p e && q e) ds) ≡ false
+      go true e f = absurd (true≢false (sym (any-row p ds j (omega arith) x) ∙ o .0 e))
+      go false e f = f
 
 -- rows of which a test says the same
 pub same-any : (p : Draft → Bool) (ds es : List Draft) → map p ds ≡ map p es → any p ds ≡ any p es

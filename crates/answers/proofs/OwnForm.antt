@@ -1,0 +1,116 @@
+-- Document 02's W-203: a rule belongs to its form. The terms are those of `specs/Forms`.
+-- Assumes nothing.
+use Prim.Native.Nat.{ℕ, _<_}
+use native.Mathlib.Omega.{arith}
+use mathlib.Core.Path.{_≡_, refl, sym, ap, _∙_}
+use mathlib.Core.Logic.{_≢_}
+use mathlib.Core.Bool.{true, false, not, _&&_, or-true}
+use mathlib.Core.List.{List, [], _∷_, map}
+use lib.ListN.{length, getD}
+use borrow.Author.Tests.{eqb-true, eq-eqb, ne-eqb}
+use Rattle.lexemes.proofs.Lists.{and-true}
+use Rattle.rows.specs.Codes as code
+use Rattle.rows.specs.Columns as column
+use Rattle.ll1.specs.Trees.{Trees}
+use Rattle.grammar.specs.Derivation.{Derives, NowhereTooDeep}
+use Rattle.grammar.specs.Source.{sourceTokens}
+use Rattle.answers.specs.Rows.{Draft}
+use Rattle.answers.specs.Stages.{cell, is, any, placeOf, rowAmong, formRound, ruleNamed, finds, inVain, repeatedNames, unfound, draftRows, finished}
+use Rattle.answers.specs.Answer.{refuses, drafts}
+use Rattle.answers.specs.WholeAnswer.{readAnswer}
+use Rattle.answers.specs.Demand3.{Sound, Passes, to-9, to-10, Refuses, nothing-found}
+use Rattle.answers.specs.Forms.{columnOf, StandsIn, OfItsForm, Stray}
+use Rattle.answers.proofs.Answers.{passes-grammatical, refused-answer}
+use Rattle.answers.proofs.Demand3.{rows-whole}
+use Rattle.answers.proofs.Faults.{fault-first}
+use Rattle.answers.proofs.FoundRows.{finished-column, finished-count}
+use Rattle.answers.proofs.FoundRules.{ofForm, finds-rule, found-rule}
+use Rattle.answers.proofs.Forms.{map-getD, column-is, stands-once, stands-same, parent-stands, round-stands}
+use Rattle.answers.proofs.RuleForms.{RuleForms, rule-forms}
+use Rattle.answers.proofs.RuleNames.{any-only, named-once}
+
+-- ---- finished rows stand where their drafts do
+
+module _ (s : List ℕ) (ds : List Draft) where
+  column-same : (c : ℕ) → c ≢ column.OWN → c ≢ column.A → (p : ℕ) → columnOf (draftRows ds) c p ≡ columnOf (finished s ds) c p
+  column-same c own a p =
+      sym (map-getD (λ (r : List ℕ). getD r c 0) (draftRows ds) p [])
+      ∙ ap (λ (l : List ℕ). getD l p 0) (of-drafts ds ∙ sym (finished-column s ds c own a))
+      ∙ map-getD (λ (r : List ℕ). getD r c 0) (finished s ds) p []
+    where
+      of-drafts : (ds : List Draft) → map (λ (r : List ℕ). getD r c 0) (draftRows ds) ≡ map (cell c) ds
+      of-drafts [] = refl
+      of-drafts (d ∷ ds) = ap (_∷_ (cell c d)) (of-drafts ds)
+
+  finished-stands : {f i : ℕ} → StandsIn (draftRows ds) f i → StandsIn (finished s ds) f i
+  finished-stands = stands-same (column-same column.CODE (λ q. omega arith) (λ q. omega arith)) (column-same column.PARENT (λ q. omega arith) (λ q. omega arith))
+
+module _ (s : List ℕ) (tree : Trees) (derives : Derives (sourceTokens s) tree) (depths : NowhereTooDeep tree) where
+  abbrev ds : List Draft
+  ds = drafts s tree
+
+  forms : RuleForms ds
+  forms = rule-forms s tree derives depths
+
+  -- the code of a finished row is its draft's
+  code-of : (i : ℕ) {k : ℕ} → columnOf (finished s ds) column.CODE i ≡ k → is k (rowAmong ds i) ≡ true
+  code-of i {k} e =
+      eq-eqb _ k (sym (column-is ds column.CODE i) ∙ column-same s ds column.CODE (λ q. omega arith) (λ q. omega arith) i ∙ e)
+
+  -- ---- where stage 11 finds no fault
+
+  -- every ruleref has the number of a rule of its own form
+  pub of-its-form : unfound s ds ≡ [] → (i : ℕ) → i < length ds → columnOf (finished s ds) column.CODE i ≡ code.RULE-REF → OfItsForm (finished s ds) i
+  of-its-form found i h c =
+      let f = found-rule s ds found (rows-whole s tree derives) i h c in
+      record {
+        rule = f .at;
+        form = formRound ds (rowAmong ds i);
+        inside = omega (arith, f .inside, finished-count s ds);
+        is-rule = f .code-is;
+        number = f .own-is;
+        rule-stands =
+            finished-stands s ds (rw (← f .parent-is) (parent-stands ds (f .at) (forms .of-rule (f .at) (f .inside) (code-of (f .at) (f .code-is)))));
+        reference-stands = finished-stands s ds (round-stands ds i (forms .of-reference i h (code-of i c)));
+      }
+
+  -- ---- a ruleref whose rule stands in another form
+
+  module _ (names : repeatedNames s ds ≡ []) {i : ℕ} (h : i < length ds) (v : Stray s ds i) where
+    abbrev d : Draft
+    d = rowAmong ds i
+
+    -- the rule's parent is the other form
+    not-there : cell column.PARENT (rowAmong ds (v .rule)) ≢ formRound ds d
+    not-there e =
+        let rule = and-true (is code.RULE (rowAmong ds (v .rule))) _ (v .names-it) .0 in
+        let other = stands-once (parent-stands ds (v .rule) (forms .of-rule (v .rule) (v .inside) rule)) (v .rule-stands) in
+        let form = stands-once (round-stands ds i (forms .of-reference i h (v .is-reference))) (v .reference-stands) in
+        v .apart (sym form ∙ sym e ∙ other)
+
+    nothing : any (finds s ds d) ds ≡ false
+    nothing =
+        ap (λ (p : Draft → _). any p ds) (finds-rule s ds d (v .is-reference))
+        ∙ any-only (ruleNamed s (placeOf (d .ownAt))) _ ds (named-once s (placeOf (d .ownAt)) ds names) (v .rule) (v .inside) (v .names-it) (ne-eqb _ _ not-there)
+
+    -- names it in vain
+    pub stray-vain : inVain s ds d ≡ d .ownAt ∷ []
+    stray-vain =
+        let k : cell column.CODE d ≡ code.RULE-REF = eqb-true (cell column.CODE d) code.RULE-REF (v .is-reference) in
+        rw (nothing, k)
+
+-- "11 is now also given where the rule stands in another form": at that name, unless an earlier stage refuses, or an earlier row names something in vain
+pub stray-refused :
+    {s : List ℕ} {n : ℕ} {tree : Trees}
+    → Passes s n tree 10 → {i : ℕ} → i < length (drafts s tree) → Stray s (drafts s tree) i
+    → ((j : ℕ) → j < i → inVain s (drafts s tree) (rowAmong (drafts s tree) j) ≡ [])
+    → readAnswer s n ≡ refuses 11 (placeOf (rowAmong (drafts s tree) i .ownAt))
+unfolding unfound
+stray-refused {s} {n} {tree} p {i} h v before =
+    let g = passes-grammatical p in
+    let vain = stray-vain s tree (g .derives) (g .depths) (names p) h v in
+    let first = fault-first (inVain s (drafts s tree)) (drafts s tree) [] i h before vain in
+    refused-answer s n (nothing-found p (first .1))
+  where
+    names : Passes s n tree 10 → repeatedNames s (drafts s tree) ≡ []
+    names (to-10 (to-9 q e) f) = e

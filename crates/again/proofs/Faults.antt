@@ -7,13 +7,9 @@ use Prim.Native.Nat.{ℕ}
 use Rattle.ll1.proofs.Basics.{clash, append-empty}
 use Rattle.answers.specs.Rows.{Draft}
 use Rattle.answers.specs.Stages.{faultIf, faultsAfter}
+use Rattle.answers.proofs.Faults.{no-fault}
 use Rattle.sound.proofs.Lists.{All, none, more}
 use Rattle.again.specs.Matches.{Pairs, no-pairs, pair}
-
--- a fault's test
-pub no-fault : (b : Bool) (m : ℕ) → faultIf b m ≡ [] → b ≡ false
-no-fault true m e = clash cc
-no-fault false m e = refl
 
 -- two faults
 pub no-faults : (a b : Bool) (m n : ℕ) → faultIf a m ++ faultIf b n ≡ [] → (a ≡ false) × (b ≡ false)

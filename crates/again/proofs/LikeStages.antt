@@ -13,7 +13,8 @@ use Rattle.grammar.specs.Parts.{mark}
 use Rattle.answers.specs.Stages.{cell, is, any, faultIf, repeatedForms, rulesOverLimit, badChoices, below, outside, beside, numericFaults, optionFaults}
 use Rattle.again.specs.Matches.{Pairs, no-pairs}
 use Rattle.again.proofs.Lists.{any-pairs}
-use Rattle.again.proofs.Faults.{no-fault, no-faults, clean-like}
+use Rattle.answers.proofs.Faults.{no-fault}
+use Rattle.again.proofs.Faults.{no-faults, clean-like}
 use Rattle.again.proofs.NumberedDrafts.{form-not, rule-not}
 use Rattle.again.proofs.Likeness.{Like, is-same, own-of, a-of}
 

@@ -17,14 +17,15 @@ use Rattle.rows.specs.Codes.{isQuestion, questions, member}
 use Rattle.rows.specs.Columns as column
 use Rattle.ll1.proofs.Basics.{or-right}
 use Rattle.answers.specs.Rows.{Draft}
-use Rattle.answers.specs.Stages.{cell, is, asks, writes, any, placeOf, ownNumbers, withCell, withNumbers, declares, finds, ownOfFirst}
+use Rattle.answers.specs.Stages.{cell, is, asks, writes, any, placeOf, ownNumbers, withCell, withNumbers, declares, formRound, ruleNamed, finds, ownOfFirst}
+use Rattle.answers.proofs.FoundRules.{round-numbered, finds-rules}
 use Rattle.drafts.specs.Sound.{SoundRow, AllSound}
 use Rattle.drafts.proofs.RowTests.{any-same, other-code}
 use Rattle.stages.proofs.RepeatFaults.{bears}
 use Rattle.finish.proofs.NumberedRows.{other-column, writes-with}
 use Rattle.sound.proofs.Lists.{All, none, more}
 use Rattle.again.specs.Matches.{Pairs, no-pairs, pair}
-use Rattle.again.specs.RuleNumbers.{ruleNumbers}
+use Rattle.again.specs.RuleNumbers.{ownsOf, ruleOf}
 use Rattle.again.proofs.Lists.{sound-each, any-pairs}
 use Rattle.again.proofs.Owns.{owns-questions, owns-like, first-owns}
 
@@ -126,48 +127,55 @@ module _ (s : List ℕ) {ds : List Draft} (each : AllSound ds) (own : Own (numbe
   sort-asks : (d : Draft) (v : ℕ) → asks (withCell column.OWN v d) ≡ asks d
   sort-asks d v = rw (other-column d v column.CODE (λ z. omega arith))
 
-  sort-rule : (d : Draft) (v : ℕ) → is code.RULE (withCell column.OWN v d) ≡ is code.RULE d
-  sort-rule d v = rw (other-column d v column.CODE (λ z. omega arith))
-
   -- a reference finds among them what it finds among the drafts
-  finds-with : (d : Draft) → any (finds s d) ws ≡ any (finds s d) ds
+  finds-with : (d : Draft) → any (finds s ws d) ws ≡ any (finds s ds d) ds
   finds-with d =
       either (is code.RULE-REF d)
-      (λ e. go (named s (d .ownAt) (is code.RULE)) (λ x. rw e) (sym (any-pairs _ _ (named-same s (d .ownAt) (is code.RULE) sort-rule) all-bear)))
+      (λ e. finds-rules s ns ds d e)
       (λ e.
       either (ltb 0 (cell column.A d))
-      (λ l. go (bears writes (cell column.A d)) (λ x. rw (e, l)) (writes-with each ns (numbering (ownNumbers ds) .stands) (cell column.A d)))
-      (λ l. go (named s (d .ownAt) asks) (λ x. rw (e, l)) (sym (any-pairs _ _ (named-same s (d .ownAt) asks sort-asks) all-bear))))
+      (λ l. go (bears writes (cell column.A d)) (λ x. rw (e, l)) (λ x. rw (e, l)) (writes-with each ns (numbering (ownNumbers ds) .stands) (cell column.A d)))
+      (λ l. go (named s (d .ownAt) asks) (λ x. rw (e, l)) (λ x. rw (e, l)) (sym (any-pairs _ _ (named-same s (d .ownAt) asks sort-asks) all-bear))))
     where
-      go : (p : Draft → Bool) → ((x : Draft) → finds s d x ≡ p x) → any p ws ≡ any p ds → any (finds s d) ws ≡ any (finds s d) ds
-      go p h e = any-same (finds s d) p h ws ∙ e ∙ sym (any-same (finds s d) p h ds)
+      go :
+          (p : Draft → Bool) → ((x : Draft) → finds s ws d x ≡ p x) → ((x : Draft) → finds s ds d x ≡ p x) → any p ws ≡ any p ds
+          → any (finds s ws d) ws ≡ any (finds s ds d) ds
+      go p h k e = any-same (finds s ws d) p h ws ∙ e ∙ sym (any-same (finds s ds d) p k ds)
 
-  module _ (d : Draft) (found : any (finds s d) ds ≡ true) where
-    among : any (finds s d) ws ≡ true
+  module _ (d : Draft) (found : any (finds s ds d) ds ≡ true) where
+    among : any (finds s ws d) ws ≡ true
     among = finds-with d ∙ found
 
     -- a questionref finds the number of a question
-    pub finds-question : is code.QUESTION-REF d ≡ true → mem (ownOfFirst s (finds s d) ws) ns ≡ true
+    pub finds-question : is code.QUESTION-REF d ≡ true → mem (ownOfFirst s (finds s ws d) ws) ns ≡ true
     finds-question e =
-        let asked = first-owns s (finds s d) asks (λ x h. asking x (other-code d code.QUESTION-REF code.RULE-REF e refl) h) ws among in
+        let asked = first-owns s (finds s ws d) asks (λ x h. asking x (other-code d code.QUESTION-REF code.RULE-REF e refl) h) ws among in
         rw (owns-questions ws, gives-numbers (sound-each each) all-given) at asked
       where
-        asking : (x : Draft) → is code.RULE-REF d ≡ false → finds s d x ≡ true → asks x ≡ true
+        asking : (x : Draft) → is code.RULE-REF d ≡ false → finds s ws d x ≡ true → asks x ≡ true
         asking x r h =
             either (ltb 0 (cell column.A d))
             (λ l. and-true (asks x) (ltb 0 (x .ownAt)) (and-true (writes x) _ (rw (r, l) at h) .0) .0)
             (λ l. and-true (asks x) _ (rw (r, l) at h) .0)
 
-    -- a ruleref that of a rule
-    pub finds-rule : is code.RULE-REF d ≡ true → mem (ownOfFirst s (finds s d) ws) (ruleNumbers ds) ≡ true
+    -- a ruleref that of a rule of the form that it stands in
+    pub finds-rule : is code.RULE-REF d ≡ true → mem (ownOfFirst s (finds s ws d) ws) (ownsOf (ruleOf (formRound ds d)) ds) ≡ true
     finds-rule e =
-        let ruled = first-owns s (finds s d) (is code.RULE) (λ x h. and-true (is code.RULE x) _ (rw e at h) .0) ws among in
-        rw (← owns-like {P = Bears} (is code.RULE) (is code.RULE) same-rule same-own all-bear) at ruled
+        let f = formRound ds d in
+        let ruled = first-owns s (finds s ws d) (ruleOf f) ruling ws among in
+        rw (← owns-like {P = Bears} (ruleOf f) (ruleOf f) (same-rule f) (same-own f) all-bear) at ruled
       where
-        same-rule : (x y : Draft) → Bears x y → is code.RULE x ≡ is code.RULE y
-        same-rule x y (got v q n) = sym (sort-rule x v)
-        same-rule x y (kept q) = refl
+        ruling : (x : Draft) → finds s ws d x ≡ true → ruleOf (formRound ds d) x ≡ true
+        ruling x h =
+            let both = and-true (ruleNamed s (placeOf (d .ownAt)) x) _ (rw e at h) in
+            rw (and-true (is code.RULE x) _ (both .0) .0, ← round-numbered s ns ds d) (both .1)
 
-        same-own : (x y : Draft) → Bears x y → is code.RULE y ≡ true → cell column.OWN x ≡ cell column.OWN y
-        same-own x y (got v q n) h = absurd (true≢false (sym h ∙ sort-rule x v ∙ asks-other code.RULE rule-not x q))
-        same-own x y (kept q) h = refl
+        same-rule : (f : ℕ) (x y : Draft) → Bears x y → ruleOf f x ≡ ruleOf f y
+        same-rule f x y (got v q n) = rw (other-column x v column.CODE (λ z. omega arith), other-column x v column.PARENT (λ z. omega arith))
+        same-rule f x y (kept q) = refl
+
+        same-own : (f : ℕ) (x y : Draft) → Bears x y → ruleOf f y ≡ true → cell column.OWN x ≡ cell column.OWN y
+        same-own f x y (got v q n) h =
+            let rule = and-true (is code.RULE x) _ (same-rule f x y (got v q n) ∙ h) .0 in
+            absurd (true≢false (sym rule ∙ asks-other code.RULE rule-not x q))
+        same-own f x y (kept q) h = refl

@@ -57,6 +57,19 @@ owns-like p q f g no-pairs = refl
 owns-like p q f g (pair {a = d} {b = e} {xs = ds} {ys = es} h r) =
     rw (f d e h, owns-like p q f g r) (either (q e) (λ y. rw (y, g d e h y)) (λ y. rw y))
 
+-- numbers of rows that pass a test are of rows that pass a wider one
+pub owns-wider : (p q : Draft → Bool) → ((d : Draft) → p d ≡ true → q d ≡ true) → (ds : List Draft) (k : ℕ) → mem k (ownsOf p ds) ≡ true → mem k (ownsOf q ds) ≡ true
+unfolding ownsOf mem
+owns-wider p q f [] k h = clash cc
+owns-wider p q f (d ∷ ds) k h =
+    either (p d)
+    (λ e.
+    rw (f d e)
+    (either (eqb k (cell column.OWN d)) (λ g. rw g) (λ g. rw g (owns-wider p q f ds k (rw (e, g) at h)))))
+    (λ e.
+    let later = owns-wider p q f ds k (rw e at h) in
+    either (q d) (λ y. rw (y, later) (or-true (eqb k (cell column.OWN d)))) (λ y. rw y later))
+
 -- some row passes a test exactly where its number is there, if the test is of the number alone
 pub some-bears : (p q : Draft → Bool) (k : ℕ) {ds : List Draft} → All (λ d. p d ≡ true → cell column.OWN d ≡ k → q d ≡ true) ds → mem k (ownsOf p ds) ≡ true → any q ds ≡ true
 unfolding ownsOf mem any

@@ -26,7 +26,7 @@ use Rattle.answers.proofs.QuestionNumbers.{questions-few}
 use Rattle.answers.proofs.Demand3.{rows-few}
 use Rattle.drafts.specs.Sound.{SoundRow, AllSound, no-rows, add-row}
 use Rattle.stages.proofs.RepeatFaults.{bears}
-use Rattle.again.proofs.Faults.{no-fault}
+use Rattle.answers.proofs.Faults.{no-fault}
 
 -- ---- the list of own numbers, row by row
 

@@ -18,12 +18,11 @@ use Rattle.grammar.specs.Grammar.{rules}
 use Rattle.grammar.specs.Derivation.{Derives}
 use Rattle.grammar.specs.Source.{sourceTokens, numberAt}
 use Rattle.grammar.specs.Parts.{child}
-use Rattle.answers.specs.Expression.{Operator, or, and, bit-or, bit-and, equal, not-equal, less, less-equal, greater, greater-equal, shift-left, shift-right, add, subtract, multiply, divide, modulo, operatorCode}
-use Rattle.answers.specs.Expression.{Constant, true′, false′, zero′, one′, ones′, undefined′, constantCode}
 use Rattle.answers.specs.Expression.{Expression, number, constant, question-named, question-numbered, rule-named, negation, binary, expression}
 use Rattle.answers.specs.Rows.{Draft, rulesIn, item, operand, expressionRows, condition, otherwise, ownRows, draftsOf}
 use Rattle.answers.specs.Stages.{is}
 use Rattle.answers.specs.Answer.{drafts}
+use Rattle.answers.proofs.RuleForms.{operator-no-rule, constant-no-rule}
 use Rattle.grammar.proofs.Alternatives.{everywhere, at-alternative}
 use Rattle.sound.proofs.Lists.{apart}
 use Rattle.again.proofs.Owns.{owns-append}
@@ -46,33 +45,6 @@ from-above (one-more {n = n} {l = l} p) k h =
 
 -- ---- rows that are no rules
 
-operator-other : (o : Operator) → eqb (operatorCode o) code.RULE ≡ false
-operator-other or = refl
-operator-other and = refl
-operator-other bit-or = refl
-operator-other bit-and = refl
-operator-other equal = refl
-operator-other not-equal = refl
-operator-other less = refl
-operator-other less-equal = refl
-operator-other greater = refl
-operator-other greater-equal = refl
-operator-other shift-left = refl
-operator-other shift-right = refl
-operator-other add = refl
-operator-other subtract = refl
-operator-other multiply = refl
-operator-other divide = refl
-operator-other modulo = refl
-
-constant-other : (c : Constant) → eqb (constantCode c) code.RULE ≡ false
-constant-other true′ = refl
-constant-other false′ = refl
-constant-other zero′ = refl
-constant-other one′ = refl
-constant-other ones′ = refl
-constant-other undefined′ = refl
-
 module _ (value : ℕ → ℕ) where
   abbrev None : List Draft → Type 0
   None ds = ruleNumbers ds ≡ []
@@ -86,14 +58,14 @@ module _ (value : ℕ → ℕ) where
 
   expression-none : (parent : ℕ) (e : Expression) → None (expressionRows value parent e)
   expression-none parent (number p) = operand-none parent _ _ p _ refl
-  expression-none parent (constant c p) = operand-none parent _ _ p _ (constant-other c)
+  expression-none parent (constant c p) = operand-none parent _ _ p _ (constant-no-rule c)
   expression-none parent (question-named p q) = operand-none parent _ _ p _ refl
   expression-none parent (question-numbered p q) = operand-none parent _ _ p _ refl
   expression-none parent (rule-named p q) = operand-none parent _ _ p _ refl
   expression-none parent (negation p e) = none-append (expressionRows value parent e) _ (expression-none parent e) (operand-none parent _ _ p _ refl)
   expression-none parent (binary o p l r) =
       none-append (expressionRows value parent l) _ (expression-none parent l)
-      (none-append (expressionRows value parent r) _ (expression-none parent r) (operand-none parent _ _ p _ (operator-other o)))
+      (none-append (expressionRows value parent r) _ (expression-none parent r) (operand-none parent _ _ p _ (operator-no-rule o)))
 
   item-other : (parent i : ℕ) (c : Trees) → is code.RULE (item value parent i c) ≡ false
   item-other parent zero c = refl

@@ -9,7 +9,7 @@ use lib.Dec.{eqb, ltb}
 use lib.ListN.{length, getD, set}
 use lib.Seq.{getD-set-same, set-getD}
 use borrow.Author.Tests.{ltb-false}
-use Rattle.lexemes.proofs.Lists.{either}
+use Rattle.lexemes.proofs.Lists.{either, and-true}
 use Rattle.numbers.specs.Numbers.{isNumber, mem, numbered}
 use Rattle.numbers.proofs.FreeNumbers.{number-range}
 use Rattle.numbers.proofs.Numbering.{Own}
@@ -18,7 +18,7 @@ use Rattle.rows.specs.Columns as column
 use Rattle.ll1.specs.Trees.{Trees}
 use Rattle.answers.specs.Rows.{Draft}
 use Rattle.grammar.specs.Parts.{mark}
-use Rattle.answers.specs.Stages.{cell, is, asks, any, faultIf, rulesOverLimit, unfound, ownNumbers, withCell, numberedRows, finds, refers, ownOfFirst, finished}
+use Rattle.answers.specs.Stages.{cell, is, asks, any, faultIf, rulesOverLimit, unfound, ownNumbers, withCell, numberedRows, formRound, finds, refers, ownOfFirst, finished}
 use Rattle.answers.specs.Answer.{LONGEST, drafts}
 use Rattle.answers.specs.Text.{rowFirstAt}
 use Rattle.answers.specs.Demand3 as Demand3
@@ -29,10 +29,11 @@ use Rattle.sound.proofs.DraftsSound.{drafts-sound}
 use Rattle.answers.proofs.RowPlaces.{rows-by-place}
 use Rattle.answers.proofs.Settling.{finished-numbered}
 use Rattle.again.specs.Matches.{Pairs, Settled}
-use Rattle.again.specs.RuleNumbers.{ruleNumbers}
+use Rattle.again.specs.RuleNumbers.{ownsOf, ruleNumbers, ruleOf}
 use Rattle.again.proofs.Lists.{all-then, all-with, sound-each, pairs-first, pairs-alike, firsts}
-use Rattle.again.proofs.Faults.{no-fault, no-faults, passed, each-clean}
-use Rattle.again.proofs.Owns.{owns-each}
+use Rattle.answers.proofs.Faults.{no-fault}
+use Rattle.again.proofs.Faults.{no-faults, passed, each-clean}
+use Rattle.again.proofs.Owns.{owns-each, owns-wider}
 use Rattle.again.proofs.RuleNumbers.{from-above, rules-count}
 use Rattle.again.proofs.Questions.{own-numbers}
 use Rattle.again.proofs.NumberedDrafts.{asks-other, question-ref-not, rule-ref-not, Bears, got, kept, ws, all-bear, finds-question, finds-rule}
@@ -109,7 +110,7 @@ rules-few ds e = owns-each (is code.RULE) (λ k. k < 256) (rules-below ds e)
 -- each goto and each reference finds something
 pub record Finds (s : List ℕ) (ds : List Draft) (d : Draft) : Type 0 where
   pub form : is code.GOTO d ≡ true → any (λ e. is code.FORM e && eqb (cell column.OWN e) (cell column.A d)) ds ≡ true
-  pub target : refers s d ≡ true → any (finds s d) ds ≡ true
+  pub target : refers s d ≡ true → any (finds s ds d) ds ≡ true
 
 pub all-find : (s : List ℕ) (ds : List Draft) → unfound s ds ≡ [] → All (Finds s ds) ds
 unfolding unfound
@@ -117,10 +118,10 @@ all-find s ds e = all-then (λ d h. let t = no-faults _ _ (d .limitAt) (d .ownAt
 
 -- ---- an accepted source
 
--- the number that a reference has found is a question's, or a rule's
+-- the number that a reference has found is a question's, or that of a rule of the form that it stands in
 pub record Resolved (look : ℕ → List ℕ) (ds : List Draft) (d : Draft) : Type 0 where
   pub question : is code.QUESTION-REF d ≡ true → mem (getD (look (cell column.PLACE d)) column.A 0) (numbered (ownNumbers ds)) ≡ true
-  pub rule : is code.RULE-REF d ≡ true → mem (getD (look (cell column.PLACE d)) column.A 0) (ruleNumbers ds) ≡ true
+  pub rule : is code.RULE-REF d ≡ true → mem (getD (look (cell column.PLACE d)) column.A 0) (ownsOf (ruleOf (formRound ds d)) ds) ≡ true
 
 module _ (s : List ℕ) (tree : Trees) (sound : Demand3.Sound s tree) (short : length s ≤ LONGEST) where
   abbrev ds : List Draft
@@ -137,7 +138,7 @@ module _ (s : List ℕ) (tree : Trees) (sound : Demand3.Sound s tree) (short : l
 
   -- each draft with its number, and its finished row
   number : Draft → ℕ
-  number e = ownOfFirst s (finds s e) (ws s (sound-rows .each) own)
+  number e = ownOfFirst s (finds s (ws s (sound-rows .each) own) e) (ws s (sound-rows .each) own)
 
   rows : Pairs (λ d e. Bears d e × (look (cell column.PLACE d) ≡ finish s e (number e))) ds (ws s (sound-rows .each) own)
   unfolding number numberedRows
@@ -148,7 +149,7 @@ module _ (s : List ℕ) (tree : Trees) (sound : Demand3.Sound s tree) (short : l
     unfolding number
     found-question e = finds-question s (sound-rows .each) own d (f .target (rw e)) e
 
-    found-rule : is code.RULE-REF d ≡ true → mem (number d) (ruleNumbers ds) ≡ true
+    found-rule : is code.RULE-REF d ≡ true → mem (number d) (ownsOf (ruleOf (formRound ds d)) ds) ≡ true
     unfolding number
     found-rule e = finds-rule s (sound-rows .each) own d (f .target (rw e (or-true (is code.QUESTION-REF d)))) e
 
@@ -157,7 +158,7 @@ module _ (s : List ℕ) (tree : Trees) (sound : Demand3.Sound s tree) (short : l
         either (is code.QUESTION-REF d)
         (λ e. number-range (number d) (own .within (number d) (found-question e)))
         (λ e.
-        let m = found-rule (rw e at r) in
+        let m = owns-wider (ruleOf (formRound ds d)) (is code.RULE) (λ x h. and-true (is code.RULE x) _ h .0) ds (number d) (found-rule (rw e at r)) in
         (from-above (rules-count s tree (sound .derives)) (number d) m, omega (arith, rules-few ds (sound .limit) (number d) m)))
 
     row-settled : (e : Draft) → Bears d e → look (cell column.PLACE d) ≡ finish s e (number e) → Settled look d

@@ -82,7 +82,7 @@ module _ (s : List ℕ) (tree : Trees) (sound : Sound s tree) (short : length s 
     free-again = ap freeCount numbered-again
 
     told : All (Says t ds′) ds′
-    told = all-say t look same-numbers (rules-same alike) own matches (SettledRows.resolved s tree sound short)
+    told = all-say t look same-numbers alike own matches settled (SettledRows.resolved s tree sound short)
 
     -- 7: form number repeated
     pub forms-again : repeatedForms ds′ ≡ []

@@ -20,6 +20,7 @@ use Rattle.rule_steps.proofs.Theorems.{steps-within}
 use Rattle.answers.specs.Rows.{Draft}
 use Rattle.answers.specs.Stages.{is, faultIf, faultsAfter, draftRows, settled, finished, onCircle, circularReferences}
 use Rattle.answers.specs.Demand3.{StepOfCircle, FirstOnCircle, this, later}
+use Rattle.answers.proofs.Faults.{no-fault, clean-first}
 
 module _ (rows : List (List ℕ)) where
   -- a row is at fault exactly where it is a step between rules, and there is a way back by the steps of all rows
@@ -61,12 +62,8 @@ module _ (rows : List (List ℕ)) where
 
   -- ---- no fault, no circle
 
-  rest-none : (t : Bool) (m : ℕ) (l : List ℕ) → faultIf t m ++ l ≡ [] → (t ≡ false) × (l ≡ [])
-  rest-none true m l e = absurd (let z : _≡_ {A = ℕ} 0 1 = cc in omega arith)
-  rest-none false m l e = (refl, e)
-
   -- the step of a row
-  step-of : (r : List ℕ) (a b : ℕ) → leads (stepIn rows r) a b ≡ true → (isStep rows r ≡ true) × (ruleRound rows r ≡ a) × (ruleFound rows r ≡ b)
+  pub step-of : (r : List ℕ) (a b : ℕ) → leads (stepIn rows r) a b ≡ true → (isStep rows r ≡ true) × (ruleRound rows r ≡ a) × (ruleFound rows r ≡ b)
   unfolding stepIn leads
   step-of r a b = go (isStep rows r)
     where
@@ -91,12 +88,12 @@ module _ (rows : List (List ℕ)) where
   unfolding faultsAfter stepsAmong
   none-back [] before e a b f p = no-step a b f
   none-back (d ∷ ds) before e a b f p =
-      let none = rest-none (onCircle rows (d .row)) (d .ownAt) (faultsAfter faults (d ∷ before) ds) e in
+      let none = clean-first (λ d. faultIf (onCircle rows (d .row)) (d .ownAt)) d ds before e in
       ⊎-elim
       (λ g.
       let u = step-of (d .row) a b g in
       let back : Circular (ruleSteps rows) (ruleRound rows (d .row)) (ruleFound rows (d .row)) = rw (u .1, u .2) p in
-      true≢false (sym (on-circle (d .row) .1 (u .0, back)) ∙ none .0))
+      true≢false (sym (on-circle (d .row) .1 (u .0, back)) ∙ no-fault _ (d .ownAt) (none .0)))
       (λ g. none-back ds (d ∷ before) (none .1) a b g p)
       (or-yes (leads (stepIn rows (d .row)) a b) _ (sym (leads-append (stepIn rows (d .row)) (stepsAmong rows (draftRows ds)) a b) ∙ f))
 

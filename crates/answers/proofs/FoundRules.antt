@@ -57,7 +57,7 @@ module _ (s : List ℕ) where
   rule-numbered p d v = rw (other-cell column.CODE (λ q. omega arith) d v, other-cell column.NAME (λ q. omega arith) d v)
 
   module _ (ns : List ℕ) (ds : List Draft) where
-    round-numbered : (d : Draft) → formRound (withNumbers ns ds) d ≡ formRound ds d
+    pub round-numbered : (d : Draft) → formRound (withNumbers ns ds) d ≡ formRound ds d
     round-numbered d =
         round-same (withNumbers ns ds) ds
         (numbers-leave (cell column.CODE) (other-cell column.CODE (λ q. omega arith)) ns ds)

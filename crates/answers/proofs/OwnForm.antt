@@ -19,7 +19,7 @@ use Rattle.answers.specs.Stages.{cell, is, any, placeOf, rowAmong, formR
 use Rattle.answers.specs.Answer.{refuses, drafts}
 use Rattle.answers.specs.WholeAnswer.{readAnswer}
 use Rattle.answers.specs.Demand3.{Sound, Passes, to-9, to-10, Refuses, nothing-found}
-use Rattle.answers.specs.Forms.{columnOf, StandsIn, OfItsForm, Stray}
+use Rattle.answers.specs.Forms.{columnOf, StandsIn, directly, within, OfItsForm, Stray}
 use Rattle.answers.proofs.Answers.{passes-grammatical, refused-answer}
 use Rattle.answers.proofs.Demand3.{rows-whole}
 use Rattle.answers.proofs.Faults.{fault-first}
@@ -73,6 +73,17 @@ module _ (s : List ℕ) (tree : Trees) (derives : Derives (sourceTokens s) tree)
             finished-stands s ds (rw (← f .parent-is) (parent-stands ds (f .at) (forms .of-rule (f .at) (f .inside) (code-of (f .at) (f .code-is)))));
         reference-stands = finished-stands s ds (round-stands ds i (forms .of-reference i h (code-of i c)));
       }
+
+  -- and so does the rule that it stands in, if it stands in one
+  pub rule-round :
+      (found : unfound s ds ≡ []) (i : ℕ) (h : i < length ds) (c : columnOf (finished s ds) column.CODE i ≡ code.RULE-REF)
+      → columnOf (finished s ds) column.CODE (columnOf (finished s ds) column.PARENT i) ≡ code.RULE
+      → StandsIn (finished s ds) (of-its-form found i h c .form) (columnOf (finished s ds) column.PARENT i)
+  rule-round found i h c k = go (of-its-form found i h c .reference-stands)
+    where
+      go : {f : ℕ} → StandsIn (finished s ds) f i → StandsIn (finished s ds) f (columnOf (finished s ds) column.PARENT i)
+      go {f} (directly e d) = absurd (let z : code.RULE ≡ code.FORM = sym k ∙ rw e d in omega arith)
+      go (within n v) = v
 
   -- ---- a ruleref whose rule stands in another form
 

@@ -19,6 +19,7 @@ use Rattle.ll1.specs.Trees.{Opens, nothing, a-condition, a-group, Depth, depth,
 use Rattle.ll1.specs.Verdict.{Allowed}
 use Rattle.ll1.specs.ParseTable.{member}
 use Rattle.ll1.proofs.Basics.{clash, both, implied}
+use Rattle.ll1.proofs.Equations.{allowed-append}
 use Rattle.grammar.specs.Rules.{<source>, <form>, <item-or-rule>*, <rule>, <item>, <item>*, <option>}
 use Rattle.grammar.specs.Grammar.{rules}
 use Rattle.grammar.specs.Derivation.{Derives, NowhereTooDeep, tooDeep, maxConditions}
@@ -174,10 +175,6 @@ deeper-condition : (d : Depth) (o : Opens) → isCondition o ≡ true → condit
 deeper-condition (depth c g) nothing h = clash cc
 deeper-condition (depth c g) a-condition h = omega arith
 deeper-condition (depth c g) a-group h = clash cc
-
-allowed-parts : (a b : List Depth) → Allowed tooDeep (a ++ b) → Allowed tooDeep a × Allowed tooDeep b
-allowed-parts [] b h = (tt, h)
-allowed-parts (d ∷ a) b h = let w = allowed-parts a b (h .1) in ((h .0, w .0), w .1)
 
 -- at a leaf no more conditions are open than may be; so at trees that start with one
 shallow : (d : Depth) → tooDeep d ≡ false → conditionsOf d ≤ maxConditions
@@ -335,7 +332,7 @@ module _ (value : ℕ → ℕ) (tree : Trees) where
   trees-housed {parent = parent} {at = at} {n = n} z d (fits-node {A = A} {i = i} {a = a} {c = c} {f = f} e r₁ r₂) h b s w =
       let t = both (not (member A (barred z))) _ h in
       let may = not-true (member A (barred z)) (t .0) in
-      let parts = allowed-parts (depths rules (deeper d (opening (alternativeOf rules A i))) c) (depths rules d f) b in
+      let parts = allowed-append tooDeep (depths rules (deeper d (opening (alternativeOf rules A i))) c) (depths rules d f) b in
       let within : Allowed tooDeep (depths rules (deeper d (a .opens)) c) = rw e at (parts .0) in
       let here = node-of parent at n i c A a z d e may r₁ within s (own-among value w) in
       let kept : free (barred (zoneUnder z A i)) (a .symbols) ≡ true = rw may at (at-alternative _ (zones-kept z) e) in

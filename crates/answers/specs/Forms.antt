@@ -38,6 +38,14 @@ pub record OfItsForm (rows : List (List ℕ)) (i : ℕ) : Type 0 where
   pub rule-stands : StandsIn rows form rule
   pub reference-stands : StandsIn rows form i
 
+-- the rule of this number stands in the form
+pub record RuleIn (rows : List (List ℕ)) (form number : ℕ) : Type 0 where
+  pub row : ℕ
+  pub inside : row < length rows
+  pub is-rule : columnOf rows column.CODE row ≡ code.RULE
+  pub numbered : columnOf rows column.OWN row ≡ number
+  pub stands : StandsIn rows form row
+
 -- "where the rule stands in another form": row i of the drafts is a ruleref, and the rule of its name stands in another form
 pub record Stray (s : List ℕ) (ds : List Draft) (i : ℕ) : Type 0 where
   pub is-reference : is code.RULE-REF (rowAmong ds i) ≡ true

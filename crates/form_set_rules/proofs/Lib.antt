@@ -10,6 +10,5 @@ pub mod Tables
 pub mod Numbers
 pub mod Places
 pub mod Steps
--- What stages 4, 10 and 11 leave.
+-- What stage 4 leaves.
 pub mod Shallow
-pub mod Stages

@@ -3,8 +3,10 @@
 use Prim.Native.Nat.{ℕ, _+_, _≤_, _<_}
 use native.Mathlib.Omega.{arith}
 use mathlib.Core.Path.{_≡_, sym, _∙_}
+use mathlib.Core.Bool.{true, false, _&&_}
 use mathlib.Core.List.{List, []}
-use borrow.Author.Tests.{eq-eqb}
+use borrow.Author.Tests.{eq-eqb, ltb-false}
+use lib.Dec.{ltb}
 use lib.ListN.{length, getD}
 use Rattle.rows.specs.Codes as code
 use Rattle.rows.specs.Columns as column
@@ -15,19 +17,32 @@ use Rattle.rows.proofs.LaidLaws.{row-laid}
 use Rattle.ll1.specs.Trees.{Trees}
 use Rattle.grammar.specs.Derivation.{Derives}
 use Rattle.grammar.specs.Source.{sourceTokens, numberAt}
-use Rattle.answers.specs.Rows.{withoutMarks}
-use Rattle.answers.specs.Stages.{cell, rulesOverLimit, unfound, finished}
+use Rattle.grammar.specs.Parts.{mark}
+use Rattle.answers.specs.Rows.{Draft, withoutMarks}
+use Rattle.answers.specs.Stages.{cell, is, rowAmong, rulesOverLimit, unfound, finished}
 use Rattle.answers.specs.Answer.{drafts}
 use Rattle.answers.specs.Text.{rowFirstAt}
 use Rattle.answers.proofs.Demand3.{rows-whole}
+use Rattle.answers.proofs.Faults.{no-fault, clean-at}
 use Rattle.answers.proofs.FoundRows.{finished-count}
+use Rattle.answers.proofs.FoundRules.{found-rule}
 use Rattle.laid.proofs.Held.{held-at}
 use Rattle.laid.proofs.FinishedRows.{drafts-held}
 use Rattle.form_set_rules.specs.Rules.{sourceRules}
 use Rattle.form_set_rules.proofs.RuleRows.{RuleRows}
 use Rattle.form_set_rules.proofs.TreeRows.{source-rows}
 use Rattle.form_set_rules.proofs.Numbers.{own-range, few-rules}
-use Rattle.form_set_rules.proofs.Stages.{draft, limit-kept, found-rule}
+
+-- 10: "a 256th rule" there is none
+limit-kept :
+    (ds : List Draft) → rulesOverLimit ds ≡ []
+    → (i : ℕ) → i < length ds → is code.RULE (rowAmong ds i) ≡ true → cell column.OWN (rowAmong ds i) < 256
+unfolding rulesOverLimit
+limit-kept ds e i h r =
+    let d = rowAmong ds i in
+    let none = no-fault (is code.RULE d && ltb 255 (cell column.OWN d)) (mark (cell column.PLACE d)) (clean-at _ ds [] e i h) in
+    let over : ltb 255 (cell column.OWN d) ≡ false = rw r at none in
+    omega (arith, ltb-false 255 (cell column.OWN d) over)
 
 module _ (s : List ℕ) (tree : Trees) where
   -- the finished rows, their number, and the table of n numbers that starts with them
@@ -60,7 +75,7 @@ module _ (s : List ℕ) (tree : Trees) where
     numbers-low limit i h c =
         let e : 0 + i ≡ i = omega arith in
         let held = rw e at (held-at t (rowFirstAt rows) (drafts-held s n tree derives) i (withoutMarks []) h) in
-        let rule : cell column.CODE (draft (drafts s tree) i) ≡ code.RULE = sym (held .code-is) ∙ c in
+        let rule : cell column.CODE (rowAmong (drafts s tree) i) ≡ code.RULE = sym (held .code-is) ∙ c in
         omega (arith, held .own-is rule, limit-kept (drafts s tree) limit i h (eq-eqb _ code.RULE rule))
 
     pub rules-low : rulesOverLimit (drafts s tree) ≡ [] → length (sourceRules s tree) < 256

@@ -9,6 +9,7 @@ use borrow.Author.Tests.{le-ltb, ltb-false}
 use Rattle.ll1.specs.Trees.{Trees, Symbol, Fits, fits-nil, fits-leaf, fits-node, Depth, depth, deeper, depths}
 use Rattle.ll1.specs.Verdict.{Allowed}
 use Rattle.ll1.proofs.Basics.{clash}
+use Rattle.ll1.proofs.Equations.{allowed-append}
 use Rattle.grammar.specs.Grammar.{rules}
 use Rattle.grammar.specs.Derivation.{tooDeep}
 use Rattle.formulas.specs.Fitted.{Fitted, f-nil, f-leaf, f-node}
@@ -21,26 +22,22 @@ to-fits f-nil = fits-nil
 to-fits (f-leaf u h) = fits-leaf (to-fits h)
 to-fits (f-node e h₁ h₂) = fits-node e (to-fits h₁) (to-fits h₂)
 
-allowed-append : (ds es : List Depth) → Allowed tooDeep ds → Allowed tooDeep es → Allowed tooDeep (ds ++ es)
-allowed-append [] es h k = k
-allowed-append (d ∷ ds) es h k = (h .0, allowed-append ds es (h .1) k)
+both-allowed : (ds es : List Depth) → Allowed tooDeep ds → Allowed tooDeep es → Allowed tooDeep (ds ++ es)
+both-allowed [] es h k = k
+both-allowed (d ∷ ds) es h k = (h .0, both-allowed ds es (h .1) k)
 
 pub to-allowed : {d : Depth} {σ : List Symbol} {f : Trees} → Fitted d σ f → Allowed tooDeep (depths rules d f)
 to-allowed f-nil = tt
 to-allowed (f-leaf u h) = (u, to-allowed h)
-to-allowed {d} (f-node {a = a} {c = c} {f = f} e h₁ h₂) = rw e (allowed-append (depths rules (deeper d (a .opens)) c) (depths rules d f) (to-allowed h₁) (to-allowed h₂))
+to-allowed {d} (f-node {a = a} {c = c} {f = f} e h₁ h₂) = rw e (both-allowed (depths rules (deeper d (a .opens)) c) (depths rules d f) (to-allowed h₁) (to-allowed h₂))
 
 -- ---- and the other way round
-
-allowed-parts : (ds es : List Depth) → Allowed tooDeep (ds ++ es) → Allowed tooDeep ds × Allowed tooDeep es
-allowed-parts [] es h = (tt, h)
-allowed-parts (d ∷ ds) es h = let q = allowed-parts ds es (h .1) in ((h .0, q .0), q .1)
 
 pub fitted : {d : Depth} {σ : List Symbol} {f : Trees} → Fits rules σ f → Allowed tooDeep (depths rules d f) → Fitted d σ f
 fitted fits-nil h = f-nil
 fitted (fits-leaf r) h = f-leaf (h .0) (fitted r (h .1))
 fitted {d} (fits-node {A = A} {i = i} {a = a} {c = c} {f = f} e r₁ r₂) h =
-    let q = allowed-parts (depths rules (deeper d (a .opens)) c) (depths rules d f) (rw e at h) in
+    let q = allowed-append tooDeep (depths rules (deeper d (a .opens)) c) (depths rules d f) (rw e at h) in
     f-node e (fitted r₁ (q .0)) (fitted r₂ (q .1))
 
 -- ---- depths

@@ -24,7 +24,8 @@ abbrev pub Tells : ParseTable → ℕ → ℕ → List Token → Type 0
 Tells P A i [] = Unit {0}
 Tells P A i (token k p ∷ ts) = (predict P A k ≡ some i) ⊎ (predict P A k ≡ none)
 
-allowed-append : (tooDeep : Depth → Bool) (a b : List Depth) → Allowed tooDeep (a ++ b) → Allowed tooDeep a × Allowed tooDeep b
+-- leaves that are not too deep, in two parts
+pub allowed-append : (tooDeep : Depth → Bool) (a b : List Depth) → Allowed tooDeep (a ++ b) → Allowed tooDeep a × Allowed tooDeep b
 allowed-append tooDeep [] b h = (tt, h)
 allowed-append tooDeep (d ∷ a) b h = let w = allowed-append tooDeep a b (h .1) in ((h .0, w .0), w .1)
 

@@ -1,5 +1,6 @@
 -- What is proved of the rules of a source; and two of them, computed.
 pub mod Theorems
+pub mod OneForm
 pub mod Examples
 -- From a derivation's trees to the rows of their rules in a table.
 pub mod Grammar

@@ -63,7 +63,7 @@ module _ (s : List ℕ) (tree : Trees) where
     unfolding laid
     rows-start = rw (← finished-count s (drafts s tree)) (rows-flat (rows-whole s tree derives) _)
 
-    row-at : (i : ℕ) → i < count → rowAt t i ≡ getD rows i []
+    pub row-at : (i : ℕ) → i < count → rowAt t i ≡ getD rows i []
     row-at i h = row-laid (rows-whole s tree derives) n i (rw (finished-count s (drafts s tree)) h)
 
     pub rules-laid : RuleRows t count 0 0 (sourceRules s tree)

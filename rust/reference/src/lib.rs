@@ -1,5 +1,5 @@
 //! A plain reader, resolver, quick check and screen for VFR sources, written from document 01 ("VFR sources to rows and
-//! resolved text", with the readings of docs/DECISIONS.md) and document 02's W-201 and W-202, and not from the library.
+//! resolved text", with the readings of docs/DECISIONS.md) and document 02's W-201 to W-203, and not from the library.
 //! The library is compared with it.
 
 #![forbid(unsafe_code)]

@@ -3,7 +3,7 @@
 use crate::parser::{At, Events, Head, Target};
 use crate::row::{column, Row};
 use crate::rules::{step, Graph, Step};
-use crate::{Refusal, CIRCLE_REFUSAL};
+use crate::{Refusal, CIRCLE_REFUSAL, LOST_REFUSAL};
 use std::collections::{HashMap, HashSet};
 use std::hash::{BuildHasherDefault, Hasher};
 
@@ -117,7 +117,7 @@ impl<'a> Record<'a> {
             (8, self.faults.number),
             (9, self.faults.name),
             (10, self.faults.rule),
-            (11, self.lost_reference()),
+            (LOST_REFUSAL, self.lost_reference()),
             (12, self.faults.choice),
         ];
         match stages.into_iter().find_map(|(number, place)| Some((number, place?))) {

@@ -5,7 +5,7 @@ mod outcome;
 
 use frame::framed;
 use outcome::{assert_accepted, assert_refused, at};
-use reference::{column, read, resolve, show, Position, Refusal, Row, CIRCLE_REFUSAL};
+use reference::{column, read, resolve, show, Position, Refusal, Row, CIRCLE_REFUSAL, LOST_REFUSAL};
 
 const RULE: u64 = 0x18;
 const RULEREF: u64 = 0x3F;
@@ -17,7 +17,7 @@ fn forms(items: &[&str]) -> String {
 }
 
 fn assert_lost(items: &[&str], place: usize) {
-    assert_refused(&forms(items), at(11, place));
+    assert_refused(&forms(items), at(LOST_REFUSAL, place));
 }
 
 fn assert_found(items: &[&str], rows: usize) {
@@ -121,7 +121,7 @@ fn order() {
 
 #[test]
 fn line_and_column() {
-    let refusal = Refusal { position: Position { line: 3, column: 2 }, ..at(11, 222) };
+    let refusal = Refusal { position: Position { line: 3, column: 2 }, ..at(LOST_REFUSAL, 222) };
     assert_refused(&forms(&["rule A,1 endrule;", "suppressif\nruleref(\n A);endif;"]), refusal);
 }
 

@@ -79,7 +79,7 @@ pub struct Record<'a> {
     pub rows: Vec<Row>,
     faults: Faults,
     forms: Numbers,
-    /// Which form is read.
+    /// The form that is read, counted from 1.
     form: usize,
     used: Numbers,
     questions: Vec<usize>,

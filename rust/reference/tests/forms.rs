@@ -127,7 +127,7 @@ fn line_and_column() {
 
 /// Each form's conditions go by the rules of their own form.
 #[test]
-fn screens_of_two_forms() {
+fn screens_of_forms() {
     let hides =
         |rule: &str, value: &str| format!("suppressif ruleref({rule});label 1;endif;rule {rule},{value} endrule;");
     let source = framed(&forms(&[&hides("A", "TRUE"), &hides("B", "FALSE"), &hides("C", "NOT FALSE")]));

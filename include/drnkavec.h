@@ -2,7 +2,7 @@
  *
  * Refusal numbers, rows, codes and limits are those of document 01, "VFR sources to rows and resolved text"; lines,
  * columns and the 0 in all that is lent past a result are those of document 02, the change requests (W-201), and so are
- * the screen and the refusals from 14 on (W-202).
+ * the screen and the refusals from 14 on (W-202), and that a rule serves its own form alone (W-203).
  * The library is target/staticlib/libface.a, which `rt staticlib face` writes; it is for Linux on x86-64.
  *
  * Every function takes every input. It reads the source without changing it, writes nowhere but to the
@@ -50,7 +50,8 @@ enum {
     VFR_QUESTION_REPEATED = 8,  /* place: the second written number */
     VFR_NAME_REPEATED = 9,      /* place: the second name */
     VFR_TOO_MANY_RULES = 10,    /* place: the 256th `rule` */
-    VFR_NOT_FOUND = 11,         /* place: the number or name that refers to nothing */
+    VFR_NOT_FOUND = 11,         /* place: the number or name that refers to nothing; so is a `ruleref` refused whose rule
+                                   stands in another form */
     VFR_BAD_CHOICE = 12,        /* place: the maximum, default or value, or the second DEFAULT */
     VFR_RULE_CIRCLE = 14,       /* a rule reaches itself through references; place: the name in the source's first
                                    `ruleref`, inside a rule, that is a step of such a circle */
@@ -91,7 +92,7 @@ enum {
     VFR_SUPPRESSIF = 0x0A,
     VFR_FORMSET = 0x0E,     /* title, help; a: the GUID's 32, 16 and 16 bits, first highest; b: its eight bytes */
     VFR_GOTO = 0x0F,        /* prompt, help; a: form number */
-    VFR_RULE = 0x18,        /* number, counted from 1 */
+    VFR_RULE = 0x18,        /* number, counted from 1 through the form set */
     VFR_GRAYOUTIF = 0x19,
     VFR_DISABLEIF = 0x1E,
     VFR_LABEL = 0x5F,       /* number */

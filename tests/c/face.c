@@ -78,6 +78,7 @@ static void fill_all(void)
     "formset " GUID ",\r\n"                                                     \
     "\ttitle=STRING_TOKEN(2),help=STRING_TOKEN(3), // \xc3\xa9 \r\n\n"          \
     " form formid=1,title=STRING_TOKEN(4);\n\r\t"
+#define SECOND_FORM "endform;form formid=2,title=STRING_TOKEN(4);"
 #define FRAME_END "endform;endformset;"
 #define FRAME_ROWS 2
 
@@ -489,6 +490,10 @@ static void check_refusals(void)
     check_refusal("a questionref that finds nothing is refusal 11", VFR_NOT_FOUND);
     make("rule A,ruleref(^B) endrule;", NULL);
     check_refusal("a ruleref that finds nothing is refusal 11", VFR_NOT_FOUND);
+    make("rule A,1 endrule;" SECOND_FORM "suppressif 1;grayoutif ruleref(\n^A);endif;endif;rule B,1 endrule;", NULL);
+    check_refusal("a ruleref whose rule stands in another form is refusal 11 at the name", VFR_NOT_FOUND);
+    make("rule A,ruleref(^B) endrule;" SECOND_FORM "rule B,ruleref(A) endrule;", NULL);
+    check_refusal("and so it is where the rule stands in a later form, before circles are looked for", VFR_NOT_FOUND);
     make("numeric " STRINGS ",minimum=5,maximum=^4,endnumeric;", NULL);
     check_refusal("a maximum below its minimum is refusal 12", VFR_BAD_CHOICE);
     make("numeric " STRINGS ",minimum=5,maximum=5,default=^6,endnumeric;", NULL);
@@ -510,6 +515,25 @@ static void check_refusals(void)
     check_refusal("255 rules on one circle are refusal 14", VFR_RULE_CIRCLE);
     check("a cut source is refusal 3 at its length",
           quick(EXAMPLE, 100) == ((uint64_t)VFR_NOT_GRAMMAR << 32 | 100));
+}
+
+/* Rules of the own form, earlier and later, deep in conditions too: their numbers count through the form set, and each
+ * hides by its own value. Questions and forms are found in every form. */
+static void check_forms(void)
+{
+    make("suppressif ruleref(B);label 1;endif;rule A,FALSE endrule;rule B,NOT ruleref(A) endrule;goto 2," STRINGS ";",
+         SECOND_FORM "rule C,questionref(Q) endrule;suppressif ruleref(D);grayoutif ruleref(C);label 2;endif;endif;",
+         "rule D,NOT ruleref(C) endrule;", "endform;form formid=3,title=STRING_TOKEN(4);",
+         "checkbox name=Q,questionid=9," STRINGS ",endcheckbox;goto 1," STRINGS ";", NULL);
+    read_source(source, length, NUMBERS);
+    check("a ruleref finds a rule of its own form, earlier or later, by its number in the form set",
+          has_read(25, 65532) && cell(3, VFR_COL_A) == 2 && cell(8, VFR_COL_A) == 1 && cell(15, VFR_COL_A) == 4 &&
+              cell(17, VFR_COL_A) == 3 && cell(20, VFR_COL_A) == 3 && cell(19, VFR_COL_NUMBER) == 4);
+    show_source(source, length, LIST(9, 0), NUMBERS, 100);
+    check("and hides by it",
+          has_read(25, 65532) && out[4] == VFR_HIDDEN && out[18] == VFR_HIDDEN && all_bytes(out, 5, 18, 0));
+    show_source(source, length, LIST(9, 1), NUMBERS, 100);
+    check("or makes grey", has_read(25, 65532) && out[4] == VFR_HIDDEN && out[18] == VFR_GREY);
 }
 
 /* The limits of the header: each kept, and passed by one. */
@@ -1129,6 +1153,7 @@ int main(void)
     check_codes();
     check_flags();
     check_refusals();
+    check_forms();
     check_limits();
     check_short_tables();
     check_null();

@@ -25,12 +25,13 @@ pub struct Kind {
     pub build: fn(usize) -> String,
 }
 
-pub const KINDS: [Kind; 10] = [
+pub const KINDS: [Kind; 11] = [
     Kind { name: "realistic", build: realistic },
     Kind { name: "operator chain", build: chain },
     Kind { name: "rules of one number", build: rules },
     Kind { name: "rules whose names have one hash", build: one_hash },
     Kind { name: "references to the last name", build: references },
+    Kind { name: "references to a rule, deep", build: rule_references },
     Kind { name: "options of one oneof", build: options },
     Kind { name: "deep groups in deep conditions", build: groups },
     Kind { name: "blanks and comments", build: blanks },
@@ -145,6 +146,13 @@ fn references(size: usize) -> String {
     let reference = format!("questionref(Q{})+", 999 + count);
     let start = format!("{START}{FORM}{questions}rule A,");
     filled(size, &start, &format!("1 endrule;\n{END}"), |_| reference.clone())
+}
+
+/// References to a rule of the form, all of them in a condition that stands as deep as one may.
+fn rule_references(size: usize) -> String {
+    let (outer, ends) = ("suppressif 1;".repeat(15), "endif;".repeat(16));
+    let start = format!("{START}{FORM}rule A,1 endrule;{outer}suppressif ");
+    filled(size, &start, &format!("1;{ends}\n{END}"), |_| "ruleref(A)+".to_string())
 }
 
 fn question(at: usize) -> String {

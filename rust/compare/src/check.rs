@@ -95,7 +95,7 @@ pub fn reading(source: &[u8], table_len: usize, answer_len: usize) -> Result<Ans
     let difference = numbers_difference(&answer, &wanted.numbers(), wanted)
         .or_else(|| table_difference(&buffer, &table))
         .or_else(|| source_difference(&lent, source));
-    agreed(Answered { met: Met::of(reading.as_ref()), line: wanted.line }, difference)
+    agreed(Answered { met: Met::of(reading.as_ref(), source), line: wanted.line }, difference)
 }
 
 /// The quick check.
@@ -108,7 +108,7 @@ pub fn quick(source: &[u8]) -> Result<Answered, String> {
 /// Resolving, with a table, an output and an answer of these lengths.
 pub fn resolving(source: &[u8], table_len: usize, out_len: usize, answer_len: usize) -> Result<Answered, String> {
     let resolved = reference::resolve(source, table_len / ROW, out_len);
-    let met = Met::of(resolved.as_ref());
+    let met = Met::of(resolved.as_ref(), source);
     let (wanted, table) = expected(resolved.as_ref().map(|(reading, _)| reading), table_len);
     let text = resolved.map_or_else(|_| String::new(), |(_, text)| text);
     let wanted = Answer { written: text.len() as u64, ..wanted };
@@ -139,7 +139,7 @@ pub fn showing(
     answer_len: usize,
 ) -> Result<Shown, String> {
     let shown = reference::show(source, answers, table_len / ROW, out_len);
-    let met = Met::of_showing(shown.as_ref(), answers);
+    let met = Met::of_showing(shown.as_ref(), source, answers);
     let (wanted, table) = expected(shown.as_ref().map(|(reading, _)| reading), table_len);
     let bytes = shown.map_or_else(|_| Vec::new(), |(_, bytes)| bytes);
     let (lent, lent_answers) = (source.to_vec(), answers.to_vec());

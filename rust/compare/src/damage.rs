@@ -31,7 +31,7 @@ fn lexeme(random: &mut Random) -> String {
 }
 
 /// Statements with a fault, from stage 2 to stage 14, whatever stands before them.
-const FAULTY: [&str; 11] = [
+const FAULTY: [&str; 12] = [
     "label 0X1 ;",
     "label ;",
     "suppressif NOT NOT NOT NOT NOT NOT NOT NOT NOT NOT NOT NOT NOT NOT NOT NOT NOT NOT NOT NOT NOT NOT NOT NOT NOT NOT NOT \
@@ -42,6 +42,9 @@ const FAULTY: [&str; 11] = [
      goto 1 , questionid = 64998 , prompt = STRING_TOKEN ( 1 ) , help = STRING_TOKEN ( 2 ) ;",
     "rule late_name , 1 endrule ; rule late_name , 1 endrule ;",
     "rule late_name , ruleref ( lost_name ) endrule ;",
+    "rule late_name , 1 endrule ; endform ; form formid = 64997 , title = STRING_TOKEN ( 1 ) ; \
+     rule later_name , ruleref ( later_rule ) endrule ; suppressif 1 ; suppressif ruleref ( late_name ) ; endif ; endif ; \
+     rule later_rule , 1 endrule ;",
     "rule late_name , ruleref ( later_name ) endrule ; rule later_name , NOT ruleref ( late_name ) endrule ;",
     "numeric prompt = STRING_TOKEN ( 1 ) , help = STRING_TOKEN ( 2 ) , minimum = 5 , maximum = 4 , endnumeric ;",
     "oneof prompt = STRING_TOKEN ( 1 ) , help = STRING_TOKEN ( 2 ) , option text = STRING_TOKEN ( 3 ) , value = 7 , flags = 0 ; \

@@ -17,21 +17,23 @@ pub const NAMES: [&str; 38] = [
     "YeHtR", "QrpY", "gzL", "uJlAv", "xSP", "QWBvx",
 ];
 
-/// A stage at which a text is to be refused.
+/// A fault for which a text is to be refused: one of stages 4, 5 and 7 to 10, two of 11 (what is referred to is nowhere, or
+/// is a rule of another form), one of 12 and of 14.
 #[derive(Clone, Copy, PartialEq, Eq)]
 enum Fault {
-    Depth = 4,
-    Range = 5,
-    Form = 7,
-    Number = 8,
-    Name = 9,
-    Rules = 10,
-    Lost = 11,
-    Choice = 12,
-    Circle = 14,
+    Depth,
+    Range,
+    Form,
+    Number,
+    Name,
+    Rules,
+    Lost,
+    OtherForm,
+    Choice,
+    Circle,
 }
 
-const FAULTS: [Fault; 9] = [
+const FAULTS: [Fault; 10] = [
     Fault::Depth,
     Fault::Range,
     Fault::Form,
@@ -39,6 +41,7 @@ const FAULTS: [Fault; 9] = [
     Fault::Name,
     Fault::Rules,
     Fault::Lost,
+    Fault::OtherForm,
     Fault::Choice,
     Fault::Circle,
 ];
@@ -57,9 +60,10 @@ struct Declared<T> {
     sort: Sort,
 }
 
-/// Where the tokens of a reference start, the rule it stands in, and the sort that is wanted.
+/// Where the tokens of a reference start, the form and the rule it stands in, and the sort that is wanted.
 struct Reference {
     at: usize,
+    form: usize,
     rule: Option<usize>,
     sort: Sort,
 }
@@ -99,9 +103,13 @@ struct Writer<'r> {
     rarity: usize,
     tokens: Vec<String>,
     forms: Vec<u64>,
+    /// The form that is written, from 0.
+    form: usize,
     numbers: Vec<Declared<u64>>,
     question_names: Vec<Declared<String>>,
     rule_names: Vec<Declared<String>>,
+    /// The form of each rule.
+    rule_forms: Vec<usize>,
     /// The rule that is written, from 0.
     rule: Option<usize>,
     /// What they refer to is chosen at the end.
@@ -124,9 +132,11 @@ impl<'r> Writer<'r> {
             is_sorted,
             tokens: Vec::new(),
             forms: Vec::new(),
+            form: 0,
             numbers: Vec::new(),
             question_names: Vec::new(),
             rule_names: Vec::new(),
+            rule_forms: Vec::new(),
             rule: None,
             references: Vec::new(),
             conditions: 0,
@@ -159,6 +169,7 @@ impl<'r> Writer<'r> {
         self.string();
         self.push(",");
         for form in 0..forms {
+            self.form = form;
             self.form(self.forms[form], items.div_ceil(forms));
         }
         self.phrase("endformset ;");
@@ -259,6 +270,7 @@ impl<'r> Writer<'r> {
         self.string();
         self.push(";");
         let mut left = items;
+        self.maybe_rules();
         while left > 0 {
             if self.random.once_in(6) {
                 self.rules();
@@ -267,7 +279,15 @@ impl<'r> Writer<'r> {
                 self.item(&mut left);
             }
         }
+        self.maybe_rules();
         self.phrase("endform ;");
+    }
+
+    /// A rule now and then, for the references of its form.
+    fn maybe_rules(&mut self) {
+        if self.random.once_in(4) {
+            self.rules();
+        }
     }
 
     /// A rule, or so many that they are too many.
@@ -280,6 +300,7 @@ impl<'r> Writer<'r> {
             self.push(name.clone());
             self.rule = Some(self.rule_names.len());
             self.rule_names.push(Declared { by: name, sort });
+            self.rule_forms.push(self.form);
             self.push(",");
             self.expression(sort, if count > 1 { 1 } else { 12 });
             self.rule = None;
@@ -576,7 +597,7 @@ impl<'r> Writer<'r> {
     }
 
     fn reference(&mut self, word: &str, sort: Sort) {
-        self.references.push(Reference { at: self.tokens.len(), rule: self.rule, sort });
+        self.references.push(Reference { at: self.tokens.len(), form: self.form, rule: self.rule, sort });
         self.push(word);
         self.phrase("( ? )");
     }
@@ -588,7 +609,7 @@ impl<'r> Writer<'r> {
             let Reference { at, sort, .. } = reference;
             let target = match (self.tokens[at] == "ruleref", self.slips(Fault::Lost)) {
                 (true, true) => Some(self.lost_rule()),
-                (true, false) => self.found_rule(&reference, &ranks),
+                (true, false) => self.other_rule(&reference).or_else(|| self.found_rule(&reference, &ranks)),
                 (false, true) => Some(self.lost_question()),
                 (false, false) => self.found_question(sort),
             };
@@ -621,12 +642,14 @@ impl<'r> Writer<'r> {
         }
     }
 
+    /// A rule of the reference's form.
     fn found_rule(&mut self, reference: &Reference, ranks: &[u64]) -> Option<String> {
         let slips = self.slips(Fault::Circle);
         let is_higher = |at: usize| slips || reference.rule.is_none_or(|rule| ranks[at] > ranks[rule]);
-        let rules = self.rule_names.iter().enumerate();
-        let targets = rules.filter(|(at, rule)| is_higher(*at) && rule.sort.fits(reference.sort));
-        let targets: Vec<String> = targets.map(|(_, rule)| rule.by.clone()).collect();
+        let rules = self.rule_names.iter().zip(&self.rule_forms).enumerate();
+        let own = rules.filter(|(at, (_, form))| **form == reference.form && is_higher(*at)).map(|(_, (rule, _))| rule);
+        let targets: Vec<String> =
+            own.filter(|rule| rule.sort.fits(reference.sort)).map(|rule| rule.by.clone()).collect();
         self.one_of(&targets)
     }
 
@@ -646,6 +669,17 @@ impl<'r> Writer<'r> {
     fn lost_rule(&mut self) -> String {
         let questions: Vec<String> = self.question_names.iter().map(|name| name.by.clone()).collect();
         self.one_of(&questions).unwrap_or_else(|| self.random.pick(&NAMES).to_string())
+    }
+
+    /// A rule of another form than the reference's, if that fault is to be made and there is one.
+    fn other_rule(&mut self, reference: &Reference) -> Option<String> {
+        if !self.slips(Fault::OtherForm) {
+            return None;
+        }
+        let rules = self.rule_names.iter().zip(&self.rule_forms);
+        let others = rules.filter(|(_, form)| **form != reference.form);
+        let others: Vec<String> = others.map(|(rule, _)| rule.by.clone()).collect();
+        self.one_of(&others)
     }
 
     /// A number or name that may be no question's.

@@ -1,5 +1,5 @@
 //! What the programs of this crate share: the checks of the library against the reference, the sources and answers for
-//! them, the tally of the answers met, and the count of checks of given cases.
+//! them, the tally of the answers met, the references into other forms, and the count of checks of given cases.
 
 #![forbid(unsafe_code)]
 
@@ -14,4 +14,5 @@ pub mod outcomes;
 pub mod random;
 mod rules;
 pub mod sources;
+pub mod strays;
 pub mod tally;

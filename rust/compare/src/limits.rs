@@ -48,6 +48,15 @@ pub fn framed(items: &str) -> Vec<u8> {
     format!("{start}{items}endform;endformset;").into_bytes()
 }
 
+/// A source of forms with these items, numbered from 1.
+pub fn framed_forms(forms: &[String]) -> Vec<u8> {
+    let parted = |(at, items): (usize, &String)| match at {
+        0 => items.clone(),
+        _ => format!("endform;\nform formid={},title=STRING_TOKEN(1);{items}", at + 1),
+    };
+    framed(&forms.iter().enumerate().map(parted).collect::<String>())
+}
+
 /// A text that blanks or a comment, before or after it, make about as long as a source may be.
 fn padded(random: &mut Random) -> Vec<u8> {
     let text = text(random);
@@ -115,13 +124,25 @@ fn many_options(random: &mut Random) -> Vec<u8> {
     framed(&format!("oneof prompt=STRING_TOKEN(0),help=STRING_TOKEN(0),{options}endoneof;"))
 }
 
+/// Many rules in some forms, and in each form a condition of many references to its own rules. If there are few, the name
+/// past a form's last rule is referred to now and then: the next form's first, or none's.
 fn many_references(random: &mut Random) -> Vec<u8> {
-    let names = random.between(1, 255);
-    let count = random.between(1, 2_500);
-    let rules: String = (0..names).map(|at| format!("rule r{at},1 endrule;")).collect();
-    let reference = |_| format!("ruleref(r{})+", random.below(names + usize::from(count < 100)));
-    let references: String = (0..count).map(reference).collect();
-    framed(&format!("{rules}suppressif {references}1;endif;"))
+    let forms = [1, 1, 2, 5][random.below(4)];
+    let names = random.between(1, 255 / forms);
+    let count = random.between(1, 2_500 / forms);
+    let past = usize::from(forms * count < 100);
+    let form = |form: usize| {
+        let first = form * names;
+        let rules: String = (first..first + names).map(|at| format!("rule r{at},1 endrule;")).collect();
+        let reference = |_| format!("ruleref(r{})+", first + random.below(names + past));
+        let condition = format!("suppressif {}1;endif;", (0..count).map(reference).collect::<String>());
+        if random.once_in(2) {
+            rules + &condition
+        } else {
+            condition + &rules
+        }
+    };
+    framed_forms(&(0..forms).map(form).collect::<Vec<String>>())
 }
 
 /// A source full of conditions that stand one in another, some of them TRUE.

@@ -11,8 +11,8 @@ pub fn source(random: &mut Random) -> Vec<u8> {
     match random.below(100) {
         0..=42 => text(random),
         43..=44 => faulty_late(random),
-        45..=46 => rules(random),
-        47..=69 => damaged_tokens(random),
+        45..=48 => rules(random),
+        49..=69 => damaged_tokens(random),
         70..=84 => damaged_bytes(random),
         85..=89 => cut(random),
         90..=93 => token_soup(random),

@@ -1,7 +1,8 @@
 //! Which answers were met, call by call, and which tokens and bytes of screens; and which should have been.
 
-use reference::{Kind, Refusal, ANSWERS_REFUSAL, BYTES_REFUSAL, LONGEST, PLACELESS_REFUSALS, QUICK_REFUSALS};
-use reference::{READ_REFUSALS, TEXT_REFUSAL};
+use crate::strays::strays;
+use reference::{Kind, Refusal, ANSWERS_REFUSAL, BYTES_REFUSAL, LONGEST, LOST_REFUSAL, PLACELESS_REFUSALS};
+use reference::{QUICK_REFUSALS, READ_REFUSALS, TEXT_REFUSAL};
 use std::collections::BTreeMap;
 use std::fmt;
 
@@ -36,7 +37,7 @@ impl Call {
     /// The answers that a call can give.
     fn answers(self) -> Vec<Met> {
         let refusals = if self == Call::Quick { QUICK_REFUSALS } else { READ_REFUSALS };
-        let mut answers: Vec<Met> = refusals.iter().copied().map(Met::Refused).collect();
+        let mut answers: Vec<Met> = refusals.iter().flat_map(|&number| Met::of_refusal(number)).collect();
         match self {
             Call::ReadingLater => {
                 answers.retain(|met| !PLACELESS_REFUSALS.iter().any(|&number| *met == Met::Refused(number)))
@@ -56,8 +57,10 @@ impl Call {
 #[derive(Clone, Copy, PartialEq, Eq, PartialOrd, Ord, Debug)]
 pub enum Met {
     Accepted,
-    /// Any refusal but that of a text too long.
+    /// Any refusal but those below.
     Refused(u64),
+    /// What is referred to is a rule of another form, and not nowhere.
+    OtherForm,
     /// The text is longer than the lent output.
     OutputShort,
     /// The text is longer than any may be, so that no output would do.
@@ -73,10 +76,19 @@ const LAST_OF_SHOWING: [Met; 4] =
     [Met::AnswerOdd, Met::AnswerNotAbove, Met::AnswerUnknown, Met::Refused(BYTES_REFUSAL)];
 
 impl Met {
-    /// What an answer is; the need of a text tells why it is refused.
-    pub fn of<T>(answer: Result<T, &Refusal>) -> Met {
+    /// All that is met with a refusal of reading.
+    fn of_refusal(number: u64) -> Vec<Met> {
+        match number {
+            LOST_REFUSAL => vec![Met::Refused(number), Met::OtherForm],
+            _ => vec![Met::Refused(number)],
+        }
+    }
+
+    /// What an answer is; the source tells why a reference finds nothing, the need of a text why it is refused.
+    pub fn of<T>(answer: Result<T, &Refusal>, source: &[u8]) -> Met {
         match answer {
             Ok(_) => Met::Accepted,
+            Err(Refusal { number: LOST_REFUSAL, place, .. }) if strays(source).contains(place) => Met::OtherForm,
             Err(Refusal { number: TEXT_REFUSAL, need, .. }) if *need > LONGEST => Met::TextLong,
             Err(Refusal { number: TEXT_REFUSAL, .. }) => Met::OutputShort,
             Err(refusal) => Met::Refused(refusal.number),
@@ -84,7 +96,7 @@ impl Met {
     }
 
     /// The same of showing; the answer at fault tells why it is.
-    pub fn of_showing<T>(answer: Result<T, &Refusal>, answers: &[u64]) -> Met {
+    pub fn of_showing<T>(answer: Result<T, &Refusal>, source: &[u8], answers: &[u64]) -> Met {
         match answer {
             Err(Refusal { number: ANSWERS_REFUSAL, place, .. }) => {
                 let (before, rest) = answers.split_at(2 * place);
@@ -94,7 +106,7 @@ impl Met {
                     _ => Met::AnswerUnknown,
                 }
             }
-            other => Met::of(other),
+            other => Met::of(other, source),
         }
     }
 
@@ -112,6 +124,7 @@ impl fmt::Display for Met {
         match self {
             Met::Accepted => f.pad("accepted"),
             Met::Refused(number) => f.pad(&format!("refusal {number}")),
+            Met::OtherForm => f.pad(&format!("refusal {LOST_REFUSAL}, another form")),
             Met::OutputShort => f.pad(&format!("refusal {TEXT_REFUSAL}, output short")),
             Met::TextLong => f.pad(&format!("refusal {TEXT_REFUSAL}, over {LONGEST} bytes")),
             Met::AnswerOdd => f.pad(&format!("refusal {ANSWERS_REFUSAL}, no value")),

@@ -1,5 +1,5 @@
 //! A plain reader, resolver, quick check and screen for VFR sources, written from document 01 ("VFR sources to rows and
-//! resolved text", with the readings of docs/DECISIONS.md) and document 02's W-201 and W-202, and not from the library.
+//! resolved text", with the readings of docs/DECISIONS.md) and document 02's W-201 to W-203, and not from the library.
 //! The library is compared with it.
 
 #![forbid(unsafe_code)]
@@ -27,7 +27,10 @@ pub const LONGEST: usize = 65_536;
 pub const QUICK_REFUSALS: &[u64] = &[1, 2, 3, 4, 5];
 
 /// The refusals that reading gives.
-pub const READ_REFUSALS: &[u64] = &[1, 2, 3, 4, 5, 6, 7, 8, 9, 10, 11, 12, CIRCLE_REFUSAL];
+pub const READ_REFUSALS: &[u64] = &[1, 2, 3, 4, 5, 6, 7, 8, 9, 10, LOST_REFUSAL, 12, CIRCLE_REFUSAL];
+
+/// The refusal of a reference that finds nothing, or a rule of another form alone.
+pub const LOST_REFUSAL: u64 = 11;
 
 /// The refusal of a rule that reaches itself through references.
 pub const CIRCLE_REFUSAL: u64 = 14;

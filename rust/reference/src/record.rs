@@ -3,7 +3,7 @@
 use crate::parser::{At, Events, Head, Target};
 use crate::row::{column, Row};
 use crate::rules::{step, Graph, Step};
-use crate::{Refusal, CIRCLE_REFUSAL};
+use crate::{Refusal, CIRCLE_REFUSAL, LOST_REFUSAL};
 use std::collections::{HashMap, HashSet};
 use std::hash::{BuildHasherDefault, Hasher};
 
@@ -50,8 +50,16 @@ impl Numbers {
     }
 }
 
+/// A rule that a name declares, and the form it stands in, counted through the form set.
+struct Rule {
+    number: u64,
+    form: usize,
+}
+
+/// A reference, with the form it stands in.
 struct Reference<'a> {
     target: Target<'a>,
+    form: usize,
     row: usize,
     place: usize,
 }
@@ -71,11 +79,13 @@ pub struct Record<'a> {
     pub rows: Vec<Row>,
     faults: Faults,
     forms: Numbers,
+    /// The form that is read, counted from 1.
+    form: usize,
     used: Numbers,
     questions: Vec<usize>,
     question_names: HashMap<&'a [u8], usize, Quick>,
     rules: u64,
-    rule_names: HashMap<&'a [u8], u64, Quick>,
+    rule_names: HashMap<&'a [u8], Rule, Quick>,
     references: Vec<Reference<'a>>,
     /// Of the oneof that is read: its values, and whether it has a DEFAULT.
     values: HashSet<u64, Quick>,
@@ -88,6 +98,7 @@ impl<'a> Record<'a> {
             rows: Vec::with_capacity(64),
             faults: Faults::default(),
             forms: Numbers([0; 1024]),
+            form: 0,
             used: Numbers([0; 1024]),
             questions: Vec::new(),
             question_names: HashMap::default(),
@@ -106,7 +117,7 @@ impl<'a> Record<'a> {
             (8, self.faults.number),
             (9, self.faults.name),
             (10, self.faults.rule),
-            (11, self.lost_reference()),
+            (LOST_REFUSAL, self.lost_reference()),
             (12, self.faults.choice),
         ];
         match stages.into_iter().find_map(|(number, place)| Some((number, place?))) {
@@ -115,12 +126,13 @@ impl<'a> Record<'a> {
         }
     }
 
+    /// Stage 11. A rule serves its own form alone (document 02, W-203); forms and questions serve the form set.
     fn lost_reference(&self) -> Option<usize> {
         let lost = |reference: &&Reference| match reference.target {
             Target::Form(number) => !self.forms.has(number),
             Target::Question(number) => !self.used.has(number),
             Target::QuestionName(name) => !self.question_names.contains_key(name),
-            Target::RuleName(name) => !self.rule_names.contains_key(name),
+            Target::RuleName(name) => self.rule_names.get(name).is_none_or(|rule| rule.form != reference.form),
         };
         self.references.iter().find(lost).map(|reference| reference.place)
     }
@@ -145,7 +157,7 @@ impl<'a> Record<'a> {
                     self.rows[reference.row][column::A] = self.rows[question][column::NUMBER];
                 }
                 Target::RuleName(name) => {
-                    self.rows[reference.row][column::A] = self.rule_names[name];
+                    self.rows[reference.row][column::A] = self.rule_names[name].number;
                 }
             }
         }
@@ -171,6 +183,7 @@ impl<'a> Events<'a> for Record<'a> {
     }
 
     fn form(&mut self, number: u64, place: usize) {
+        self.form += 1;
         if !self.forms.insert(number) {
             self.faults.form.get_or_insert(place);
         }
@@ -196,13 +209,14 @@ impl<'a> Events<'a> for Record<'a> {
         if self.rules == RULES + 1 {
             self.faults.rule = Some(place);
         }
-        if self.rule_names.insert(name, self.rules).is_some() {
+        let rule = Rule { number: self.rules, form: self.form };
+        if self.rule_names.insert(name, rule).is_some() {
             self.faults.name.get_or_insert(name_place);
         }
     }
 
     fn reference(&mut self, target: Target<'a>, row: usize, place: usize) {
-        self.references.push(Reference { target, row, place });
+        self.references.push(Reference { target, form: self.form, row, place });
     }
 
     fn limits(&mut self, minimum: u64, maximum: At<u64>, default: Option<At<u64>>) {

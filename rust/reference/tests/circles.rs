@@ -1,28 +1,15 @@
 //! Document 02, W-202: refusal 14, on the examples of its readings.
 
 mod frame;
+mod outcome;
 
 use frame::framed;
-use reference::{quick_check, read, resolve, show, Position, Refusal};
+use outcome::{assert_accepted, assert_refused, at};
+use reference::{read, Position, Refusal};
 
 /// The refusal 14 at a place on the source's first line.
 fn circle(place: usize) -> Refusal {
-    Refusal { number: 14, place, position: Position { line: 1, column: place as u64 + 1 }, need: 0 }
-}
-
-/// All three calls refuse the fragment alike, with whatever is lent besides enough rows; the quick check does not.
-fn assert_refused(fragment: &str, refusal: Refusal) {
-    let source = framed(fragment);
-    let source = source.as_bytes();
-    assert_eq!(read(source, 70_000), Err(refusal), "{fragment}");
-    assert_eq!(resolve(source, 70_000, 0), Err(refusal), "{fragment}");
-    assert_eq!(show(source, &[4, 1], 70_000, 0), Err(refusal), "{fragment}");
-    assert_eq!(quick_check(source), 0, "{fragment}");
-}
-
-fn assert_accepted(fragment: &str, rows: usize, free: u64) {
-    let reading = read(framed(fragment).as_bytes(), rows).expect(fragment);
-    assert_eq!((reading.rows.len(), reading.free), (rows, free), "{fragment}");
+    at(14, place)
 }
 
 #[test]
@@ -81,9 +68,8 @@ fn long_chains() {
 /// After 12, wherever both stand, and before all that resolving and showing check; not before 6.
 #[test]
 fn order() {
-    let earlier = |number, place: usize| Refusal { number, ..circle(place) };
-    assert_refused("rule A,ruleref(A)+ruleref(Z) endrule;", earlier(11, 166));
-    assert_refused("rule A,ruleref(A) endrule;numeric P,minimum=5,maximum=4,endnumeric;", earlier(12, 236));
+    assert_refused("rule A,ruleref(A)+ruleref(Z) endrule;", at(11, 166));
+    assert_refused("rule A,ruleref(A) endrule;numeric P,minimum=5,maximum=4,endnumeric;", at(12, 236));
     let short = Refusal { number: 6, place: 0, position: Position::NONE, need: 4 };
     assert_eq!(read(framed("rule A,ruleref(A) endrule;").as_bytes(), 3), Err(short));
 }
@@ -95,9 +81,10 @@ fn line_and_column() {
     assert_refused("rule B,\nruleref(\n A)endrule;\nrule A,ruleref(B)endrule;", refusal);
 }
 
-/// A circle may pass through forms.
+/// A circle lies in one form, be it a later one (W-203).
 #[test]
 fn two_forms() {
-    let fragment = "rule A,ruleref(B)endrule;endform;form formid=2,title=S;rule B,ruleref(A)endrule;";
-    assert_refused(fragment, circle(155));
+    let next = "endform;form formid=2,title=S;";
+    assert_refused(&format!("rule A,ruleref(B)endrule;{next}rule B,ruleref(A)endrule;"), at(11, 155));
+    assert_refused(&format!("rule C,1 endrule;{next}rule A,ruleref(B)endrule;rule B,ruleref(A)endrule;"), circle(216));
 }

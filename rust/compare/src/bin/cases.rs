@@ -1,14 +1,16 @@
 //! `cases FOLDER`: the reference against answers given by document 01 alone (resolved text, rows, quick check), and the
-//! library against the reference. The folder has `NNNN.vfr` with `NNNN.expected`, and `rows.jsonl`. Refusal 14 of document
-//! 02 (W-202) may stand where document 01 refuses with nothing, or with 13, which comes after it.
+//! library against the reference. The folder has `NNNN.vfr` with `NNNN.expected`, and `rows.jsonl`. Document 02 changes some
+//! of these answers: a reference to a rule of another form is 11 (W-203); then refusal 14 (W-202) may stand where document
+//! 01 refuses with nothing, or with 13, which comes after it.
 
 #![forbid(unsafe_code)]
 
 use compare::check;
 use compare::json::{base64, Json};
 use compare::outcomes::{differ, Outcomes};
+use compare::strays::strays;
 use library::ANSWER;
-use reference::{Reading, Refusal, CIRCLE_REFUSAL, LONGEST, ROW, TEXT_REFUSAL};
+use reference::{Reading, Refusal, CIRCLE_REFUSAL, LONGEST, LOST_REFUSAL, ROW, TEXT_REFUSAL};
 use std::path::Path;
 use std::process::ExitCode;
 use std::{env, fs};
@@ -30,19 +32,33 @@ fn is_circle(given: u64, expected: u64) -> bool {
     given == CIRCLE_REFUSAL && [0, TEXT_REFUSAL].contains(&expected)
 }
 
-/// The number of the refusal in a printed line, or 0 of a text.
-fn printed_number(printed: &[u8]) -> u64 {
+/// The place at which a source is refused for a reference to a rule of another form, where document 01 has this number and
+/// place: those of the stages from 11 on, or acceptance.
+fn other_form(source: &[u8], number: u64, place: u64) -> Option<u64> {
+    let first = *strays(source).first()? as u64;
+    let is_later = number == 0 || number > LOST_REFUSAL || number == LOST_REFUSAL && place > first;
+    is_later.then_some(first)
+}
+
+/// The number and place of the refusal in a printed line, or 0 of a text.
+fn printed_refusal(printed: &[u8]) -> (u64, u64) {
     let line = std::str::from_utf8(printed).ok().and_then(|text| text.strip_prefix("refused "));
-    line.map_or(0, |line| line.split(' ').next().and_then(|word| word.parse().ok()).expect("a refusal's number"))
+    let numbers = |line: &str| {
+        let (number, place) = line.trim_end().split_once(" at ")?;
+        Some((number.parse().ok()?, place.parse().ok()?))
+    };
+    line.map_or((0, 0), |line| numbers(line).expect("a refusal's number and place"))
 }
 
 fn text_case(source: &[u8], expected: &[u8]) -> Option<String> {
     let given = printed(source);
-    if is_circle(printed_number(given.as_bytes()), printed_number(expected)) {
-        return None;
-    }
-    (given.as_bytes() != expected)
-        .then(|| format!("printed {given:?}\nexpected {:?}", String::from_utf8_lossy(expected)))
+    let (number, place) = printed_refusal(expected);
+    let expected = match other_form(source, number, place) {
+        Some(place) => format!("refused {LOST_REFUSAL} at {place}\n"),
+        None if is_circle(printed_refusal(given.as_bytes()).0, number) => return None,
+        None => String::from_utf8_lossy(expected).into_owned(),
+    };
+    (given != expected).then(|| format!("printed {given:?}\nexpected {expected:?}"))
 }
 
 fn text_cases(folder: &Path, outcomes: &mut Outcomes) -> std::io::Result<()> {
@@ -79,9 +95,11 @@ fn told_in(case: &Json) -> Told {
 
 fn read_case(source: &[u8], rows: usize, case: &Json) -> Option<String> {
     let (given, expected) = (told(&reference::read(source, rows)), told_in(case));
-    if is_circle(given.0, expected.0) {
-        return None;
-    }
+    let expected = match other_form(source, expected.0, expected.1) {
+        Some(place) => (LOST_REFUSAL, place, 0, 0, Vec::new()),
+        None if is_circle(given.0, expected.0) => return None,
+        None => expected,
+    };
     differ("read", given, expected)
 }
 
@@ -91,10 +109,12 @@ fn resolve_case(source: &[u8], rows: usize, bytes: usize, case: &Json) -> Option
     let (number, place, rows, free, _) = told(&given.map(|(reading, _)| reading));
     let numbers = [number, place, rows, free, text.len() as u64];
     let expected = ["number", "place", "rows", "free", "bytes"].map(|name| case.field(name).number());
-    if is_circle(number, expected[0]) {
-        return None;
-    }
-    differ("resolve", numbers, expected).or_else(|| differ("text", text.as_str(), case.field("text").text()))
+    let (expected, expected_text) = match other_form(source, expected[0], expected[1]) {
+        Some(place) => ([LOST_REFUSAL, place, 0, 0, 0], ""),
+        None if is_circle(number, expected[0]) => return None,
+        None => (expected, case.field("text").text()),
+    };
+    differ("resolve", numbers, expected).or_else(|| differ("text", text.as_str(), expected_text))
 }
 
 fn row_cases(folder: &Path, outcomes: &mut Outcomes) -> std::io::Result<()> {

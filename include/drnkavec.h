@@ -50,7 +50,7 @@ enum {
     VFR_QUESTION_REPEATED = 8,  /* place: the second written number */
     VFR_NAME_REPEATED = 9,      /* place: the second name */
     VFR_TOO_MANY_RULES = 10,    /* place: the 256th `rule` */
-    VFR_NOT_FOUND = 11,         /* place: the number or name that refers to nothing; so is a `ruleref` refused whose rule
+    VFR_NOT_FOUND = 11,         /* place: the number or name that refers to nothing, or, in a `ruleref`, to a rule that
                                    stands in another form */
     VFR_BAD_CHOICE = 12,        /* place: the maximum, default or value, or the second DEFAULT */
     VFR_RULE_CIRCLE = 14,       /* a rule reaches itself through references; place: the name in the source's first

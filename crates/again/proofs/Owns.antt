@@ -58,7 +58,9 @@ owns-like p q f g (pair {a = d} {b = e} {xs = ds} {ys = es} h r) =
     rw (f d e h, owns-like p q f g r) (either (q e) (λ y. rw (y, g d e h y)) (λ y. rw y))
 
 -- numbers of rows that pass a test are of rows that pass a wider one
-pub owns-wider : (p q : Draft → Bool) → ((d : Draft) → p d ≡ true → q d ≡ true) → (ds : List Draft) (k : ℕ) → mem k (ownsOf p ds) ≡ true → mem k (ownsOf q ds) ≡ true
+pub owns-wider :
+    (p q : Draft → Bool) → ((d : Draft) → p d ≡ true → q d ≡ true)
+    → (ds : List Draft) (k : ℕ) → mem k (ownsOf p ds) ≡ true → mem k (ownsOf q ds) ≡ true
 unfolding ownsOf mem
 owns-wider p q f [] k h = clash cc
 owns-wider p q f (d ∷ ds) k h =

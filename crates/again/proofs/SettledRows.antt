@@ -1,7 +1,7 @@
 -- Every draft row of an accepted source is settled: its finished row is found at its place, a question has got a number, a reference has found one.
 -- Assumes nothing.
 use mathlib.Core.Path.{_≡_, refl, ap, sym, _∙_}
-use mathlib.Core.List.{List, [], _∷_}
+use mathlib.Core.List.{List, []}
 use mathlib.Core.Bool.{true, false, cond, _&&_, or-true, true≢false}
 use Prim.Native.Nat.{ℕ, _≤_, _<_}
 use native.Mathlib.Omega.{arith}
@@ -18,7 +18,8 @@ use Rattle.rows.specs.Columns as column
 use Rattle.ll1.specs.Trees.{Trees}
 use Rattle.answers.specs.Rows.{Draft}
 use Rattle.grammar.specs.Parts.{mark}
-use Rattle.answers.specs.Stages.{cell, is, asks, any, faultIf, rulesOverLimit, unfound, ownNumbers, withCell, numberedRows, formRound, finds, refers, ownOfFirst, finished}
+use Rattle.answers.specs.Stages.{cell, is, asks, any, faultIf, rulesOverLimit, unfound}
+use Rattle.answers.specs.Stages.{ownNumbers, withCell, numberedRows, formRound, finds, refers, ownOfFirst, finished}
 use Rattle.answers.specs.Answer.{LONGEST, drafts}
 use Rattle.answers.specs.Text.{rowFirstAt}
 use Rattle.answers.specs.Demand3 as Demand3

@@ -15,7 +15,8 @@ use Rattle.numbers.specs.Numbers.{numbered}
 use Rattle.rows.specs.Codes as code
 use Rattle.rows.specs.Columns as column
 use Rattle.answers.specs.Rows.{Draft}
-use Rattle.answers.specs.Stages.{cell, is, asks, writes, any, placeOf, unfound, ownNumbers, withNumbers, numberedRows, declares, formRound, ruleNamed, finds, refers, ownOfFirst, finished}
+use Rattle.answers.specs.Stages.{cell, is, asks, writes, any, placeOf, unfound}
+use Rattle.answers.specs.Stages.{ownNumbers, withNumbers, numberedRows, declares, formRound, ruleNamed, finds, refers, ownOfFirst, finished}
 use Rattle.answers.proofs.Settling.{finished-numbered}
 use Rattle.drafts.proofs.RowTests.{other-code}
 use Rattle.sound.proofs.Lists.{All}

@@ -69,7 +69,8 @@ pub record Says (t : List ℕ) (ds : List Draft) (d : Draft) : Type 0 where
   pub reference-name : is code.RULE-REF d ≡ true → words.word (drop (placeOf (d .ownAt)) t) ≡ nameWord (named t d)
   pub by-name : is code.RULE-REF d ≡ true → mem (named t d) (ownsOf (ruleOf (formRound ds d)) ds) ≡ true
 
-module _ (t : List ℕ) (look : ℕ → List ℕ) {ds′ ds : List Draft} (numbers : ownNumbers ds′ ≡ numbered (ownNumbers ds)) (alike : Pairs Like ds′ ds) (own : Own (numbered (ownNumbers ds))) where
+module _ (t : List ℕ) (look : ℕ → List ℕ) {ds′ ds : List Draft} (numbers : ownNumbers ds′ ≡ numbered (ownNumbers ds)) (alike : Pairs Like ds′ ds)
+    (own : Own (numbered (ownNumbers ds))) where
   says : {d′ d : Draft} → Match t look d′ d → Settled look d → Resolved look ds d → Says t ds′ d′
   says {d′} {d} m u v =
       record {
@@ -89,4 +90,6 @@ module _ (t : List ℕ) (look : ℕ → List ℕ) {ds′ ds : List Draft} (numbe
           rw (same-number t look m (other-code d′ code.QUESTION-REF code.RULE-REF r refl), numbers) (number-range a (own .within a there) .0, there)
 
   pub all-say : Pairs (Match t look) ds′ ds → All (Settled look) ds → All (Resolved look ds) ds → All (Says t ds′) ds′
-  all-say p u r = firsts (λ d′ d h. h) (pairs-second {R = λ d. Settled look d × Resolved look ds d} (λ d′ d m v. says m (v .0) (v .1)) p (all-with (λ d x y. (x, y)) u r))
+  all-say p u r =
+      firsts (λ d′ d h. h)
+      (pairs-second {R = λ d. Settled look d × Resolved look ds d} (λ d′ d m v. says m (v .0) (v .1)) p (all-with (λ d x y. (x, y)) u r))

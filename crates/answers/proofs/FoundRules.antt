@@ -4,8 +4,8 @@ use Prim.Native.Nat.{ℕ, suc, _<_}
 use native.Mathlib.Omega.{arith}
 use mathlib.Core.Path.{_≡_, refl, sym, ap, ap₂, _∙_}
 use mathlib.Core.Logic.{_≢_}
-use mathlib.Core.Bool.{Bool, true, false, not, cond, _&&_, or-true}
-use mathlib.Core.List.{List, [], _∷_, map}
+use mathlib.Core.Bool.{Bool, true, not, cond, _&&_, or-true}
+use mathlib.Core.List.{List, [], _∷_}
 use lib.Dec.{eqb, ltb}
 use lib.ListN.{length, getD, set, length-map, length-set}
 use lib.Seq.{getD-set-same, getD-set-other}
@@ -76,7 +76,7 @@ module _ (s : List ℕ) where
   -- ---- the own number that is found
 
   -- that of the first row that passes a test is a row's that does
-  first-own :
+  pub first-own :
       (p : Draft → Bool) (ds : List Draft)
       → any p ds ≡ true → (j : ℕ) × (j < length ds) × (p (rowAmong ds j) ≡ true) × (ownOfFirst s p ds ≡ cell column.OWN (rowAmong ds j))
   unfolding any ownOfFirst

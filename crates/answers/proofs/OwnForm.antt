@@ -3,8 +3,8 @@
 use Prim.Native.Nat.{ℕ, _<_}
 use native.Mathlib.Omega.{arith}
 use mathlib.Core.Path.{_≡_, refl, sym, ap, _∙_}
-use mathlib.Core.Logic.{_≢_}
-use mathlib.Core.Bool.{true, false, not, _&&_, or-true}
+use mathlib.Core.Logic.{_≢_, _↔_}
+use mathlib.Core.Bool.{true, false}
 use mathlib.Core.List.{List, [], _∷_, map}
 use lib.ListN.{length, getD}
 use borrow.Author.Tests.{eqb-true, eq-eqb, ne-eqb}
@@ -18,16 +18,16 @@ use Rattle.answers.specs.Rows.{Draft}
 use Rattle.answers.specs.Stages.{cell, is, any, placeOf, rowAmong, formRound, ruleNamed, finds, inVain, repeatedNames, unfound, draftRows, finished}
 use Rattle.answers.specs.Answer.{refuses, drafts}
 use Rattle.answers.specs.WholeAnswer.{readAnswer}
-use Rattle.answers.specs.Demand3.{Sound, Passes, to-9, to-10, Refuses, nothing-found}
-use Rattle.answers.specs.Forms.{columnOf, StandsIn, directly, within, OfItsForm, Stray}
+use Rattle.answers.specs.Demand3.{Passes, to-9, to-10, nothing-found}
+use Rattle.answers.specs.Forms.{columnOf, StandsIn, directly, within, SharesForm, OfItsForm, Stray}
 use Rattle.answers.proofs.Answers.{passes-grammatical, refused-answer}
 use Rattle.answers.proofs.Demand3.{rows-whole}
 use Rattle.answers.proofs.Faults.{fault-first}
 use Rattle.answers.proofs.FoundRows.{finished-column, finished-count}
-use Rattle.answers.proofs.FoundRules.{ofForm, finds-rule, found-rule}
+use Rattle.answers.proofs.FoundRules.{finds-rule, first-own, found-rule}
 use Rattle.answers.proofs.Forms.{map-getD, column-is, stands-once, stands-same, parent-stands, round-stands}
 use Rattle.answers.proofs.RuleForms.{RuleForms, rule-forms}
-use Rattle.answers.proofs.RuleNames.{any-only, named-once}
+use Rattle.answers.proofs.RuleNames.{any-row, any-only, named-once}
 
 -- ---- finished rows stand where their drafts do
 
@@ -43,7 +43,10 @@ module _ (s : List ℕ) (ds : List Draft) where
       of-drafts (d ∷ ds) = ap (_∷_ (cell c d)) (of-drafts ds)
 
   finished-stands : {f i : ℕ} → StandsIn (draftRows ds) f i → StandsIn (finished s ds) f i
-  finished-stands = stands-same (column-same column.CODE (λ q. omega arith) (λ q. omega arith)) (column-same column.PARENT (λ q. omega arith) (λ q. omega arith))
+  finished-stands =
+      stands-same
+      (column-same column.CODE (λ q. omega arith) (λ q. omega arith))
+      (column-same column.PARENT (λ q. omega arith) (λ q. omega arith))
 
 module _ (s : List ℕ) (tree : Trees) (derives : Derives (sourceTokens s) tree) (depths : NowhereTooDeep tree) where
   abbrev ds : List Draft
@@ -56,6 +59,46 @@ module _ (s : List ℕ) (tree : Trees) (derives : Derives (sourceTokens s) tree)
   code-of : (i : ℕ) {k : ℕ} → columnOf (finished s ds) column.CODE i ≡ k → is k (rowAmong ds i) ≡ true
   code-of i {k} e =
       eq-eqb _ k (sym (column-is ds column.CODE i) ∙ column-same s ds column.CODE (λ q. omega arith) (λ q. omega arith) i ∙ e)
+
+  -- the rule and the ruleref in these rows stand in what is computed for them
+  rule-there : (i : ℕ) → i < length ds → is code.RULE (rowAmong ds i) ≡ true → StandsIn (draftRows ds) (cell column.PARENT (rowAmong ds i)) i
+  rule-there i h r = parent-stands ds i (forms .of-rule i h r)
+
+  reference-there : (i : ℕ) → i < length ds → is code.RULE-REF (rowAmong ds i) ≡ true → StandsIn (draftRows ds) (formRound ds (rowAmong ds i)) i
+  reference-there i h r = round-stands ds i (forms .of-reference i h r)
+
+  -- ---- what a ruleref finds
+
+  -- it finds something exactly where a rule of its name stands in its form
+  pub finds-exactly :
+      (i : ℕ) → i < length ds → is code.RULE-REF (rowAmong ds i) ≡ true → (any (finds s ds (rowAmong ds i)) ds ≡ true) ↔ SharesForm s ds i
+  finds-exactly i h r = (found, shared)
+    where
+      d : Draft
+      d = rowAmong ds i
+
+      found : any (finds s ds (rowAmong ds i)) ds ≡ true → SharesForm s ds i
+      found e =
+          let u = first-own s (finds s ds d) ds e in
+          let passes = ap (λ (p : Draft → _). p (rowAmong ds (u .0))) (sym (finds-rule s ds d r)) ∙ u .2 in
+          let both = and-true (ruleNamed s (placeOf (d .ownAt)) (rowAmong ds (u .0))) _ passes in
+          let rule = and-true (is code.RULE (rowAmong ds (u .0))) _ (both .0) .0 in
+          record {
+            rule = u .0;
+            form = formRound ds d;
+            inside = u .1;
+            names-it = both .0;
+            rule-stands = rw (← eqb-true _ (formRound ds d) (both .1)) (rule-there (u .0) (u .1) rule);
+            reference-stands = reference-there i h r;
+          }
+
+      shared : SharesForm s ds i → any (finds s ds (rowAmong ds i)) ds ≡ true
+      shared v =
+          let rule = and-true (is code.RULE (rowAmong ds (v .rule))) _ (v .names-it) .0 in
+          let own = stands-once (rule-there (v .rule) (v .inside) rule) (v .rule-stands) in
+          let form = stands-once (reference-there i h r) (v .reference-stands) in
+          ap (λ (p : Draft → _). any p ds) (finds-rule s ds d r)
+          ∙ any-row _ ds (v .rule) (v .inside) (rw (v .names-it) (eq-eqb _ (formRound ds d) (own ∙ sym form)))
 
   -- ---- where stage 11 finds no fault
 
@@ -70,8 +113,8 @@ module _ (s : List ℕ) (tree : Trees) (derives : Derives (sourceTokens s) tree)
         is-rule = f .code-is;
         number = f .own-is;
         rule-stands =
-            finished-stands s ds (rw (← f .parent-is) (parent-stands ds (f .at) (forms .of-rule (f .at) (f .inside) (code-of (f .at) (f .code-is)))));
-        reference-stands = finished-stands s ds (round-stands ds i (forms .of-reference i h (code-of i c)));
+            finished-stands s ds (rw (← f .parent-is) (rule-there (f .at) (f .inside) (code-of (f .at) (f .code-is))));
+        reference-stands = finished-stands s ds (reference-there i h (code-of i c));
       }
 
   -- and so does the rule that it stands in, if it stands in one
@@ -95,14 +138,15 @@ module _ (s : List ℕ) (tree : Trees) (derives : Derives (sourceTokens s) tree)
     not-there : cell column.PARENT (rowAmong ds (v .rule)) ≢ formRound ds d
     not-there e =
         let rule = and-true (is code.RULE (rowAmong ds (v .rule))) _ (v .names-it) .0 in
-        let other = stands-once (parent-stands ds (v .rule) (forms .of-rule (v .rule) (v .inside) rule)) (v .rule-stands) in
-        let form = stands-once (round-stands ds i (forms .of-reference i h (v .is-reference))) (v .reference-stands) in
+        let other = stands-once (rule-there (v .rule) (v .inside) rule) (v .rule-stands) in
+        let form = stands-once (reference-there i h (v .is-reference)) (v .reference-stands) in
         v .apart (sym form ∙ sym e ∙ other)
 
     nothing : any (finds s ds d) ds ≡ false
     nothing =
         ap (λ (p : Draft → _). any p ds) (finds-rule s ds d (v .is-reference))
-        ∙ any-only (ruleNamed s (placeOf (d .ownAt))) _ ds (named-once s (placeOf (d .ownAt)) ds names) (v .rule) (v .inside) (v .names-it) (ne-eqb _ _ not-there)
+        ∙ any-only (ruleNamed s (placeOf (d .ownAt))) _ ds (named-once s (placeOf (d .ownAt)) ds names)
+        (v .rule) (v .inside) (v .names-it) (ne-eqb _ _ not-there)
 
     -- names it in vain
     pub stray-vain : inVain s ds d ≡ d .ownAt ∷ []

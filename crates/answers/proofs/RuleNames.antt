@@ -24,7 +24,7 @@ Once p [] = Unit {0}
 Once p (d ∷ ds) = (p d ≡ true → any p ds ≡ false) × Once p ds
 
 -- a row that passes the test
-any-row : (p : Draft → Bool) (ds : List Draft) (j : ℕ) → j < length ds → p (rowAmong ds j) ≡ true → any p ds ≡ true
+pub any-row : (p : Draft → Bool) (ds : List Draft) (j : ℕ) → j < length ds → p (rowAmong ds j) ≡ true → any p ds ≡ true
 unfolding any
 any-row p [] j h x = absurd (omega arith)
 any-row p (d ∷ ds) zero h x = rw x
@@ -88,7 +88,9 @@ same-once p (x ∷ ds) (y ∷ es) e o =
 
 module _ (s : List ℕ) (p : ℕ) where
   -- two rules that declare the name at p have the same
-  same-names : (d e : Draft) → ruleNamed s p d ≡ true → ruleNamed s p e ≡ true → (ltb 0 (cell column.NAME d) && (sameSort s d e && declares s (placeOf (cell column.NAME d)) e)) ≡ true
+  same-names :
+      (d e : Draft) → ruleNamed s p d ≡ true → ruleNamed s p e ≡ true
+      → (ltb 0 (cell column.NAME d) && (sameSort s d e && declares s (placeOf (cell column.NAME d)) e)) ≡ true
   same-names d e x y =
       let u = and-true (is code.RULE d) _ x in
       let v = and-true (is code.RULE e) _ y in

@@ -1,4 +1,4 @@
--- Demand 3 in the terms of document 01, and of document 02's W-202: what a source must be for reading to accept it, and what it is where reading
+-- Demand 3 in the terms of document 01, and of document 02's W-202 and W-203: what a source must be for reading to accept it, and what it is where reading
 -- refuses it. "Written without our reader": no parser is named here, nor in what this imports. Assumes nothing.
 use Prim.Native.Nat.{ℕ, zero, suc, _/_, _≤_, _<_}
 use mathlib.Core.Path.{_≡_}
@@ -38,7 +38,7 @@ pub record Sound (s : List ℕ) (tree : Trees) : Type 0 where
   pub names : repeatedNames s (drafts s tree) ≡ []
   -- the limit by 10
   pub limit : rulesOverLimit (drafts s tree) ≡ []
-  -- reference by 11
+  -- reference by 11; a rule belongs to its form (W-203)
   pub references : unfound s (drafts s tree) ≡ []
   -- choice by 12"
   pub choices : badChoices (drafts s tree) ≡ []
@@ -103,7 +103,7 @@ pub data Refuses (s : List ℕ) (n : ℕ) : Answer → Type 0 where
   name-repeated : {tree : Trees} {m : ℕ} {ms : List ℕ} → Passes s n tree 8 → repeatedNames s (drafts s tree) ≡ m ∷ ms → Refuses s n (refuses 9 (placeOf m))
   -- 10 | a 256th rule | its `rule`
   rule-over-limit : {tree : Trees} {m : ℕ} {ms : List ℕ} → Passes s n tree 9 → rulesOverLimit (drafts s tree) ≡ m ∷ ms → Refuses s n (refuses 10 (placeOf m))
-  -- 11 | goto, `questionref` or `ruleref` finds nothing | its number or name
+  -- 11 | goto, `questionref` or `ruleref` finds nothing; "now also given where the rule stands in another form" (W-203) | its number or name
   nothing-found : {tree : Trees} {m : ℕ} {ms : List ℕ} → Passes s n tree 10 → unfound s (drafts s tree) ≡ m ∷ ms → Refuses s n (refuses 11 (placeOf m))
   -- 12 | maximum below minimum; default outside them; an option's value repeated in its oneof; a second DEFAULT there
   --    | the number of the maximum, default or value, or that word `DEFAULT`

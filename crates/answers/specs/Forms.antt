@@ -28,6 +28,15 @@ pub data StandsIn (rows : List (List ℕ)) (form : ℕ) : ℕ → Type 0 where
 
 -- ---- document 02's W-203
 
+-- "find only a rule of the form it stands in, earlier or later": the ruleref in row i of the drafts, and a rule of its name, stand in one form
+pub record SharesForm (s : List ℕ) (ds : List Draft) (i : ℕ) : Type 0 where
+  pub rule : ℕ
+  pub form : ℕ
+  pub inside : rule < length ds
+  pub names-it : ruleNamed s (placeOf (rowAmong ds i .ownAt)) (rowAmong ds rule) ≡ true
+  pub rule-stands : StandsIn (draftRows ds) form rule
+  pub reference-stands : StandsIn (draftRows ds) form i
+
 -- "A `ruleref` should find only a rule of the form it stands in": the ruleref in row i has the number of a rule of its own form
 pub record OfItsForm (rows : List (List ℕ)) (i : ℕ) : Type 0 where
   pub rule : ℕ

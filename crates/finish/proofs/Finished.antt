@@ -190,7 +190,8 @@ module _ {t : List ℕ} {ds : List Draft} (v : DraftsIn t ds) where
 abbrev withTheirs : List Draft → List Draft
 withTheirs ds = withNumbers (numbered (ownNumbers ds)) ds
 
-module _ {ds : List Draft} (v : SoundRows ds) (s : List ℕ) (names : repeatedNames s ds ≡ []) (found : unfound s ds ≡ []) {es : List ℕ} (index : Indexes s ds es) {ws : List ℕ} (holds : Holds ws (ownNumbers ds))
+module _ {ds : List Draft} (v : SoundRows ds) (s : List ℕ) (names : repeatedNames s ds ≡ []) (found : unfound s ds ≡ [])
+    {es : List ℕ} (index : Indexes s ds es) {ws : List ℕ} (holds : Holds ws (ownNumbers ds))
     (t : List ℕ) (room : length ds ≤ wholeRows t) (held : rowsFrom t 0 (length ds) ≡ map encoded ds) where
   fit : AllFit (withTheirs ds)
   fit = fit-with (sound-fit (v .each)) (numbered (ownNumbers ds))

@@ -4,7 +4,7 @@ use Prim.Native.Nat.{ℕ, suc, _≤_, _<_}
 use native.Mathlib.Omega.{arith}
 use mathlib.Core.Path.{_≡_, refl, sym, ap, _∙_}
 use mathlib.Core.Logic.{⊎-elim}
-use mathlib.Core.Bool.{Bool, true, false, cond, _&&_, _||_, true≢false}
+use mathlib.Core.Bool.{Bool, true, false, cond, _&&_, true≢false}
 use mathlib.Core.List.{List, [], _∷_}
 use borrow.Author.Tests.{eqb-true}
 use lib.Dec.{eqb}
@@ -20,8 +20,8 @@ use Rattle.grammar.specs.Source.{sourceTokens}
 use Rattle.circles.specs.Circles.{isRule, leads, Reaches, here, onward}
 use Rattle.circles.proofs.Reaching.{or-yes}
 use Rattle.circles.proofs.Steps.{rule-range, leads-append}
-use Rattle.rule_steps.specs.Steps.{ruleRound, ruleFound, stepIn, stepsAmong, ruleSteps}
-use Rattle.answers.specs.Stages.{unfound, finished}
+use Rattle.rule_steps.specs.Steps.{ruleRound, stepIn, stepsAmong, ruleSteps}
+use Rattle.answers.specs.Stages.{unfound}
 use Rattle.answers.specs.Answer.{drafts}
 use Rattle.answers.specs.Forms.{columnOf, RuleIn}
 use Rattle.answers.proofs.Circles.{step-of}
@@ -35,7 +35,9 @@ use Rattle.form_set_rules.proofs.Tables.{rows, count, table, row-at, ru
 
 module _ (rows : List (List ℕ)) where
   -- the row of a step of some of the rows
-  step-row : (rs : List (List ℕ)) (a b : ℕ) → leads (stepsAmong rows rs) a b ≡ true → (i : ℕ) × (i < length rs) × (leads (stepIn rows (getD rs i [])) a b ≡ true)
+  step-row :
+      (rs : List (List ℕ)) (a b : ℕ)
+      → leads (stepsAmong rows rs) a b ≡ true → (i : ℕ) × (i < length rs) × (leads (stepIn rows (getD rs i [])) a b ≡ true)
   unfolding stepsAmong leads
   step-row [] a b e = absurd (true≢false (sym e))
   step-row (r ∷ rs) a b e =
@@ -52,7 +54,8 @@ module _ (rows : List (List ℕ)) where
 
   in-rule : (i : ℕ) {a : ℕ} → isRule a ≡ true → ruleRound rows (getD rows i []) ≡ a → InRule i a
   unfolding ruleRound
-  in-rule i {a} h e = go (eqb (columnOf rows column.CODE i) code.RULE-REF) refl (eqb (columnOf rows column.CODE (columnOf rows column.PARENT i)) code.RULE) refl e
+  in-rule i {a} h e =
+      go (eqb (columnOf rows column.CODE i) code.RULE-REF) refl (eqb (columnOf rows column.CODE (columnOf rows column.PARENT i)) code.RULE) refl e
     where
       go :
           (t : Bool) → eqb (columnOf rows column.CODE i) code.RULE-REF ≡ t
@@ -105,7 +108,8 @@ module _ (s : List ℕ) (tree : Trees) (derives : Derives (sourceTokens s) tree)
         let own = of-its-form s tree derives depths found i here (round .is-reference) in
         let same : v .row ≡ k =
         one-rule (v .row) k (inside (v .row) (v .is-rule)) (inside k (round .is-rule)) (v .is-rule) (round .is-rule) (v .numbered ∙ sym (round .numbered)) in
-        let one : own .form ≡ form = stands-once (rule-round s tree derives depths found i here (round .is-reference) (round .is-rule)) (rw same at (v .stands)) in
+        let rule = rule-round s tree derives depths found i here (round .is-reference) (round .is-rule) in
+        let one : own .form ≡ form = stands-once rule (rw same at (v .stands)) in
         record {
           row = own .rule;
           inside = own .inside;

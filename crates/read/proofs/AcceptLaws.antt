@@ -68,7 +68,8 @@ module _ {s es ws t : List ℕ} {count : ℕ} (pre : Ready s es ws t count) wher
 
   counted : {ws′ : List ℕ} → ws′ ≡ givenMap ws 1 (ownsIn (rowsFrom t 0 count)) → usedCount ws′ + freeCount (numbered (ownNumbers ds)) ≡ 65535
   counted {ws′} e =
-      free-finished (pre .drafted .sound) s (pre .named) (pre .found) (pre .index) (pre .written) t (rw many (pre .drafted .room)) (rw many (pre .drafted .held))
+      free-finished (pre .drafted .sound) s (pre .named) (pre .found) (pre .index) (pre .written) t
+      (rw many (pre .drafted .room)) (rw many (pre .drafted .held))
       {ws₁ = ws′} (rw many e)
 
   pub used-few : {ws′ : List ℕ} → ws′ ≡ givenMap ws 1 (ownsIn (rowsFrom t 0 count)) → {n : ℕ} → n ≡ usedCount ws′ → n ≤ 65535
@@ -80,7 +81,8 @@ module _ {s es ws t : List ℕ} {count : ℕ} (pre : Ready s es ws t count) wher
     -- the first rows are the settled drafts
     settled-held : DraftsIn t₁ (settled s ds)
     settled-held =
-        settled-in (pre .drafted .sound) s (pre .named) (pre .found) (pre .index) (pre .written) t (rw many (pre .drafted .room)) (rw many (pre .drafted .held))
+        settled-in (pre .drafted .sound) s (pre .named) (pre .found) (pre .index) (pre .written) t
+        (rw many (pre .drafted .room)) (rw many (pre .drafted .held))
         {t₂ = t₁} (rw many one)
 
     drafts-are : draftsFrom t₁ 0 count ≡ settled s ds
@@ -88,7 +90,8 @@ module _ {s es ws t : List ℕ} {count : ℕ} (pre : Ready s es ws t count) wher
 
     long : length t₁ ≡ length t
     long =
-        settled-long (pre .drafted .sound) s (pre .named) (pre .found) (pre .index) (pre .written) t (rw many (pre .drafted .room)) (rw many (pre .drafted .held))
+        settled-long (pre .drafted .sound) s (pre .named) (pre .found) (pre .index) (pre .written) t
+        (rw many (pre .drafted .room)) (rw many (pre .drafted .held))
         {t₂ = t₁} (rw many one)
 
     -- ---- 14, by the mark that the stage answers
@@ -121,7 +124,8 @@ module _ {s es ws t : List ℕ} {count : ℕ} (pre : Ready s es ws t count) wher
             → t₃ ≡ tablePast12 s ds (length t)
         unfolding tablePast12
         table-accepted {t₂} {t₃} two three =
-            finished-table (pre .drafted .sound) s (pre .named) (pre .found) (pre .index) (pre .written) t (rw many (pre .drafted .room)) (rw many (pre .drafted .held))
+            finished-table (pre .drafted .sound) s (pre .named) (pre .found) (pre .index) (pre .written) t
+            (rw many (pre .drafted .room)) (rw many (pre .drafted .held))
             {t₂ = t₁} (rw many one) {t₃ = t₂} {t₄ = t₃} (rw many two) (rw many three)
             ∙ rw free-is
 

@@ -1,26 +1,30 @@
 -- Demands 1 and 3 of the functions `read` and `quick_check`: what their contracts say of every source and every table lent, in document 01's terms
--- with W-202's, which are those of `answers`' `specs/Demand3`; and document 02's request W-201 of `read`.
+-- with W-202's and W-203's, which are those of `answers`' `specs/Demand3`; and document 02's requests W-201 and W-203 of `read`.
 -- Assumes nothing.
 use Prim.Native.Nat.{ℕ, _+_, _-_, _*_, _/_, _^_, _≤_, _<_}
 use mathlib.Core.Path.{_≡_, sym, ap, _∙_}
 use mathlib.Core.Logic.{_⊎_, _↔_, _≢_}
-use mathlib.Core.List.{List}
+use mathlib.Core.List.{List, []}
 use lib.ListN.{length, drop, replicate}
 use borrow.Author.Tests.{ne-eqb}
 use borrow.Fn.Kinds.{Dens, endedOf}
 use contract.Lifetimes.{Lfts}
 use denote.Triple.Clauses.{AtExit}
 use Rattle.numbers.specs.Numbers.{numbered, freeCount}
+use Rattle.rows.specs.Codes as code
+use Rattle.rows.specs.Columns as column
 use Rattle.rows.specs.Columns.{ROW}
 use Rattle.rows.specs.Rows.{rowsFrom, laid}
 use Rattle.ll1.specs.Trees.{Trees}
-use Rattle.answers.specs.Stages.{ownNumbers, finished}
+use Rattle.answers.specs.Stages.{placeOf, rowAmong, inVain, ownNumbers, finished}
 use Rattle.answers.specs.Answer as answers
 use Rattle.answers.specs.Answer.{LONGEST, refuses, drafts}
 use Rattle.answers.specs.WholeAnswer.{quickCheck, readAnswer, readTable}
-use Rattle.answers.specs.Demand3.{Sound, Refuses, questionNumbers, GetsSmallest}
+use Rattle.answers.specs.Demand3.{Sound, Passes, Refuses, questionNumbers, GetsSmallest}
+use Rattle.answers.specs.Forms.{columnOf, OfItsForm, Stray}
 use Rattle.answers.proofs.Answers.{passes-grammatical}
 use Rattle.answers.proofs.Demand3 as Demand3
+use Rattle.answers.proofs.OwnForm as OwnForm
 use Rattle.replies.specs.Replies.{positionOf, accepting, readReplied, readReply}
 use Rattle.replies.specs.Lines.{GivesLine}
 use Rattle.replies.proofs.Laws.{gives-line, read-replied-only}
@@ -66,10 +70,21 @@ module _ {s : List ℕ} {n : ℕ} {r : Answer} {t′ : List ℕ} (v : Reading s 
   pub gives-both : GivesLine s (told r)
   gives-both = let a = readAnswer s n in rw (v .answer) (gives-line s (a .number) (a .place) (a .rows) (a .free) 0)
 
+  -- ---- W-203: a rule belongs to its form
+
+  -- "11 is now also given where the rule stands in another form": at that name, unless an earlier stage refuses, or an earlier row names something in vain
+  pub stray-refused :
+      {tree : Trees}
+      → Passes s n tree 10 → {i : ℕ} → i < length (drafts s tree) → Stray s (drafts s tree) i
+      → ((j : ℕ) → j < i → inVain s (drafts s tree) (rowAmong (drafts s tree) j) ≡ [])
+      → told r ≡ readReplied s (refuses 11 (placeOf (rowAmong (drafts s tree) i .ownAt)))
+  stray-refused p h w before = v .answer ∙ ap (readReplied s) (OwnForm.stray-refused p h w before)
+
   -- ---- demand 3
 
   -- "For every source of at most 65,536 bytes and every table of at least as many whole rows as the source has bytes": accepted exactly when the
-  -- grammar derives it "and its depths, ranges, 255-rule limit, uniqueness, reference and choice rules hold", and no rule reaches itself (W-202)
+  -- grammar derives it "and its depths, ranges, 255-rule limit, uniqueness, reference and choice rules hold", the reference rule by W-203, and no rule
+  -- reaches itself (W-202)
   pub accepted-exactly : length s ≤ LONGEST → length s * ROW ≤ n → (told r .number ≡ 0) ↔ ((tree : Trees) × Sound s tree)
   accepted-exactly short large = rw (v .answer) (Demand3.accepts-exactly s n short large)
 
@@ -102,6 +117,14 @@ module _ {s : List ℕ} {n : ℕ} {r : Answer} {t′ : List ℕ} (v : Reading s 
       numbers-in-table =
           let passes = Demand3.accepted-passes s n accepted′ tree (sound .derives) in
           rw rows-in-table (Demand3.numbers-smallest s tree (sound .derives) (passes-grammatical passes .short))
+
+      -- ---- W-203
+
+      -- "A `ruleref` should find only a rule of the form it stands in": each one in the table has the number of a rule of its own form
+      pub of-its-form :
+          (i : ℕ) → i < length (drafts s tree) → columnOf (rowsFrom t′ 0 (length (drafts s tree))) column.CODE i ≡ code.RULE-REF
+          → OfItsForm (rowsFrom t′ 0 (length (drafts s tree))) i
+      of-its-form = rw rows-in-table (OwnForm.of-its-form s tree (sound .derives) (sound .depths) (sound .references))
 
     -- whatever table is lent, an accepted source has such a derivation, and its rows stand in the table
     pub accepted-rows :

@@ -68,7 +68,9 @@ module _ (ds : List Draft) (d : Draft) where
         let here : formFrom ds (suc (left - 1)) p ≡ p = rw (sym e ∙ y) in
         sym here ∙ ap (λ (n : ℕ). formFrom ds n p) (sym more) ∙ v .same
 
-    pub climbing-next : 0 < left → {b : Bool} → b ≡ is code.FORM (rowAmong ds p) → b ≡ false → {q : ℕ} → q ≡ cell column.PARENT (rowAmong ds p) → Climbing (left - 1) q
+    pub climbing-next :
+        0 < left → {b : Bool} → b ≡ is code.FORM (rowAmong ds p) → b ≡ false
+        → {q : ℕ} → q ≡ cell column.PARENT (rowAmong ds p) → Climbing (left - 1) q
     unfolding formFrom
     climbing-next h e y f =
         let more : left ≡ suc (left - 1) = omega arith in

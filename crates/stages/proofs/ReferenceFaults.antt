@@ -99,7 +99,9 @@ module _ {ds : List Draft} {s xs : List ℕ} (index : Indexes s ds xs) where
         go false z r = w .same (cell column.A d) ∙ sym (finds-numbered d r (eqb-false _ _ z))
 
     -- the rule of the name is the one that the index finds, where no other rule has it
-    rule-tells : (d : Draft) → is code.RULE-REF d ≡ true → 0 < d .ownAt → Once (ruleNamed s (placeOf (d .ownAt))) ds → findsRule s xs ds d ≡ any (finds s ds d) ds
+    rule-tells :
+        (d : Draft) → is code.RULE-REF d ≡ true → 0 < d .ownAt
+        → Once (ruleNamed s (placeOf (d .ownAt))) ds → findsRule s xs ds d ≡ any (finds s ds d) ds
     unfolding findsRule inForm
     rule-tells d e h o =
         rw (index .finds (d .ownAt) true h)

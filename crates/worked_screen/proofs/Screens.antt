@@ -24,7 +24,8 @@ use Rattle.grammar.specs.Reading.{verdictFrom, derivation}
 use Rattle.grammar.specs.Source.{grammarTokens, sourceTokens, numberAt}
 use Rattle.grammar.specs.Ranges.{ranges, rangeOf, keeps, outOfRange}
 use Rattle.answers.specs.Expression.{expression}
-use Rattle.answers.specs.Stages.{any, faultsAfter, repeatedForms, repeatedQuestions, repeatedNames, rulesOverLimit, formFrom, formRound, unfound, below, badChoices}
+use Rattle.answers.specs.Stages.{any, faultsAfter, repeatedForms, repeatedQuestions, repeatedNames, rulesOverLimit}
+use Rattle.answers.specs.Stages.{formFrom, formRound, unfound, below, badChoices}
 use Rattle.answers.specs.Stages.{ownNumbers, withNumbers, numberedRows, ownOfFirst, withReferences, settled, finished, onCircle, circularReferences}
 use Rattle.answers.specs.Answer.{Answer, accepts, refuses, needs, answerOf, drafts}
 use Rattle.answers.specs.WholeAnswer.{checked, readAnswer, rowsOf}
@@ -54,7 +55,8 @@ unfoldable pub shownIn : (n m : ℕ) (s answers : List ℕ) → Shown
 unfolding signs reserved run all same placeAmong isGap inComment gap isHex wordClass wordToken signClass signToken tokenFrom tokenAfterGap
     tokensWithin tokensFrom tokens badAmong firstBad sameWord valueFrom numeral valueAt digitsAt picked freeFrom fill numbered mem code.member
     code.questions isQuestion machine.run parser.derivation productions rules lookahead verdictFrom derivation grammarTokens sourceTokens numberAt
-    expression ranges rangeOf keeps outOfRange any faultsAfter repeatedForms repeatedQuestions repeatedNames rulesOverLimit formFrom formRound unfound below badChoices
+    expression ranges rangeOf keeps outOfRange any faultsAfter repeatedForms repeatedQuestions repeatedNames rulesOverLimit
+    formFrom formRound unfound below badChoices
     ownNumbers withNumbers numberedRows ownOfFirst withReferences settled finished leads closure circular ruleRound stepIn stepsAmong greatest
     onCircle circularReferences checked answerOf drafts readAnswer rowsOf
     rowFirstAt applied negated found operations constants sum product divided savedFor byKind goodAnswers ownIn ownsIn itemsOf meaning ruleAt

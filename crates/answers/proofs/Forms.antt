@@ -9,7 +9,6 @@ use borrow.Author.Tests.{eqb-true, eqb-false}
 use Rattle.lexemes.proofs.Lists.{either}
 use Rattle.rows.specs.Codes as code
 use Rattle.rows.specs.Columns as column
-use Rattle.grammar.specs.Derivation.{maxConditions}
 use Rattle.answers.specs.Rows.{Draft, withoutMarks}
 use Rattle.answers.specs.Stages.{cell, is, rowAmong, formFrom, formRound, draftRows}
 use Rattle.answers.specs.Forms.{columnOf, StandsIn, directly, within}
@@ -36,7 +35,7 @@ module _ (ds es : List Draft) where
     -- rows that are the same but for other columns have the same forms
     pub round-same : (d e : Draft) → cell column.PARENT d ≡ cell column.PARENT e → formRound ds d ≡ formRound es e
     unfolding formRound
-    round-same d e h = rw h (from-same maxConditions (cell column.PARENT e))
+    round-same d e h = rw h (from-same _ (cell column.PARENT e))
 
 -- ---- as `StandsIn` says
 
@@ -89,4 +88,4 @@ module _ (ds : List Draft) where
 
   pub round-stands : (i : ℕ) → IsForm (formRound ds (rowAmong ds i)) → StandsIn (draftRows ds) (formRound ds (rowAmong ds i)) i
   unfolding formRound
-  round-stands i h = from-stands maxConditions i h
+  round-stands i h = from-stands _ i h

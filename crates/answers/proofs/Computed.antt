@@ -21,6 +21,7 @@ use Rattle.grammar.specs.Lookahead.{lookahead}
 use Rattle.grammar.specs.Reading.{verdictFrom, derivation}
 use Rattle.grammar.specs.Source.{grammarTokens, sourceTokens, numberAt}
 use Rattle.answers.specs.Expression.{expression}
+use Rattle.answers.specs.Rows.{Draft}
 use Rattle.grammar.specs.Ranges.{ranges, rangeOf, keeps, outOfRange}
 use Rattle.answers.specs.Stages.{any, faultsAfter, repeatedForms, repeatedQuestions, repeatedNames, rulesOverLimit, formFrom, formRound, unfound, below, badChoices, ownNumbers, withNumbers, numberedRows, ownOfFirst, withReferences, settled, finished, onCircle, circularReferences}
 use Rattle.answers.specs.Answer.{Answer, answerOf, drafts}
@@ -48,6 +49,11 @@ outcome s = outcomeIn (10 * ROW) s
 unfoldable pub rowsRead : List ℕ → List (List ℕ)
 unfolding signs reserved run all same placeAmong isGap inComment gap isHex wordClass wordToken signClass signToken tokenFrom tokenAfterGap tokensWithin tokensFrom tokens badAmong firstBad sameWord valueFrom numeral valueAt digitsAt picked freeFrom fill numbered mem member questions isQuestion machine.run parser.derivation productions rules lookahead verdictFrom derivation grammarTokens sourceTokens numberAt expression ranges rangeOf keeps outOfRange any faultsAfter repeatedForms repeatedQuestions repeatedNames rulesOverLimit formFrom formRound unfound below badChoices ownNumbers withNumbers numberedRows ownOfFirst withReferences settled finished leads closure circular ruleRound stepIn stepsAmong greatest onCircle circularReferences checked answerOf drafts readAnswer rowsOf
 rowsRead s = rowsOf s
+
+-- the rows before any stage; of a source that stage 1 to 5 refuses, none
+unfoldable pub draftsRead : List ℕ → List Draft
+unfolding signs reserved run all same placeAmong isGap inComment gap isHex wordClass wordToken signClass signToken tokenFrom tokenAfterGap tokensWithin tokensFrom tokens badAmong firstBad sameWord valueFrom numeral valueAt digitsAt picked freeFrom fill numbered mem member questions isQuestion machine.run parser.derivation productions rules lookahead verdictFrom derivation grammarTokens sourceTokens numberAt expression ranges rangeOf keeps outOfRange drafts checked
+draftsRead s = elim (checked s) [ refusal k p ↦ [] | derived f ↦ drafts s f ]
 
 -- what refusal 11 names; of a source that an earlier stage refuses, the place 0
 unfoldable pub unfoundRead : List ℕ → List ℕ

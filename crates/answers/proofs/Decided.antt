@@ -35,7 +35,7 @@ abbrev framed : String → List ℕ
 framed t = framed-bytes (bytes t)
 
 -- two forms, numbers 1 and 2
-abbrev two-forms : String → String → List ℕ
+abbrev pub two-forms : String → String → List ℕ
 two-forms t u = framed-bytes (bytes t ++ (bytes "endform;form formid=2,title=STRING_TOKEN(4);" ++ bytes u))
 
 -- ---- sources that are refused

@@ -5,6 +5,7 @@ pub mod OwnForm
 -- Decided points of document 01, by computation.
 pub mod Computed
 pub mod Decided
+pub mod FormExamples
 pub mod Printed
 -- Rows: how many, how long, at which places, and found by their places.
 pub mod ExpressionSymbols

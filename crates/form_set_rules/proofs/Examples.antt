@@ -25,17 +25,18 @@ use Rattle.answers.specs.Text.{rowFirstAt}
 use Rattle.formulas.specs.Formula.{f-number, f-question, f-rule, f-not, f-binary}
 use Rattle.form_set_rules.specs.Rules.{rulesOf, sourceRules}
 
--- two rules, the first with references to the second, which stands later in its form, and to a question of another form; the condition's expression is no
--- rule's
+-- three rules, the last in a later form; the first with references to the second, which stands later in its form, and to a question of the other form. The
+-- condition's expression is no rule's
 abbrev source : List ℕ
 source =
     bytes
-    "formset guid={0x1,0x2,0x3,{0x4,0x5,0x6,0x7,0x8,0x9,0xA,0xB}},title=STRING_TOKEN(2),help=STRING_TOKEN(3),form formid=1,title=STRING_TOKEN(4);rule A,ruleref(B)AND NOT questionref(Q) endrule;suppressif ruleref(A);endif;rule B,1+2*3==7 endrule;endform;form formid=2,title=STRING_TOKEN(4);checkbox name=Q,prompt=STRING_TOKEN(5),help=STRING_TOKEN(6),endcheckbox;endform;endformset;"
+    "formset guid={0x1,0x2,0x3,{0x4,0x5,0x6,0x7,0x8,0x9,0xA,0xB}},title=STRING_TOKEN(2),help=STRING_TOKEN(3),form formid=1,title=STRING_TOKEN(4);rule A,ruleref(B)AND NOT questionref(Q) endrule;suppressif ruleref(A);endif;rule B,1+2*3==7 endrule;endform;form formid=2,title=STRING_TOKEN(4);checkbox name=Q,prompt=STRING_TOKEN(5),help=STRING_TOKEN(6),endcheckbox;rule C,questionref(Q) endrule;endform;endformset;"
 
-pub two-rules :
+pub three-rules :
     elim (checked source) [ refusal n p ↦ [] | derived tree ↦ sourceRules source tree ]
     ≡ f-binary and (f-rule 2) (f-not (f-question 1))
     ∷ f-binary equal (f-binary add (f-number 1) (f-binary multiply (f-number 2) (f-number 3))) (f-number 7)
+    ∷ f-question 1
     ∷ []
 unfolding signs reserved run all same placeAmong sameWord isGap inComment gap wordClass wordToken signClass signToken tokenFrom tokenAfterGap tokensWithin tokensFrom tokens badAmong firstBad isHex valueFrom numeral valueAt digitsAt picked freeFrom fill numbered mem member questions isQuestion machine.run parser.derivation productions rules lookahead verdictFrom derivation grammarTokens sourceTokens numberAt ranges rangeOf keeps outOfRange expression any formFrom formRound ownNumbers withNumbers numberedRows ownOfFirst withReferences settled finished drafts checked rowFirstAt rulesOf
-two-rules = refl
+three-rules = refl

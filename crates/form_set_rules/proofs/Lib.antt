@@ -1,4 +1,4 @@
--- What is proved of the rules of a source; and two of them, computed.
+-- What is proved of the rules of a source; and three of them, computed.
 pub mod Theorems
 pub mod OneForm
 pub mod Examples

@@ -22,7 +22,8 @@ use Rattle.answers.proofs.FoundRules.{round-numbered, finds-rules}
 use Rattle.drafts.specs.Sound.{SoundRow, AllSound}
 use Rattle.drafts.proofs.RowTests.{any-same, other-code}
 use Rattle.stages.proofs.RepeatFaults.{bears}
-use Rattle.finish.proofs.NumberedRows.{other-column, writes-with}
+use Rattle.answers.proofs.Settling.{other-column}
+use Rattle.finish.proofs.NumberedRows.{writes-with}
 use Rattle.sound.proofs.Lists.{All, none, more}
 use Rattle.again.specs.Matches.{Pairs, no-pairs, pair}
 use Rattle.again.specs.RuleNumbers.{ownsOf, ruleOf}

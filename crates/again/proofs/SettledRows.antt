@@ -24,11 +24,10 @@ use Rattle.answers.specs.Answer.{LONGEST, drafts}
 use Rattle.answers.specs.Text.{rowFirstAt}
 use Rattle.answers.specs.Demand3 as Demand3
 use Rattle.drafts.specs.Sound.{SoundRow, SoundRows}
-use Rattle.finish.proofs.NumberedRows.{other-column}
 use Rattle.sound.proofs.Lists.{All}
 use Rattle.sound.proofs.DraftsSound.{drafts-sound}
 use Rattle.answers.proofs.RowPlaces.{rows-by-place}
-use Rattle.answers.proofs.Settling.{finished-numbered}
+use Rattle.answers.proofs.Settling.{other-column, finished-numbered}
 use Rattle.again.specs.Matches.{Pairs, Settled}
 use Rattle.again.specs.RuleNumbers.{ownsOf, ruleNumbers, ruleOf}
 use Rattle.again.proofs.Lists.{all-then, all-with, sound-each, pairs-first, pairs-alike, firsts}

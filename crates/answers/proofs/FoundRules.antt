@@ -21,7 +21,7 @@ use Rattle.answers.specs.Rows.{Draft, withoutMarks}
 use Rattle.answers.specs.Stages.{cell, is, asks, writes, placeOf, any, faultIf, declares, rowAmong, formRound, ruleNamed, finds, refers, inVain, unfound}
 use Rattle.answers.specs.Stages.{ownNumbers, withCell, withNumbers, numberedRows, ownOfFirst, finished}
 use Rattle.answers.proofs.Faults.{no-fault, clean-at}
-use Rattle.answers.proofs.Settling.{numbers-leave, foundRow, finished-numbered}
+use Rattle.answers.proofs.Settling.{other-column, numbers-leave, foundRow, finished-numbered}
 use Rattle.answers.proofs.FoundRows.{map-at, finished-count}
 use Rattle.answers.proofs.RuleNames.{same-any}
 use Rattle.answers.proofs.Forms.{round-same}
@@ -50,18 +50,19 @@ module _ (s : List ℕ) where
 
   -- ---- numbering leaves the names, codes and parents, and so what is found
 
-  other-cell : (c : ℕ) → c ≢ column.OWN → (d : Draft) (v : ℕ) → cell c (withCell column.OWN v d) ≡ cell c d
-  other-cell c h d v = getD-set-other (d .row) column.OWN c v 0 h
+  -- a cell that it leaves
+  left : (c : ℕ) → c ≢ column.OWN → (d : Draft) (v : ℕ) → cell c (withCell column.OWN v d) ≡ cell c d
+  left c h d v = other-column d v c h
 
   pub rule-numbered : (p : ℕ) (d : Draft) (v : ℕ) → ruleNamed s p (withCell column.OWN v d) ≡ ruleNamed s p d
-  rule-numbered p d v = rw (other-cell column.CODE (λ q. omega arith) d v, other-cell column.NAME (λ q. omega arith) d v)
+  rule-numbered p d v = rw (left column.CODE (λ q. omega arith) d v, left column.NAME (λ q. omega arith) d v)
 
   module _ (ns : List ℕ) (ds : List Draft) where
     pub round-numbered : (d : Draft) → formRound (withNumbers ns ds) d ≡ formRound ds d
     round-numbered d =
         round-same (withNumbers ns ds) ds
-        (numbers-leave (cell column.CODE) (other-cell column.CODE (λ q. omega arith)) ns ds)
-        (numbers-leave (cell column.PARENT) (other-cell column.PARENT (λ q. omega arith)) ns ds)
+        (numbers-leave (cell column.CODE) (left column.CODE (λ q. omega arith)) ns ds)
+        (numbers-leave (cell column.PARENT) (left column.PARENT (λ q. omega arith)) ns ds)
         d d refl
 
     pub finds-rules : (d : Draft) → is code.RULE-REF d ≡ true → any (finds s (withNumbers ns ds) d) (withNumbers ns ds) ≡ any (finds s ds d) ds
@@ -69,7 +70,7 @@ module _ (s : List ℕ) where
         let p = placeOf (d .ownAt) in
         let f = formRound ds d in
         let alike : (e : Draft) (v : ℕ) → ofForm p f (withCell column.OWN v e) ≡ ofForm p f e =
-        λ e v. rw (rule-numbered p e v, other-cell column.PARENT (λ q. omega arith) e v) in
+        λ e v. rw (rule-numbered p e v, left column.PARENT (λ q. omega arith) e v) in
         rw (finds-rule (withNumbers ns ds) d r, finds-rule ds d r, round-numbered d)
         (same-any (ofForm p f) (withNumbers ns ds) ds (numbers-leave (ofForm p f) alike ns ds))
 
@@ -140,7 +141,7 @@ module _ (s : List ℕ) where
 
     -- the form that it stands in stays
     form-at : (i : ℕ) → i < length ds → formRound ds (rowAmong ns i) ≡ formRound ds (rowAmong ds i)
-    form-at i h = round-same ds ds refl refl (rowAmong ns i) (rowAmong ds i) (same-at (cell column.PARENT) (other-cell column.PARENT (λ q. omega arith)) i h)
+    form-at i h = round-same ds ds refl refl (rowAmong ns i) (rowAmong ds i) (same-at (cell column.PARENT) (left column.PARENT (λ q. omega arith)) i h)
 
     -- 11 passed: a ruleref finds a rule, among the numbered drafts too
     numbered-found : unfound s ds ≡ [] → (i : ℕ) → i < length ds → is code.RULE-REF (rowAmong ns i) ≡ true → any (finds s ns (rowAmong ns i)) ns ≡ true
@@ -148,7 +149,7 @@ module _ (s : List ℕ) where
     numbered-found e i h r =
         let d = rowAmong ns i in
         let d₀ = rowAmong ds i in
-        let code-same : cell column.CODE d ≡ cell column.CODE d₀ = same-at (cell column.CODE) (other-cell column.CODE (λ q. omega arith)) i h in
+        let code-same : cell column.CODE d ≡ cell column.CODE d₀ = same-at (cell column.CODE) (left column.CODE (λ q. omega arith)) i h in
         let mark : placeOf (d .ownAt) ≡ placeOf (d₀ .ownAt) = ap placeOf (same-at (λ d. d .ownAt) (λ d v. refl) i h) in
         let r₀ : is code.RULE-REF d₀ ≡ true = rw (← code-same) r in
         let found = finds-some ds d₀ (clean-at (inVain s ds) ds [] e i h) (rw r₀ (or-true (is code.QUESTION-REF d₀))) in
@@ -189,7 +190,7 @@ module _ (s : List ℕ) where
               ∙ sym (found-own d r size)
               ∙ ap (λ (r : List ℕ). getD r column.A 0) (sym (row-is i h));
           parent-is =
-              sym (same-at (cell column.PARENT) (other-cell column.PARENT (λ q. omega arith)) j inside)
+              sym (same-at (cell column.PARENT) (left column.PARENT (λ q. omega arith)) j inside)
               ∙ eqb-true _ (formRound ns d) (both .1)
               ∙ round-numbered (numbered (ownNumbers ds)) ds d
               ∙ form-at i h;

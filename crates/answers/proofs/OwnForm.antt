@@ -2,10 +2,10 @@
 -- Assumes nothing.
 use Prim.Native.Nat.{ℕ, _<_}
 use native.Mathlib.Omega.{arith}
-use mathlib.Core.Path.{_≡_, refl, sym, ap, _∙_}
+use mathlib.Core.Path.{_≡_, sym, ap, _∙_}
 use mathlib.Core.Logic.{_≢_, _↔_}
 use mathlib.Core.Bool.{true, false}
-use mathlib.Core.List.{List, [], _∷_, map}
+use mathlib.Core.List.{List, [], _∷_}
 use lib.ListN.{length, getD}
 use borrow.Author.Tests.{eqb-true, eq-eqb, ne-eqb}
 use Rattle.lexemes.proofs.Lists.{and-true}
@@ -23,7 +23,7 @@ use Rattle.answers.specs.Forms.{columnOf, StandsIn, directly, within, Sh
 use Rattle.answers.proofs.Answers.{passes-grammatical, refused-answer}
 use Rattle.answers.proofs.Demand3.{rows-whole}
 use Rattle.answers.proofs.Faults.{fault-first}
-use Rattle.answers.proofs.FoundRows.{finished-column, finished-count}
+use Rattle.answers.proofs.FoundRows.{map-map, finished-column, finished-count}
 use Rattle.answers.proofs.FoundRules.{finds-rule, first-own, found-rule}
 use Rattle.answers.proofs.Forms.{map-getD, column-is, stands-once, stands-same, parent-stands, round-stands}
 use Rattle.answers.proofs.RuleForms.{RuleForms, rule-forms}
@@ -35,12 +35,8 @@ module _ (s : List ℕ) (ds : List Draft) where
   column-same : (c : ℕ) → c ≢ column.OWN → c ≢ column.A → (p : ℕ) → columnOf (draftRows ds) c p ≡ columnOf (finished s ds) c p
   column-same c own a p =
       sym (map-getD (λ (r : List ℕ). getD r c 0) (draftRows ds) p [])
-      ∙ ap (λ (l : List ℕ). getD l p 0) (of-drafts ds ∙ sym (finished-column s ds c own a))
+      ∙ ap (λ (l : List ℕ). getD l p 0) (sym (map-map (λ (r : List ℕ). getD r c 0) (λ (d : Draft). d .row) ds) ∙ sym (finished-column s ds c own a))
       ∙ map-getD (λ (r : List ℕ). getD r c 0) (finished s ds) p []
-    where
-      of-drafts : (ds : List Draft) → map (λ (r : List ℕ). getD r c 0) (draftRows ds) ≡ map (cell c) ds
-      of-drafts [] = refl
-      of-drafts (d ∷ ds) = ap (_∷_ (cell c d)) (of-drafts ds)
 
   finished-stands : {f i : ℕ} → StandsIn (draftRows ds) f i → StandsIn (finished s ds) f i
   finished-stands =
@@ -149,7 +145,7 @@ module _ (s : List ℕ) (tree : Trees) (derives : Derives (sourceTokens s) tree)
         (v .rule) (v .inside) (v .names-it) (ne-eqb _ _ not-there)
 
     -- names it in vain
-    pub stray-vain : inVain s ds d ≡ d .ownAt ∷ []
+    stray-vain : inVain s ds d ≡ d .ownAt ∷ []
     stray-vain =
         let k : cell column.CODE d ≡ code.RULE-REF = eqb-true (cell column.CODE d) code.RULE-REF (v .is-reference) in
         rw (nothing, k)

@@ -13,6 +13,10 @@ use Rattle.rows.specs.Columns as column
 use Rattle.answers.specs.Rows.{Draft}
 use Rattle.answers.specs.Stages.{cell, asks, refers, finds, ownOfFirst, ownNumbers, withCell, withNumbers, numberedRows, withReferences, settled, finished}
 
+-- a question with another number: no other column changes
+pub other-column : (d : Draft) (v c : ℕ) → c ≢ column.OWN → cell c (withCell column.OWN v d) ≡ cell c d
+other-column d v c h = getD-set-other (d .row) column.OWN c v 0 h
+
 -- ---- what numbers and references leave: whatever neither an own number nor column A tells
 
 module _ {X : Type 0} (f : Draft → X) where
@@ -46,7 +50,7 @@ module _ (s : List ℕ) (ds : List Draft) where
   -- the other columns
   pub settled-column : (c : ℕ) → c ≢ column.OWN → c ≢ column.A → map (cell c) (settled s ds) ≡ map (cell c) ds
   settled-column c own a =
-      settling-leaves (cell c) (λ d v. getD-set-other (d .row) column.OWN c v 0 own) (λ d v. getD-set-other (d .row) column.A c v 0 a) s ds
+      settling-leaves (cell c) (λ d v. other-column d v c own) (λ d v. getD-set-other (d .row) column.A c v 0 a) s ds
 
   -- the marks
   pub settled-own-marks : map (λ d. d .ownAt) (settled s ds) ≡ map (λ d. d .ownAt) ds

@@ -24,7 +24,7 @@ use Rattle.answers.specs.Rows.{Draft}
 use Rattle.answers.specs.Stages.{cell, is, asks, writes, any, placeOf, faultsAfter, repeatedNames, ruleNamed, finds, refers, inVain, unfound}
 use Rattle.answers.specs.Stages.{ownNumbers, withCell, withNumbers, numberedRows, ownOfFirst, withReferences, settled, finished}
 use Rattle.answers.specs.Drafts.{encoded, draftsFrom}
-use Rattle.answers.proofs.Settling.{numbers-leave, settled-count}
+use Rattle.answers.proofs.Settling.{other-column, numbers-leave, settled-count}
 use Rattle.answers.proofs.RuleNames.{Once, same-once, named-once}
 use Rattle.answers.proofs.FoundRules.{rule-numbered, finds-some, finds-rules}
 use Rattle.answers.proofs.Faults.{clean-first}
@@ -37,7 +37,7 @@ use Rattle.stages.proofs.RepeatFaults.{bears}
 use Rattle.finish.specs.Finish.{ownsIn, stripped, resolved, tableNumbered, tableSettled, DraftsIn}
 use Rattle.finish.proofs.RowLoops.{length-stripped}
 use Rattle.finish.proofs.ReferenceLaws.{length-resolved}
-use Rattle.finish.proofs.NumberedRows.{owns-encoded, with-encoded, fit-with, first-with, declares-with, writes-with, other-column, fits-with}
+use Rattle.finish.proofs.NumberedRows.{owns-encoded, with-encoded, fit-with, first-with, declares-with, writes-with, fits-with}
 use Rattle.finish.proofs.FoundNumbers.{Owns, Refers, owns-held, row-settled, finds-numbered}
 
 -- ---- the references of the numbered drafts

@@ -7,12 +7,13 @@ use native.Mathlib.Omega.{arith}
 use borrow.Author.Tests.{eqb-true, eqb-false}
 use lib.Dec.{eqb, ltb}
 use lib.ListN.{getD, set, drop, length-set}
-use lib.Seq.{getD-set-other, getD-drop, set-getD}
+use lib.Seq.{getD-drop, set-getD}
 use Rattle.rows.specs.Codes.{isQuestion}
 use Rattle.rows.specs.Columns as column
 use Rattle.answers.specs.Rows.{Draft}
 use Rattle.answers.specs.Stages.{cell, asks, writes, any, ownNumbers, withCell, withNumbers}
 use Rattle.answers.specs.Drafts.{encoded}
+use Rattle.answers.proofs.Settling.{other-column}
 use Rattle.drafts.specs.Fits.{FitsCells, AllFit, none-fit, add-fit}
 use Rattle.drafts.specs.Sound.{SoundRow, AllSound, no-rows, add-row}
 use Rattle.names.specs.Names.{declaresMark, firstRow}
@@ -45,25 +46,21 @@ with-encoded (add-fit {d = d} {ds = ds} f r) ns = rw (question-encoded f) (go (a
 -- ---- a question with another number
 
 module _ (d : Draft) (v : ℕ) where
-  -- no other column changes
-  pub other-column : (c : ℕ) → (c ≡ column.OWN → ⊥) → cell c (withCell column.OWN v d) ≡ cell c d
-  other-column c h = getD-set-other (d .row) column.OWN c v 0 h
-
   pub fits-with : FitsCells d → FitsCells (withCell column.OWN v d)
   fits-with f =
       record {
         whole = length-set (d .row) column.OWN v ∙ f .whole;
-        first = rw (other-column column.FIRST (λ e. omega arith)) (f .first);
-        second = rw (other-column column.SECOND (λ e. omega arith)) (f .second);
-        flags = rw (other-column column.FLAGS (λ e. omega arith)) (f .flags);
+        first = rw (other-column d v column.FIRST (λ e. omega arith)) (f .first);
+        second = rw (other-column d v column.SECOND (λ e. omega arith)) (f .second);
+        flags = rw (other-column d v column.FLAGS (λ e. omega arith)) (f .flags);
         own-mark = f .own-mark;
         limit-mark = f .limit-mark;
         default-mark = f .default-mark;
       }
 
   pub declares-with : (s : List ℕ) (m : ℕ) (rule : Bool) → declaresMark s m rule (withCell column.OWN v d) ≡ declaresMark s m rule d
-  declares-with s m true = rw (other-column column.CODE (λ e. omega arith), other-column column.NAME (λ e. omega arith))
-  declares-with s m false = rw (other-column column.CODE (λ e. omega arith), other-column column.NAME (λ e. omega arith))
+  declares-with s m true = rw (other-column d v column.CODE (λ e. omega arith), other-column d v column.NAME (λ e. omega arith))
+  declares-with s m false = rw (other-column d v column.CODE (λ e. omega arith), other-column d v column.NAME (λ e. omega arith))
 
 pub fit-with : {ds : List Draft} → AllFit ds → (ns : List ℕ) → AllFit (withNumbers ns ds)
 unfolding withNumbers

@@ -1,4 +1,4 @@
--- Demand 3 in the terms of document 01, and of document 02's W-202 and W-203: what a source must be for reading to accept it, and what it is where reading
+-- Demand 3 in the terms of document 01, and of document 02's W-202 to W-204: what a source must be for reading to accept it, and what it is where reading
 -- refuses it. "Written without our reader": no parser is named here, nor in what this imports. Assumes nothing.
 use Prim.Native.Nat.{ℕ, zero, suc, _/_, _≤_, _<_}
 use mathlib.Core.Path.{_≡_}
@@ -19,7 +19,7 @@ use Rattle.ll1.specs.Trees.{Trees}
 use Rattle.ll1.specs.Verdict.{ends-early, refused}
 use Rattle.grammar.specs.Derivation.{Derives, NowhereTooDeep, SourceSays}
 use Rattle.grammar.specs.Source.{sourceTokens}
-use Rattle.grammar.specs.Ranges.{outOfRange}
+use Rattle.grammar.specs.Ranges.{outOfRange, secondWords}
 use Rattle.answers.specs.Rows.{Draft}
 use Rattle.answers.specs.Stages.{placeOf, repeatedForms, repeatedQuestions, repeatedNames, rulesOverLimit, unfound, badChoices}
 use Rattle.answers.specs.Stages.{settled, finished}
@@ -30,7 +30,9 @@ pub record Sound (s : List ℕ) (tree : Trees) : Type 0 where
   -- "A derivation is a tree of the grammar's rules .. whose leaves are, in order, all of a source's tokens; a bad token allows none"
   pub derives : Derives (sourceTokens s) tree
   pub depths : NowhereTooDeep tree
-  -- "Demand 3's ranges hold exactly when no fault of No. 5 stands anywhere in the derivation"
+  -- "a second size or display word in one numeric, even the same" (W-204) stands nowhere
+  pub words : secondWords tree ≡ []
+  -- "Demand 3's ranges hold exactly when no fault of No. 5 stands anywhere in the derivation"; sizes are among them (W-204)
   pub ranges : outOfRange s tree ≡ []
   -- "likewise uniqueness by 7 to 9
   pub forms : repeatedForms (drafts s tree) ≡ []
@@ -56,7 +58,9 @@ pub record Grammatical (s : List ℕ) (tree : Trees) : Type 0 where
 -- no stage up to a number refuses the source s and a table of n numbers; the tree is the source's derivation
 pub data Passes (s : List ℕ) (n : ℕ) (tree : Trees) : ℕ → Type 0 where
   to-4 : Grammatical s tree → Passes s n tree 4
-  to-5 : Passes s n tree 4 → outOfRange s tree ≡ [] → Passes s n tree 5
+  -- "16 .. between stages 4 and 5" (W-204)
+  to-16 : Passes s n tree 4 → secondWords tree ≡ [] → Passes s n tree 16
+  to-5 : Passes s n tree 16 → outOfRange s tree ≡ [] → Passes s n tree 5
   to-6 : Passes s n tree 5 → length (drafts s tree) ≤ n / ROW → Passes s n tree 6
   to-7 : Passes s n tree 6 → repeatedForms (drafts s tree) ≡ [] → Passes s n tree 7
   to-8 : Passes s n tree 7 → repeatedQuestions (drafts s tree) ≡ [] → Passes s n tree 8
@@ -79,7 +83,7 @@ pub data FirstOnCircle (rows : List (List ℕ)) (m : ℕ) : List Draft → Type 
   this : {d : Draft} {ds : List Draft} → StepOfCircle rows (d .row) → d .ownAt ≡ m → FirstOnCircle rows m (d ∷ ds)
   later : {d : Draft} {ds : List Draft} → (StepOfCircle rows (d .row) → ⊥) → FirstOnCircle rows m ds → FirstOnCircle rows m (d ∷ ds)
 
--- Document 01's table of refusals with W-202's 14, a line each: "No. | Given exactly when | Place". "The first stage that fails answers; within it the earliest
+-- Document 01's table of refusals with W-202's 14 and W-204's 16, a line each: "No. | Given exactly when | Place". "The first stage that fails answers; within it the earliest
 -- token": a stage lists its faults in source order, so that the earliest is the first of its list. "A refusal's counts are 0 except as shown".
 pub data Refuses (s : List ℕ) (n : ℕ) : Answer → Type 0 where
   -- 1 | source over 65,536 bytes | 0
@@ -91,8 +95,10 @@ pub data Refuses (s : List ℕ) (n : ℕ) : Answer → Type 0 where
   source-ends-early : length s ≤ LONGEST → firstBad s ≡ Nothing → SourceSays (sourceTokens s) ends-early → Refuses s n (refuses 3 (length s))
   -- 4 | a token that passes 3 opens a depth too many (same stage as 3) | that token
   opens-too-many : {p : ℕ} → length s ≤ LONGEST → firstBad s ≡ Nothing → SourceSays (sourceTokens s) (refused 4 p) → Refuses s n (refuses 4 p)
-  -- 5 | number outside its place: .. | number
-  number-outside : {tree : Trees} {p : ℕ} {ps : List ℕ} → Passes s n tree 4 → outOfRange s tree ≡ p ∷ ps → Refuses s n (refuses 5 p)
+  -- 16 | "a second size or display word in one numeric, even the same, between stages 4 and 5" (W-204) | "at that word"
+  second-word : {tree : Trees} {p : ℕ} {ps : List ℕ} → Passes s n tree 4 → secondWords tree ≡ p ∷ ps → Refuses s n (refuses 16 p)
+  -- 5 | number outside its place: ..; "also for a number over its size" (W-204) | number
+  number-outside : {tree : Trees} {p : ℕ} {ps : List ℕ} → Passes s n tree 16 → outOfRange s tree ≡ p ∷ ps → Refuses s n (refuses 5 p)
   -- 6 | more rows than whole rows lent | 0; row count is the need
   more-rows : {tree : Trees} → Passes s n tree 5 → n / ROW < length (drafts s tree) → Refuses s n (needs (length (drafts s tree)))
   -- 7 | form number repeated | second
@@ -105,7 +111,7 @@ pub data Refuses (s : List ℕ) (n : ℕ) : Answer → Type 0 where
   rule-over-limit : {tree : Trees} {m : ℕ} {ms : List ℕ} → Passes s n tree 9 → rulesOverLimit (drafts s tree) ≡ m ∷ ms → Refuses s n (refuses 10 (placeOf m))
   -- 11 | goto, `questionref` or `ruleref` finds nothing; "now also given where the rule stands in another form" (W-203) | its number or name
   nothing-found : {tree : Trees} {m : ℕ} {ms : List ℕ} → Passes s n tree 10 → unfound s (drafts s tree) ≡ m ∷ ms → Refuses s n (refuses 11 (placeOf m))
-  -- 12 | maximum below minimum; default outside them; an option's value repeated in its oneof; a second DEFAULT there
+  -- 12 | maximum below minimum; default outside them, "in the signed order" (W-204); an option's value repeated in its oneof; a second DEFAULT there
   --    | the number of the maximum, default or value, or that word `DEFAULT`
   bad-choice : {tree : Trees} {m : ℕ} {ms : List ℕ} → Passes s n tree 11 → badChoices (drafts s tree) ≡ m ∷ ms → Refuses s n (refuses 12 (placeOf m))
   -- 14 | a rule that reaches itself through references; "last in reading's order before 13"

@@ -1,5 +1,5 @@
 -- The rows of a derivation as they are before numbers are given and references found, each with the places that later stages name
--- (document 01, Rows). Assumes nothing.
+-- (document 01, Rows; document 02, W-204). Assumes nothing.
 use Prim.Native.Nat.{ℕ, suc, _+_, _*_, _%_, _^_}
 use mathlib.Core.Bool.{Bool, true, false, _&&_, _||_}
 use mathlib.Core.List.{List, [], _∷_, _++_}
@@ -9,6 +9,7 @@ use Rattle.rows.specs.Codes as code
 use Rattle.rows.specs.Columns as column
 use Rattle.rows.specs.Cells.{Entry, _≔_, filled}
 use Rattle.rows.specs.Flags as flag
+use Rattle.rows.specs.Sizes.{sizeAndDisplay}
 use Rattle.ll1.specs.Trees.{Trees, nil, leaf, node}
 use Rattle.grammar.specs.Rules.{<rule>, <item>, <option>, <form>, <source>}
 use Rattle.grammar.specs.Parts.{mark, when, child, chosen, written, placeAt}
@@ -19,7 +20,7 @@ use Rattle.grammar.specs.Positions.{checkbox·default, numeric·head, numeric·
 use Rattle.grammar.specs.Positions.{oneof·head, oneof·flags, condition·expression}
 use Rattle.grammar.specs.Positions.{default·value, step·value, option·text, option·value, option·flags, head·name, head·number, head·prompt, head·help}
 use Rattle.grammar.specs.Positions.{name·word, questionid·number}
-use Rattle.grammar.specs.Flags.{flags}
+use Rattle.grammar.specs.Flags.{flags, sizeIn, displayIn}
 use Rattle.answers.specs.Expression.{Expression, number, constant, question-named, question-numbered, rule-named, negation, binary, constantCode}
 use Rattle.answers.specs.Expression.{operatorCode, expression}
 
@@ -114,7 +115,7 @@ module _ (number-at : ℕ → ℕ) where
       ∷ column.D ≔ when default (when (eqb (chosen default·value (child checkbox·default c)) 0) 1)
       ∷ [])
       0 0)
-      -- numeric HEAD , [flags = FL ,] minimum = N , maximum = N , [step = N ,] [default = N ,] endnumeric ;
+      -- numeric HEAD , [flags = FL ,] minimum = N , maximum = N , [step = N ,] [default = N ,] endnumeric ; size and display are W-204's
       ∷ (let default = written numeric·default c in
       question code.NUMERIC parent p (child numeric·head c)
       (column.FLAGS ≔ (flags (child numeric·flags c) + when default flag.HAS-DEFAULT)
@@ -122,6 +123,7 @@ module _ (number-at : ℕ → ℕ) where
       ∷ column.B ≔ value numeric·maximum c
       ∷ column.C ≔ when (written numeric·step c) (value step·value (child numeric·step c))
       ∷ column.D ≔ when default (value default·value (child numeric·default c))
+      ∷ column.SIZE ≔ sizeAndDisplay (sizeIn (child numeric·flags c)) (displayIn (child numeric·flags c))
       ∷ [])
       (mark (numeralAt numeric·maximum c)) (when default (mark (numeralAt default·value (child numeric·default c)))))
       -- oneof HEAD , [flags = FL ,] option+ endoneof ;

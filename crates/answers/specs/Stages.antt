@@ -1,5 +1,5 @@
 -- Stages 7 to 12 over the rows of a derivation: the marks of what is at fault, in source order; the finished rows (document 01, Rows and Refusal
--- numbers), with the form that a rule belongs to (document 02, W-203); and stage 14 over settled rows (W-202). Assumes nothing.
+-- numbers), with the form that a rule belongs to (document 02, W-203) and the signed order (W-204); and stage 14 over settled rows (W-202). Assumes nothing.
 use Prim.Native.Nat.{ℕ, zero, suc, _-_}
 use mathlib.Core.Bool.{Bool, false, not, cond, _&&_, _||_}
 use mathlib.Core.List.{List, [], _∷_, _++_, map}
@@ -12,6 +12,8 @@ use Rattle.rule_steps.specs.Steps.{ruleRound, ruleFound, isStep, ruleSteps, gre
 use Rattle.rows.specs.Codes as code
 use Rattle.rows.specs.Codes.{isQuestion}
 use Rattle.rows.specs.Columns as column
+use Rattle.rows.specs.Sizes.{INT-DEC, sizeOf, displayOf}
+use Rattle.sizes.specs.Sizes as sizes
 use Rattle.answers.specs.Rows.{Draft, withoutMarks}
 use Rattle.grammar.specs.Parts.{mark}
 use Rattle.grammar.specs.Derivation.{maxConditions}
@@ -120,9 +122,13 @@ module _ (s : List ℕ) where
 
 -- 12: of a numeric, maximum below minimum, or default outside them; of an option, its value or DEFAULT repeated in its oneof
 
--- x is below y, as two numbers of the numeric d: in the order of unsigned numbers
+-- "For `DISPLAY_INT_DEC` .. the order is the signed one" (W-204)
+abbrev pub isSigned : Draft → Bool
+isSigned d = eqb (displayOf (cell column.SIZE d)) INT-DEC
+
+-- x is below y, as two numbers of the numeric d: in the order of its size and display
 unfoldable pub below : Draft → ℕ → ℕ → Bool
-below d x y = ltb x y
+below d x y = sizes.below (sizes.width (sizeOf (cell column.SIZE d))) (isSigned d) x y
 
 abbrev pub outside : Draft → Bool
 outside d = below d (cell column.D d) (cell column.A d) || below d (cell column.B d) (cell column.D d)

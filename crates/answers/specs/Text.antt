@@ -1,4 +1,4 @@
--- The resolved text of a source, from its derivation and its finished rows (document 01, Resolved text).
+-- The resolved text of a source, from its derivation and its finished rows (document 01, Resolved text; document 02, W-204).
 -- Assumes nothing.
 use Prim.Native.Nat.{ℕ, zero, suc, _+_, _/_, _%_, _^_}
 use Prim.Native.String.{String}
@@ -14,7 +14,8 @@ use Rattle.rows.specs.Flags as flag
 use Rattle.ll1.specs.Trees.{Trees, nil, leaf, node}
 use Rattle.grammar.specs.Rules.{<rule>, <item>, <option>, <form>, <source>}
 use Rattle.grammar.specs.Parts.{child, placeAt}
-use Rattle.grammar.specs.Flags.{FlagWord, flagWords, setIn}
+use Rattle.rows.specs.Sizes.{sizeOf, displayOf}
+use Rattle.grammar.specs.Flags.{FlagWord, flagWords, setIn, sizeWord, displayWord}
 use Rattle.grammar.specs.Positions.{condition·expression, rule·expression}
 use Rattle.answers.specs.Expression.{Expression, number, constant, question-named, question-numbered, rule-named, negation, binary, level, operatorClass, constantClass, expression}
 
@@ -101,6 +102,12 @@ framed before (w ∷ ws) after = before ++ (w ∷ ws) ++ after
 abbrev pub flags : List Word → List Word → List ℕ → List Word
 flags before after r = framed before (flagList (setIn (cell column.FLAGS r) flagWords)) after
 
+-- a numeric's FL: "writes size and display always, after the other flags" (W-204)
+abbrev pub numericList : List ℕ → List FlagWord
+numericList r =
+    setIn (cell column.FLAGS r) flagWords
+    ++ (sizeWord (sizeOf (cell column.SIZE r)) ∷ displayWord (displayOf (cell column.SIZE r)) ∷ [])
+
 -- "`default` where written"
 abbrev pub default : List Word → List ℕ → List Word
 default value r = elim (hasFlag flag.HAS-DEFAULT r) [ true ↦ words "default =" ++ value ++ comma | false ↦ [] ]
@@ -150,11 +157,11 @@ goto r = words "goto" ++ decimal (cell column.A r) ++ comma ++ head r ++ flags (
 abbrev pub checkbox : List ℕ → List Word
 checkbox r = words "checkbox" ++ head r ++ comma ++ flags (words "flags =") comma r ++ default (truth (cell column.D r)) r ++ words "endcheckbox ;"
 
--- numeric HEAD , [flags = FL ,] minimum = N , maximum = N , step = N , [default = N ,] endnumeric ; "`step` always"
+-- numeric HEAD , flags = FL , minimum = N , maximum = N , step = N , [default = N ,] endnumeric ; "`step` always"
 abbrev pub numeric : List ℕ → List Word
 numeric r =
-    words "numeric" ++ head r ++ comma ++ flags (words "flags =") comma r
-    ++ words "minimum =" ++ decimal (cell column.A r) ++ words ", maximum =" ++ decimal (cell column.B r)
+    words "numeric" ++ head r ++ words ", flags =" ++ flagList (numericList r)
+    ++ words ", minimum =" ++ decimal (cell column.A r) ++ words ", maximum =" ++ decimal (cell column.B r)
     ++ words ", step =" ++ decimal (cell column.C r) ++ comma ++ default (decimal (cell column.D r)) r ++ words "endnumeric ;"
 
 -- oneof HEAD , [flags = FL ,]

@@ -1,4 +1,5 @@
--- The whole answer of reading and of the quick check, for every source and every table lent (document 01, Refusal numbers).
+-- The whole answer of reading and of the quick check, for every source and every table lent (document 01, Refusal numbers; document 02,
+-- W-204).
 -- Assumes nothing.
 use Prim.Native.Nat.{ℕ, _+_, _*_, _/_, _^_}
 use mathlib.Core.Bool.{true, false, cond}
@@ -14,11 +15,11 @@ use Rattle.ll1.specs.Trees.{Trees}
 use Rattle.ll1.specs.Verdict.{Verdict, accepted, ends-early, refused}
 use Rattle.grammar.specs.Reading.{verdict, derivation}
 use Rattle.grammar.specs.Source.{sourceTokens}
-use Rattle.grammar.specs.Ranges.{outOfRange}
+use Rattle.grammar.specs.Ranges.{outOfRange, secondWords}
 use Rattle.answers.specs.Stages.{finished}
 use Rattle.answers.specs.Answer.{LONGEST, Answer, refuses, answerOf, drafts}
 
--- ---- stages 1 to 5, which a source alone decides
+-- ---- stages 1 to 5 with 16, which a source alone decides
 
 -- a refusal with its number and place, or the derivation
 pub data Checked : Type 0 where
@@ -29,12 +30,16 @@ pub data Checked : Type 0 where
 abbrev pub ranged : List ℕ → Trees → Checked
 ranged s f = elim (outOfRange s f) [ [] ↦ derived f | p ∷ ps ↦ refusal 5 p ]
 
+-- 16, "between stages 4 and 5": the first second size or display word
+abbrev pub worded : List ℕ → Trees → Checked
+worded s f = elim (secondWords f) [ [] ↦ ranged s f | p ∷ ps ↦ refusal 16 p ]
+
 -- 3 and 4; the source's length is the place where it ends early
 abbrev pub parsed : List ℕ → Verdict → Option Trees → Checked
 parsed s (refused n p) o = refusal n p
 parsed s ends-early o = refusal 3 (length s)
 parsed s accepted none = refusal 3 (length s)
-parsed s accepted (some f) = ranged s f
+parsed s accepted (some f) = worded s f
 
 -- 1: source over 65,536 bytes; 2: bad token
 unfoldable pub checked : List ℕ → Checked

@@ -1,10 +1,15 @@
--- FL: "one or more of `READ_ONLY` (1), `INTERACTIVE` (4), `RESET_REQUIRED` (16) with `|` between" (document 01, Grammar).
+-- FL: "one or more of `READ_ONLY` (1), `INTERACTIVE` (4), `RESET_REQUIRED` (16) with `|` between" (document 01, Grammar), and the words that
+-- join a numeric's FL (document 02, W-204).
 -- Assumes nothing.
 use Prim.Native.Nat.{ℕ, _+_}
-use mathlib.Core.List.{List, [], _∷_, map}
+use mathlib.Core.List.{List, [], _∷_, _++_, map}
+use mathlib.Core.Bool.{Bool, false, cond, _&&_, _||_}
+use lib.Dec.{eqb}
 use Rattle.lexemes.specs.Classes.{«INTERACTIVE», «READ_ONLY», «RESET_REQUIRED»}
-use mathlib.Core.Bool.{cond}
+use Rattle.lexemes.specs.Classes.{«NUMERIC_SIZE_1», «NUMERIC_SIZE_2», «NUMERIC_SIZE_4», «NUMERIC_SIZE_8»}
+use Rattle.lexemes.specs.Classes.{«DISPLAY_INT_DEC», «DISPLAY_UINT_DEC», «DISPLAY_UINT_HEX»}
 use Rattle.rows.specs.Flags as flag
+use Rattle.rows.specs.Sizes as size
 use Rattle.ll1.specs.Trees.{Token, token, Trees, leaves}
 use Rattle.ll1.specs.ParseTable.{member}
 use Rattle.grammar.specs.Parts.{when}
@@ -45,3 +50,72 @@ flags f = total flagWords (classes f)
 abbrev pub setIn : ℕ → List FlagWord → List FlagWord
 setIn n [] = []
 setIn n (w ∷ ws) = let more = setIn n ws in cond (flag.isSet (w .value) n) (w ∷ more) more
+
+-- ---- a numeric's size and display (document 02, W-204)
+
+-- "Numerics may name one of `NUMERIC_SIZE_1`, `_2`, `_4`, `_8`", each with its bytes,
+abbrev pub sizeWords : List FlagWord
+sizeWords =
+    flagWord «NUMERIC_SIZE_1» 1
+    ∷ flagWord «NUMERIC_SIZE_2» 2
+    ∷ flagWord «NUMERIC_SIZE_4» 4
+    ∷ flagWord «NUMERIC_SIZE_8» 8
+    ∷ []
+
+-- "and one of `DISPLAY_INT_DEC`, `DISPLAY_UINT_DEC`, `DISPLAY_UINT_HEX` among their flags", each with its number "in the order above"
+abbrev pub displayWords : List FlagWord
+displayWords =
+    flagWord «DISPLAY_INT_DEC» size.INT-DEC
+    ∷ flagWord «DISPLAY_UINT_DEC» size.UINT-DEC
+    ∷ flagWord «DISPLAY_UINT_HEX» size.UINT-HEX
+    ∷ []
+
+-- the words of a numeric's FL: "The new words join" the others
+abbrev pub numericWords : List FlagWord
+numericWords = flagWords ++ (sizeWords ++ displayWords)
+
+-- the classes of words
+abbrev pub classesOf : List FlagWord → List ℕ
+classesOf ws = map (λ w. w .class) ws
+
+-- the value of the word of class k, or another where k is none of the words
+abbrev pub valueOr : ℕ → List FlagWord → ℕ → ℕ
+valueOr other [] k = other
+valueOr other (w ∷ ws) k = cond (eqb (w .class) k) (w .value) (valueOr other ws k)
+
+-- the value of the first of the words that stands among the classes, or another where none does
+abbrev pub firstOf : List FlagWord → ℕ → List ℕ → ℕ
+firstOf ws other [] = other
+firstOf ws other (k ∷ ks) = valueOr (firstOf ws other ks) ws k
+
+-- "absent means eight bytes and `DISPLAY_UINT_DEC`"
+abbrev pub sizeIn : Trees → ℕ
+sizeIn f = firstOf sizeWords size.NO-SIZE (classes f)
+
+abbrev pub displayIn : Trees → ℕ
+displayIn f = firstOf displayWords size.UINT-DEC (classes f)
+
+-- the word of the value v, or another where no word has it
+abbrev pub wordOr : FlagWord → List FlagWord → ℕ → FlagWord
+wordOr other [] v = other
+wordOr other (w ∷ ws) v = cond (eqb (w .value) v) w (wordOr other ws v)
+
+-- the words of a size and of a display: those of an absent one where there is no such word
+abbrev pub sizeWord : ℕ → FlagWord
+sizeWord v = wordOr (flagWord «NUMERIC_SIZE_8» size.NO-SIZE) sizeWords v
+
+abbrev pub displayWord : ℕ → FlagWord
+displayWord v = wordOr (flagWord «DISPLAY_UINT_DEC» size.UINT-DEC) displayWords v
+
+-- "a second size or display word in one numeric, even the same" (refusal 16): the places of such words among tokens, in source order;
+-- `sized` and `shown` tell whether a size or a display word stands before them
+abbrev pub secondsAfter : Bool → Bool → List Token → List ℕ
+secondsAfter sized shown [] = []
+secondsAfter sized shown (token k p ∷ ts) =
+    let is-size = member k (classesOf sizeWords) in
+    let is-display = member k (classesOf displayWords) in
+    cond (sized && is-size || shown && is-display) (p ∷ []) [] ++ secondsAfter (sized || is-size) (shown || is-display) ts
+
+-- in the FL of a numeric
+abbrev pub secondsIn : Trees → List ℕ
+secondsIn f = secondsAfter false false (leaves f)

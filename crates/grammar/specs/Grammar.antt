@@ -4,6 +4,7 @@
 use mathlib.Core.List.{List, [], _∷_, map}
 use Rattle.lexemes.specs.Classes.{open-brace, close-brace, open-paren, close-paren, comma, semicolon, «=», «|», «&», «==», «!=», «<», «<=», «>», «>=», «<<», «>>», «+», «-», «*», «/», «%»}
 use Rattle.lexemes.specs.Classes.{«AND», «DEFAULT», «FALSE», «INTERACTIVE», «NOT», «ONE», «ONES», «OR», «READ_ONLY», «RESET_REQUIRED», «STRING_TOKEN», «TRUE», «UNDEFINED», «ZERO»}
+use Rattle.lexemes.specs.Classes.{«NUMERIC_SIZE_1», «NUMERIC_SIZE_2», «NUMERIC_SIZE_4», «NUMERIC_SIZE_8», «DISPLAY_INT_DEC», «DISPLAY_UINT_DEC», «DISPLAY_UINT_HEX»}
 use Rattle.lexemes.specs.Classes.{«checkbox», «default», «disableif», «endcheckbox», «endform», «endformset», «endif», «endnumeric», «endoneof», «endrule», «flags», «form», «formid», «formset», «goto», «grayoutif», «guid», «help», «label», «maximum», «minimum», «name», «numeric», «oneof», «option», «prompt», «questionid», «questionref», «rule», «ruleref», «step», «subtitle», «suppressif», «text», «title», «value»}
 use Rattle.lexemes.specs.Classes.{NAME, HEX}
 use Rattle.ll1.specs.Trees.{Grammar}
@@ -136,11 +137,13 @@ productions =
     ∷ <name-or-number> ::= (
     plain (t NAME ∷ []) ∷
     plain (r <id> ∷ []) ∷ [])
-    -- a numeric's FL, with the words of the others', and its N
+    -- a numeric's FL: "The new words join a numeric's FL" (document 02, W-204); and its N
     ∷ <numeric-flags>? ::= optional (t «flags» ∷ t «=» ∷ r <numeric-fl> ∷ t comma ∷ [])
     ∷ <numeric-fl> ::= one (r <numeric-flag> ∷ r <numeric-flag>* ∷ [])
     ∷ <numeric-flag>* ::= star <numeric-flag>* (t «|» ∷ r <numeric-flag> ∷ [])
-    ∷ <numeric-flag> ::= choice («READ_ONLY» ∷ «INTERACTIVE» ∷ «RESET_REQUIRED» ∷ [])
+    ∷ <numeric-flag> ::= choice («READ_ONLY» ∷ «INTERACTIVE» ∷ «RESET_REQUIRED»
+    ∷ «NUMERIC_SIZE_1» ∷ «NUMERIC_SIZE_2» ∷ «NUMERIC_SIZE_4» ∷ «NUMERIC_SIZE_8»
+    ∷ «DISPLAY_INT_DEC» ∷ «DISPLAY_UINT_DEC» ∷ «DISPLAY_UINT_HEX» ∷ [])
     ∷ <numeric-value> ::= numeral
     ∷ []
 

@@ -5,6 +5,7 @@ use mathlib.Core.List.{List, [], _∷_, map}
 use Prim.Native.Nat.{ℕ}
 use Rattle.lexemes.specs.Classes.{open-brace, close-brace, open-paren, close-paren, comma, semicolon, «|», «&», «==», «!=», «<», «<=», «>», «>=», «<<», «>>», «+», «-», «*», «/», «%»}
 use Rattle.lexemes.specs.Classes.{«AND», «DEFAULT», «FALSE», «INTERACTIVE», «NOT», «ONE», «ONES», «OR», «READ_ONLY», «RESET_REQUIRED», «STRING_TOKEN», «TRUE», «UNDEFINED», «ZERO»}
+use Rattle.lexemes.specs.Classes.{«NUMERIC_SIZE_1», «NUMERIC_SIZE_2», «NUMERIC_SIZE_4», «NUMERIC_SIZE_8», «DISPLAY_INT_DEC», «DISPLAY_UINT_DEC», «DISPLAY_UINT_HEX»}
 use Rattle.lexemes.specs.Classes.{«checkbox», «default», «disableif», «endcheckbox», «endform», «endformset», «endif», «endnumeric», «endoneof», «endrule», «flags», «form», «formset», «goto», «grayoutif», «label», «minimum», «name», «numeric», «oneof», «option», «prompt», «questionid», «questionref», «rule», «ruleref», «step», «subtitle», «suppressif», «text»}
 use Rattle.lexemes.specs.Classes.{NAME, HEX, DECIMAL}
 use Rattle.ll1.specs.ParseTable.{ParseTable, entry}
@@ -20,6 +21,11 @@ numbers = DECIMAL ∷ HEX ∷ []
 
 abbrev flag-words : List ℕ
 flag-words = «READ_ONLY» ∷ «INTERACTIVE» ∷ «RESET_REQUIRED» ∷ []
+
+abbrev numeric-words : List ℕ
+numeric-words =
+    «READ_ONLY» ∷ «INTERACTIVE» ∷ «RESET_REQUIRED» ∷ «NUMERIC_SIZE_1» ∷ «NUMERIC_SIZE_2» ∷ «NUMERIC_SIZE_4» ∷ «NUMERIC_SIZE_8»
+    ∷ «DISPLAY_INT_DEC» ∷ «DISPLAY_UINT_DEC» ∷ «DISPLAY_UINT_HEX» ∷ []
 
 -- what an atom, and so an expression, starts with
 abbrev pub atoms : List ℕ
@@ -158,11 +164,11 @@ lookahead =
     -- <numeric-flags>?
     ∷ entry ([] ∷ («flags» ∷ []) ∷ []) («minimum» ∷ []) 0 0
     -- <numeric-fl>
-    ∷ entry (flag-words ∷ []) (comma ∷ []) 1 0
+    ∷ entry (numeric-words ∷ []) (comma ∷ []) 1 0
     -- <numeric-flag>*
     ∷ entry ([] ∷ («|» ∷ []) ∷ []) (comma ∷ []) 0 0
     -- <numeric-flag>
-    ∷ entry (singles flag-words) («|» ∷ comma ∷ []) 0 0
+    ∷ entry (singles numeric-words) («|» ∷ comma ∷ []) 0 0
     -- <numeric-value>
     ∷ entry (singles numbers) (comma ∷ []) 0 0
     ∷ []

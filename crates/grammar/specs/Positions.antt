@@ -91,6 +91,10 @@ abbrev pub checkbox·default : ℕ
 checkbox·default = 4
 
 -- `numeric` HEAD `,` [`flags =` FL `,`] `minimum =` N `, maximum =` N `,` [`step =` N `,`] [`default =` N `,`] `endnumeric ;`
+-- which alternative of an item that is
+abbrev pub item·numeric : ℕ
+item·numeric = 5
+
 abbrev pub numeric·head : ℕ
 numeric·head = 1
 

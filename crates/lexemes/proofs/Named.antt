@@ -16,9 +16,12 @@ named =
     (",", class.comma) ∷ (";", class.semicolon) ∷ ("=", class.«=») ∷ ("|", class.«|») ∷ ("&", class.«&») ∷
     ("==", class.«==») ∷ ("!=", class.«!=») ∷ ("<", class.«<») ∷ ("<=", class.«<=») ∷ (">", class.«>») ∷ (">=", class.«>=») ∷
     ("<<", class.«<<») ∷ (">>", class.«>>») ∷ ("+", class.«+») ∷ ("-", class.«-») ∷ ("*", class.«*») ∷ ("/", class.«/») ∷
-    ("%", class.«%») ∷ ("AND", class.«AND») ∷ ("DEFAULT", class.«DEFAULT») ∷ ("FALSE", class.«FALSE») ∷
-    ("INTERACTIVE", class.«INTERACTIVE») ∷ ("NOT", class.«NOT») ∷ ("ONE", class.«ONE») ∷ ("ONES", class.«ONES») ∷
-    ("OR", class.«OR») ∷ ("READ_ONLY", class.«READ_ONLY») ∷ ("RESET_REQUIRED", class.«RESET_REQUIRED») ∷
+    ("%", class.«%») ∷ ("AND", class.«AND») ∷ ("DEFAULT", class.«DEFAULT») ∷ ("DISPLAY_INT_DEC", class.«DISPLAY_INT_DEC») ∷
+    ("DISPLAY_UINT_DEC", class.«DISPLAY_UINT_DEC») ∷ ("DISPLAY_UINT_HEX", class.«DISPLAY_UINT_HEX») ∷ ("FALSE", class.«FALSE») ∷
+    ("INTERACTIVE", class.«INTERACTIVE») ∷ ("NOT", class.«NOT») ∷ ("NUMERIC_SIZE_1", class.«NUMERIC_SIZE_1») ∷
+    ("NUMERIC_SIZE_2", class.«NUMERIC_SIZE_2») ∷ ("NUMERIC_SIZE_4", class.«NUMERIC_SIZE_4») ∷
+    ("NUMERIC_SIZE_8", class.«NUMERIC_SIZE_8») ∷ ("ONE", class.«ONE») ∷ ("ONES", class.«ONES») ∷ ("OR", class.«OR») ∷
+    ("READ_ONLY", class.«READ_ONLY») ∷ ("RESET_REQUIRED", class.«RESET_REQUIRED») ∷
     ("STRING_TOKEN", class.«STRING_TOKEN») ∷ ("TRUE", class.«TRUE») ∷ ("UNDEFINED", class.«UNDEFINED») ∷
     ("ZERO", class.«ZERO») ∷ ("checkbox", class.«checkbox») ∷ ("default", class.«default») ∷
     ("disableif", class.«disableif») ∷ ("endcheckbox", class.«endcheckbox») ∷ ("endform", class.«endform») ∷

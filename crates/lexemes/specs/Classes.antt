@@ -84,171 +84,192 @@ abbrev pub «AND» : ℕ
 abbrev pub «DEFAULT» : ℕ
 «DEFAULT» = 23
 
+abbrev pub «DISPLAY_INT_DEC» : ℕ
+«DISPLAY_INT_DEC» = 24
+
+abbrev pub «DISPLAY_UINT_DEC» : ℕ
+«DISPLAY_UINT_DEC» = 25
+
+abbrev pub «DISPLAY_UINT_HEX» : ℕ
+«DISPLAY_UINT_HEX» = 26
+
 abbrev pub «FALSE» : ℕ
-«FALSE» = 24
+«FALSE» = 27
 
 abbrev pub «INTERACTIVE» : ℕ
-«INTERACTIVE» = 25
+«INTERACTIVE» = 28
 
 abbrev pub «NOT» : ℕ
-«NOT» = 26
+«NOT» = 29
+
+abbrev pub «NUMERIC_SIZE_1» : ℕ
+«NUMERIC_SIZE_1» = 30
+
+abbrev pub «NUMERIC_SIZE_2» : ℕ
+«NUMERIC_SIZE_2» = 31
+
+abbrev pub «NUMERIC_SIZE_4» : ℕ
+«NUMERIC_SIZE_4» = 32
+
+abbrev pub «NUMERIC_SIZE_8» : ℕ
+«NUMERIC_SIZE_8» = 33
 
 abbrev pub «ONE» : ℕ
-«ONE» = 27
+«ONE» = 34
 
 abbrev pub «ONES» : ℕ
-«ONES» = 28
+«ONES» = 35
 
 abbrev pub «OR» : ℕ
-«OR» = 29
+«OR» = 36
 
 abbrev pub «READ_ONLY» : ℕ
-«READ_ONLY» = 30
+«READ_ONLY» = 37
 
 abbrev pub «RESET_REQUIRED» : ℕ
-«RESET_REQUIRED» = 31
+«RESET_REQUIRED» = 38
 
 abbrev pub «STRING_TOKEN» : ℕ
-«STRING_TOKEN» = 32
+«STRING_TOKEN» = 39
 
 abbrev pub «TRUE» : ℕ
-«TRUE» = 33
+«TRUE» = 40
 
 abbrev pub «UNDEFINED» : ℕ
-«UNDEFINED» = 34
+«UNDEFINED» = 41
 
 abbrev pub «ZERO» : ℕ
-«ZERO» = 35
+«ZERO» = 42
 
 abbrev pub «checkbox» : ℕ
-«checkbox» = 36
+«checkbox» = 43
 
 abbrev pub «default» : ℕ
-«default» = 37
+«default» = 44
 
 abbrev pub «disableif» : ℕ
-«disableif» = 38
+«disableif» = 45
 
 abbrev pub «endcheckbox» : ℕ
-«endcheckbox» = 39
+«endcheckbox» = 46
 
 abbrev pub «endform» : ℕ
-«endform» = 40
+«endform» = 47
 
 abbrev pub «endformset» : ℕ
-«endformset» = 41
+«endformset» = 48
 
 abbrev pub «endif» : ℕ
-«endif» = 42
+«endif» = 49
 
 abbrev pub «endnumeric» : ℕ
-«endnumeric» = 43
+«endnumeric» = 50
 
 abbrev pub «endoneof» : ℕ
-«endoneof» = 44
+«endoneof» = 51
 
 abbrev pub «endrule» : ℕ
-«endrule» = 45
+«endrule» = 52
 
 abbrev pub «flags» : ℕ
-«flags» = 46
+«flags» = 53
 
 abbrev pub «form» : ℕ
-«form» = 47
+«form» = 54
 
 abbrev pub «formid» : ℕ
-«formid» = 48
+«formid» = 55
 
 abbrev pub «formset» : ℕ
-«formset» = 49
+«formset» = 56
 
 abbrev pub «goto» : ℕ
-«goto» = 50
+«goto» = 57
 
 abbrev pub «grayoutif» : ℕ
-«grayoutif» = 51
+«grayoutif» = 58
 
 abbrev pub «guid» : ℕ
-«guid» = 52
+«guid» = 59
 
 abbrev pub «help» : ℕ
-«help» = 53
+«help» = 60
 
 abbrev pub «label» : ℕ
-«label» = 54
+«label» = 61
 
 abbrev pub «maximum» : ℕ
-«maximum» = 55
+«maximum» = 62
 
 abbrev pub «minimum» : ℕ
-«minimum» = 56
+«minimum» = 63
 
 abbrev pub «name» : ℕ
-«name» = 57
+«name» = 64
 
 abbrev pub «numeric» : ℕ
-«numeric» = 58
+«numeric» = 65
 
 abbrev pub «oneof» : ℕ
-«oneof» = 59
+«oneof» = 66
 
 abbrev pub «option» : ℕ
-«option» = 60
+«option» = 67
 
 abbrev pub «prompt» : ℕ
-«prompt» = 61
+«prompt» = 68
 
 abbrev pub «questionid» : ℕ
-«questionid» = 62
+«questionid» = 69
 
 abbrev pub «questionref» : ℕ
-«questionref» = 63
+«questionref» = 70
 
 abbrev pub «rule» : ℕ
-«rule» = 64
+«rule» = 71
 
 abbrev pub «ruleref» : ℕ
-«ruleref» = 65
+«ruleref» = 72
 
 abbrev pub «step» : ℕ
-«step» = 66
+«step» = 73
 
 abbrev pub «subtitle» : ℕ
-«subtitle» = 67
+«subtitle» = 74
 
 abbrev pub «suppressif» : ℕ
-«suppressif» = 68
+«suppressif» = 75
 
 abbrev pub «text» : ℕ
-«text» = 69
+«text» = 76
 
 abbrev pub «title» : ℕ
-«title» = 70
+«title» = 77
 
 abbrev pub «value» : ℕ
-«value» = 71
+«value» = 78
 
 -- ---- the other classes
 
 -- a word that is not reserved
 abbrev pub NAME : ℕ
-NAME = 72
+NAME = 79
 
 -- a number that starts with `0x`
 abbrev pub HEX : ℕ
-HEX = 73
+HEX = 80
 
 -- a number of decimal digits
 abbrev pub DECIMAL : ℕ
-DECIMAL = 74
+DECIMAL = 81
 
 -- a bad token
 abbrev pub BAD : ℕ
-BAD = 75
+BAD = 82
 
 -- the end of the source
 abbrev pub END : ℕ
-END = 76
+END = 83
 
 -- ---- counts
 

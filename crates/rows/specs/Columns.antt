@@ -1,9 +1,9 @@
--- The columns of a row (document 01, "Rows").
+-- The columns of a row (document 01, "Rows", and document 02, W-204).
 use Prim.Native.Nat.{ℕ}
 
 -- how many numbers a row has
 abbrev pub ROW : ℕ
-ROW = 12
+ROW = 13
 
 abbrev pub CODE : ℕ
 CODE = 0
@@ -47,3 +47,7 @@ NAME = 10
 -- the place of the first token; of an operator, the operator itself
 abbrev pub PLACE : ℕ
 PLACE = 11
+
+-- "size times 4 plus 0, 1 or 2 for the display" of a numeric; 0 for other rows
+abbrev pub SIZE : ℕ
+SIZE = 12

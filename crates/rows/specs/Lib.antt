@@ -3,6 +3,7 @@ pub mod Columns
 pub mod Cells
 pub mod Codes
 pub mod Flags
+pub mod Sizes
 pub mod Draft
 pub mod Table
 pub mod Rows

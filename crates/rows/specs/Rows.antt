@@ -6,7 +6,7 @@ use lib.ListN.{length, replicate}
 use Rattle.rows.specs.Columns.{ROW}
 use Rattle.rows.specs.Table.{rowAt, withRow}
 
--- each has ROW numbers: "A row is twelve 64-bit numbers" (document 01, "Rows")
+-- each has ROW numbers: document 01's twelve ("Rows"), and "Rows grow to thirteen numbers" (document 02, W-204)
 pub data AreRows : List (List ℕ) → Type 0 where
   no-rows : AreRows []
   add-row : {r : List ℕ} {rs : List (List ℕ)} → length r ≡ ROW → AreRows rs → AreRows (r ∷ rs)

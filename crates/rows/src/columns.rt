@@ -1,7 +1,7 @@
-// The columns of a row (document 01, "Rows").
+// The columns of a row (document 01, "Rows", and document 02, W-204).
 
 // How many numbers a row has.
-pub const ROW: usize = 12;
+pub const ROW: usize = 13;
 
 pub const CODE: usize = 0;
 
@@ -33,3 +33,6 @@ pub const NAME: usize = 10;
 
 // The place of the first token; of an operator, the operator itself.
 pub const PLACE: usize = 11;
+
+// "size times 4 plus 0, 1 or 2 for the display" of a numeric; 0 for other rows.
+pub const SIZE: usize = 12;

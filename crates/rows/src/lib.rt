@@ -4,6 +4,7 @@ pub mod codes;
 pub mod columns;
 pub mod draft;
 pub mod flags;
+pub mod sizes;
 
 use columns::ROW;
 ghost use mathlib.Core.Path.{_≡_};

@@ -1,4 +1,4 @@
--- The reserved words, each listed once (document 01, Tokens and Grammar).
+-- The reserved words, each listed once (document 01, Tokens and Grammar; document 02, W-204).
 -- Assumes nothing.
 use Prim.Native.Nat.{ℕ}
 use Prim.Native.String.{String}
@@ -16,9 +16,16 @@ abbrev pub reservedTexts : List String
 reservedTexts =
     "AND" ∷
     "DEFAULT" ∷
+    "DISPLAY_INT_DEC" ∷
+    "DISPLAY_UINT_DEC" ∷
+    "DISPLAY_UINT_HEX" ∷
     "FALSE" ∷
     "INTERACTIVE" ∷
     "NOT" ∷
+    "NUMERIC_SIZE_1" ∷
+    "NUMERIC_SIZE_2" ∷
+    "NUMERIC_SIZE_4" ∷
+    "NUMERIC_SIZE_8" ∷
     "ONE" ∷
     "ONES" ∷
     "OR" ∷

@@ -7,14 +7,21 @@ ghost use Rattle.wordlist.specs.Filled.{filled};
 ghost use Rattle.wordlist.specs.Words.{reserved};
 
 // How many there are.
-pub const COUNT: usize = 50;
+pub const COUNT: usize = 57;
 
 const WORDS: [[u8; 16]; COUNT] = [
     *b"AND             ",
     *b"DEFAULT         ",
+    *b"DISPLAY_INT_DEC ",
+    *b"DISPLAY_UINT_DEC",
+    *b"DISPLAY_UINT_HEX",
     *b"FALSE           ",
     *b"INTERACTIVE     ",
     *b"NOT             ",
+    *b"NUMERIC_SIZE_1  ",
+    *b"NUMERIC_SIZE_2  ",
+    *b"NUMERIC_SIZE_4  ",
+    *b"NUMERIC_SIZE_8  ",
     *b"ONE             ",
     *b"ONES            ",
     *b"OR              ",

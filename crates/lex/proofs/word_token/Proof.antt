@@ -6,7 +6,7 @@ use native.Mathlib.Omega.{arith}
 use lib.ListN.{drop}
 use borrow.Author.Needs.{needs}
 use Rattle.lexemes.specs.Bytes.{isWordByte}
-use Rattle.lexemes.specs.Classes.{SIGNS}
+use Rattle.lexemes.specs.Classes.{SIGNS, NAME}
 use Rattle.lexemes.specs.Lexemes.{reserved}
 use Rattle.lex.specs.Likely.{LikelyEnd}
 use Rattle.lexemes.specs.Words.{run, word, placeAmong}
@@ -51,7 +51,7 @@ returns-2 c =
     let is-end = c .before .before .before .before .loop .inv .1 (c .if2 .taken) in
     let w = word (drop (c .before .before .before .before .before .before .before .args .at) s) in
     let is-class = c .before .before .class-of .ensures ∙ ap (λ w. SIGNS + placeAmong w reserved) (word-part s (c .before .before .before .before .before .before .before .args .at) (c .before .before .before .before .loop .end) is-end) in
-    name-token s (c .before .before .before .before .before .before .before .args .at) (c .before .before .before .before .before .before .before .pre .1) (c .before .before .before .before .before .before .before .pre .2) 72 (c .before .before .before .before .loop .end) (omega (arith, is-class, place-le w reserved, c .before .if1 .left)) is-end
+    name-token s (c .before .before .before .before .before .before .before .args .at) (c .before .before .before .before .before .before .before .pre .1) (c .before .before .before .before .before .before .before .pre .2) NAME (c .before .before .before .before .loop .end) (omega (arith, is-class, place-le w reserved, c .before .if1 .left)) is-end
 
 add-word-end : tie.Need-add-word-end Inv-loop μ-loop
 add-word-end c = search needs

@@ -1,15 +1,16 @@
 -- What the trees of a phrase keep for its row, in order.
 -- Assumes nothing.
-use Prim.Native.Nat.{ℕ}
+use Prim.Native.Nat.{ℕ, _+_, _*_}
 use mathlib.Core.Bool.{cond, _||_}
 use mathlib.Core.List.{List, [], _∷_, _++_}
 use lib.Dec.{eqb}
 use Rattle.lexemes.specs.Classes.{NAME, HEX, DECIMAL}
+use Rattle.rows.specs.Sizes.{sizeAndDisplay}
 use Rattle.ll1.specs.Trees.{token, Trees, nil, leaf, node}
 use Rattle.grammar.specs.Rules.{<truth>, <option-flags>, <fl>, <numeric-fl>, <name-or-number>}
 use Rattle.grammar.specs.Parts.{child, placeAt}
 use Rattle.grammar.specs.Parts.{mark, when}
-use Rattle.grammar.specs.Flags.{flags}
+use Rattle.grammar.specs.Flags.{flags, sizeIn, displayIn}
 
 -- how many entries a phrase keeps at most
 abbrev pub KEPT : ℕ
@@ -22,8 +23,9 @@ leafEntries k p = cond (eqb k NAME || (eqb k DECIMAL || eqb k HEX)) (mark p ∷ 
 -- a tree of rule A keeps, by the alternative taken and the trees under it, which keep `inner`:
 unfoldable pub nodeEntries : ℕ → ℕ → Trees → List ℕ → List ℕ
 nodeEntries A i c inner =
-    -- FL: its flags
-    cond (eqb A <fl> || eqb A <numeric-fl>) (flags c ∷ [])
+    -- FL: its flags; of a numeric besides 256 times its size and display
+    cond (eqb A <fl>) (flags c ∷ [])
+    (cond (eqb A <numeric-fl>) (flags c + 256 * sizeAndDisplay (sizeIn c) (displayIn c) ∷ [])
     -- TRUE or FALSE: 2 or 1
     (cond (eqb A <truth>) (cond (eqb i 0) 2 1 ∷ [])
     -- an option's flags: the mark of DEFAULT, or 0
@@ -31,7 +33,7 @@ nodeEntries A i c inner =
     -- NAME or N: the mark of a name or 0, and that of a number or 0
     (cond (eqb A <name-or-number>) (when (eqb i 0) (mark (placeAt 0 c)) ∷ when (eqb i 1) (mark (placeAt 0 (child 0 c))) ∷ [])
     -- any other: what they keep
-    inner)))
+    inner))))
 
 -- a part that is absent keeps 0
 unfoldable pub entries : Trees → List ℕ

@@ -2,13 +2,13 @@
 -- Assumes nothing.
 use Prim.Native.Nat.{ℕ}
 use mathlib.Core.Bool.{Bool, cond, _||_}
-use mathlib.Core.List.{List, [], _∷_, map}
+use mathlib.Core.List.{List, [], _∷_}
 use lib.Dec.{eqb, ltb, leb}
 use Rattle.lexemes.specs.Classes.{«DEFAULT», «FALSE», «TRUE», NAME, HEX, DECIMAL}
-use Rattle.grammar.specs.Rules.{<H8>, <H4>, <H2>, <id>, <small>, <large>, <numeric-value>, <zero>}
+use Rattle.grammar.specs.Rules.{<H8>, <H4>, <H2>, <id>, <small>, <large>, <zero>}
 use Rattle.grammar.specs.Ranges.{Range, free, rangeOf}
 use Rattle.grammar.specs.Parts.{mark, when}
-use Rattle.grammar.specs.Flags.{flagWords}
+use Rattle.grammar.specs.Flags.{flagWords, numericWords, classesOf}
 
 -- a number of 1 to 65,535: of a form, a goto, a written question or a questionref
 abbrev pub ID : ℕ
@@ -22,7 +22,7 @@ SMALL = 129
 abbrev pub LARGE : ℕ
 LARGE = 130
 
--- a numeric's minimum, maximum, step or default, below 2^64
+-- a numeric's minimum, maximum, step or default: whether it fits the numeric's size is told when all of these are read
 abbrev pub NUMERIC-VALUE : ℕ
 NUMERIC-VALUE = 131
 
@@ -68,7 +68,10 @@ abbrev pub numbers : List ℕ
 numbers = DECIMAL ∷ HEX ∷ []
 
 abbrev pub flagClasses : List ℕ
-flagClasses = map (λ w. w .class) flagWords
+flagClasses = classesOf flagWords
+
+abbrev pub numericClasses : List ℕ
+numericClasses = classesOf numericWords
 
 -- a list of words with `|` between
 abbrev pub isFlagList : ℕ → Bool
@@ -84,7 +87,7 @@ startsOf e =
     (cond (eqb e REFERENCE) (NAME ∷ numbers)
     (cond (eqb e TRUTH) («TRUE» ∷ «FALSE» ∷ [])
     (cond (eqb e FLAG-LIST) flagClasses
-    (cond (eqb e NUMERIC-FLAGS) flagClasses
+    (cond (eqb e NUMERIC-FLAGS) numericClasses
     -- H8, H4, H2
     (HEX ∷ [])))))))
 
@@ -98,13 +101,12 @@ elementRange e k =
     cond (eqb e ID) (rangeOf <id>)
     (cond (eqb e SMALL) (rangeOf <small>)
     (cond (eqb e LARGE) (rangeOf <large>)
-    (cond (eqb e NUMERIC-VALUE) (rangeOf <numeric-value>)
     (cond (eqb e OPTION-FLAGS) (cond (eqb k «DEFAULT») free (rangeOf <zero>))
     (cond (eqb e REFERENCE) (cond (eqb k NAME) free (rangeOf <id>))
     (cond (eqb e H8) (rangeOf <H8>)
     (cond (eqb e H4) (rangeOf <H4>)
     (cond (eqb e H2) (rangeOf <H2>)
-    free))))))))
+    free)))))))
 
 -- what a token of class k, whose mark is m, keeps as the element: of an option's flags the mark of DEFAULT, of a truth 2 for TRUE and 1 for FALSE
 unfoldable pub elementEntry : ℕ → ℕ → ℕ → ℕ

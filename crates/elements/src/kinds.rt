@@ -5,7 +5,7 @@ ghost use mathlib.Core.Bool.{_||_};
 ghost use Rattle.values.specs.Numbers.{valueAt};
 ghost use Rattle.ll1.specs.ParseTable.{member};
 ghost use Rattle.grammar.specs.Ranges.{within, keeps};
-ghost use Rattle.elements.specs.Kinds.{numbers, flagClasses, startsOf, elementRange};
+ghost use Rattle.elements.specs.Kinds.{numbers, flagClasses, numericClasses, startsOf, elementRange};
 use lex::Token;
 use lexemes::classes::*;
 use values::Value;
@@ -19,7 +19,7 @@ pub const SMALL: u8 = 129;
 // Any other number, below 2^64.
 pub const LARGE: u8 = 130;
 
-// A numeric's minimum, maximum, step or default, below 2^64.
+// A numeric's minimum, maximum, step or default. Whether it fits the numeric's size is told when all of these are read.
 pub const NUMERIC_VALUE: u8 = 131;
 
 // An option's flags: the number 0, or DEFAULT.
@@ -62,6 +62,22 @@ fn is_flag(class: u8) -> bool
     (class == READ_ONLY) | (class == INTERACTIVE) | (class == RESET_REQUIRED)
 }
 
+// A word of a numeric's FL.
+fn is_numeric_flag(class: u8) -> bool
+    ensures { λ r. ⌜ r ≡ member class numericClasses ⌝ }
+{
+    (class == READ_ONLY)
+        | (class == INTERACTIVE)
+        | (class == RESET_REQUIRED)
+        | (class == NUMERIC_SIZE_1)
+        | (class == NUMERIC_SIZE_2)
+        | (class == NUMERIC_SIZE_4)
+        | (class == NUMERIC_SIZE_8)
+        | (class == DISPLAY_INT_DEC)
+        | (class == DISPLAY_UINT_DEC)
+        | (class == DISPLAY_UINT_HEX)
+}
+
 // A token of the class can be, or start, the element.
 pub fn suits(want: u8, class: u8) -> bool
     ensures { λ r. ⌜ r ≡ member class (startsOf want) ⌝ }
@@ -77,7 +93,7 @@ pub fn suits(want: u8, class: u8) -> bool
         REFERENCE => (class == NAME) | is_number(class),
         TRUTH => (class == TRUE) | (class == FALSE),
         FLAG_LIST => is_flag(class),
-        NUMERIC_FLAGS => is_flag(class),
+        NUMERIC_FLAGS => is_numeric_flag(class),
         _ => class == HEX,
     }
 }
@@ -112,7 +128,6 @@ pub fn in_range(src: &[u8], token: Token, want: u8) -> bool
         ID => is_between(src, at, 1, 65535),
         SMALL => is_between(src, at, 0, 65535),
         LARGE => is_between(src, at, 0, 18446744073709551615),
-        NUMERIC_VALUE => is_between(src, at, 0, 18446744073709551615),
         OPTION_FLAGS => word_or_between(src, at, token.class == DEFAULT, 0, 0),
         REFERENCE => word_or_between(src, at, token.class == NAME, 1, 65535),
         H8 => values::digits_at(src, at) <= 8,

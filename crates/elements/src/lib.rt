@@ -2,6 +2,7 @@
 // list of its elements (document 01, Grammar).
 pub mod flags;
 pub mod kinds;
+pub mod noted;
 pub mod patterns;
 pub mod phrase;
 

@@ -11,6 +11,7 @@ use Rattle.rows.specs.Columns as column
 use Rattle.rows.specs.Cells.{Entry, _≔_}
 use Rattle.rows.specs.Flags as flag
 use Rattle.answers.specs.Rows.{Draft, withoutMarks, rowWith, operand}
+use Rattle.fields.specs.Sizes.{sizeEntry}
 
 -- the entries by their number, from 0 on; one that there is not is 0
 abbrev pub kept : List ℕ → ℕ → ℕ
@@ -111,6 +112,7 @@ module _ (number-at : ℕ → ℕ) where
       ∷ column.B ≔ markedValue (k 6)
       ∷ column.C ≔ markedValue (k 7)
       ∷ column.D ≔ markedValue (k 8)
+      ∷ column.SIZE ≔ sizeEntry (k 4)
       ∷ []))
       (k 1) (k 6) (k 8)
 

@@ -4,12 +4,14 @@
 // numeric's default and of an option's word DEFAULT. A mark is a place plus one, or 0 for none.
 pub mod codes;
 mod form_set;
+mod numerics;
 pub mod operators;
 mod parts;
 mod phrase;
 mod questions;
 
 pub use crate::form_set::form_set_row;
+pub use crate::numerics::first_oversized;
 pub use crate::phrase::phrase_row;
 pub use crate::phrase::rule_row;
 pub use crate::phrase::word_row;

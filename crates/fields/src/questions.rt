@@ -1,4 +1,5 @@
 // The rows of questions. A question's HEAD keeps four entries: name, number, prompt, help.
+use crate::numerics::size_and_display;
 use crate::parts::plain_row;
 use crate::parts::set_if;
 use crate::parts::value;
@@ -15,6 +16,7 @@ use rows::columns::NAME;
 use rows::columns::OWN;
 use rows::columns::ROW;
 use rows::columns::SECOND;
+use rows::columns::SIZE;
 use rows::flags::HAS_DEFAULT;
 ghost use mathlib.Core.Path.{_≡_};
 ghost use mathlib.Core.List.{[]};
@@ -73,6 +75,7 @@ pub fn numeric_row(src: &[u8], parent: usize, place: usize, k: [u64; KEPT]) -> [
     r[B] = value(src, k[6]);
     r[C] = value(src, k[7]);
     r[D] = value(src, k[8]);
+    r[SIZE] = size_and_display(k[4]);
     with_marks(r, k[1], k[6], k[8])
 }
 

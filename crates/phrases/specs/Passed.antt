@@ -10,10 +10,10 @@ use Rattle.ll1.specs.Trees.{Trees, leaves, Symbol, Fits, Depth}
 use Rattle.ll1.specs.Machine.{Due, dueAll}
 use Rattle.grammar.specs.Grammar.{rules}
 use Rattle.grammar.specs.Derivation.{tooDeep}
-use Rattle.grammar.specs.Ranges.{outOfRange}
 use Rattle.phrases.specs.declared.Cursor.{Cursor}
 use Rattle.phrases.specs.Stream.{stream, resume, Within}
-use Rattle.elements.specs.Marks.{marked}
+use Rattle.elements.specs.declared.noted.Noted.{Noted}
+use Rattle.elements.specs.Marks.{faults, noting}
 use Rattle.elements.specs.Entries.{KEPT, entries}
 
 -- what was kept, with the entries in its first places, as far as there is room
@@ -22,7 +22,7 @@ written [] es = []
 written (x ∷ l) [] = x ∷ l
 written (x ∷ l) (e ∷ es) = e ∷ written l es
 
-module _ (s : List ℕ) (α : List Symbol) (n : ℕ) (t : Token) (bad : ℕ) (l : List ℕ) (r : Cursor) (l′ : List ℕ) where
+module _ (s : List ℕ) (α : List Symbol) (n : ℕ) (t : Token) (was : Noted) (l : List ℕ) (r : Cursor) (l′ : List ℕ) where
   -- the trees that were read
   pub record Phrase : Type 0 where
     pub trees : Trees
@@ -31,9 +31,9 @@ module _ (s : List ℕ) (α : List Symbol) (n : ℕ) (t : Token) (bad : ℕ) (l 
     pub reads : leaves trees ++ stream s (r .token) ≡ stream s t
     pub kept : l′ ≡ written l (entries trees)
     pub few : length (entries trees) ≤ KEPT
-    pub bad-is : r .bad ≡ marked bad (outOfRange s trees)
+    pub noted-are : r .noted ≡ noting was (faults s trees)
 
-  -- from the refusal or 0, the token, the mark and what was kept to the result and what is kept then:
+  -- from the refusal or 0, the token, the faults noted and what was kept to the result and what is kept then:
   -- the verdict is as if the symbols α were due before; and where there is no refusal, the trees
   pub record Passed : Type 0 where
     pub verdict : (σ : List Due) (d : Depth) → tooDeep d ≡ false → resume s (dueAll d α ++ σ) n t ≡ resume s σ (r .no) (r .token)

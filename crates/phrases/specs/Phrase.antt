@@ -2,7 +2,7 @@
 -- Assumes nothing.
 use Prim.Native.Nat.{ℕ, zero, suc, _+_, _-_}
 use mathlib.Core.Bool.{Bool, cond, _&&_}
-use mathlib.Core.List.{List, [], _∷_}
+use mathlib.Core.List.{List, [], _∷_, map}
 use lib.Dec.{eqb, ltb, leb}
 use lib.ListN.{length, getD, set}
 use Rattle.lex.specs.declared.Token.{Token}
@@ -11,9 +11,12 @@ use Rattle.lex.specs.Tokens.{tokenAt}
 use Rattle.ll1.specs.ParseTable.{member}
 use Rattle.phrases.specs.declared.Cursor.{Cursor}
 use Rattle.elements.specs.declared.flags.Words.{Words}
-use Rattle.elements.specs.Words.{noWords, withWord, bitsOf}
+use Rattle.elements.specs.declared.noted.Noted.{Noted}
+use Rattle.elements.specs.Words.{noWords, withWord, listEntry, listSecond}
 use Rattle.phrases.specs.Stream.{stream}
-use Rattle.elements.specs.Marks.{marked, outOf}
+use Rattle.elements.specs.Marks.{outside, noting, withSecond}
+use Rattle.grammar.specs.Parts.{mark}
+use Rattle.grammar.specs.Ranges.{outOf}
 use Rattle.elements.specs.Kinds.{MAYBE, GROUP, isFlagList, startsOf, isKept, elementRange, elementEntries}
 use Rattle.elements.specs.Symbols.{elementsOf}
 
@@ -36,28 +39,28 @@ withEntries k (e ∷ es) = withEntries (withEntry k e) es
 
 -- ---- where the reader stands
 
--- the refusal or 0; the token; the mark of the first number out of its range, or 0; how many elements are left out still; what is kept
+-- the refusal or 0; the token; the faults that are noted; how many elements are left out still; what is kept
 pub record Reader : Type 0 where
   pub no : ℕ
   pub token : Token
-  pub bad : ℕ
+  pub noted : Noted
   pub skip : ℕ
   pub kept : Kept
 
 abbrev pub reader : Cursor → List ℕ → Reader
-reader c l = record { no = c .no; token = c .token; bad = c .bad; skip = 0; kept = keptAt (c .count) l }
+reader c l = record { no = c .no; token = c .token; noted = c .noted; skip = 0; kept = keptAt (c .count) l }
 
 -- without a refusal, at an element that is not left out
-abbrev pub ready : Token → ℕ → Kept → Reader
-ready t bad k = record { no = 0; token = t; bad = bad; skip = 0; kept = k }
+abbrev pub ready : Token → Noted → Kept → Reader
+ready t n k = record { no = 0; token = t; noted = n; skip = 0; kept = k }
 
 -- at the first element
-abbrev pub starting : Token → ℕ → List ℕ → Reader
-starting t bad l = ready t bad (keptAt 0 l)
+abbrev pub starting : Token → Noted → List ℕ → Reader
+starting t n l = ready t n (keptAt 0 l)
 
 -- past the token, which keeps nothing
 abbrev pub passing : List ℕ → Reader → Reader
-passing s x = ready (tokenAt s (x .token .end)) (x .bad) (x .kept)
+passing s x = ready (tokenAt s (x .token .end)) (x .noted) (x .kept)
 
 -- past the last token of an element; a refusal stays
 abbrev pub onward : List ℕ → Reader → Reader
@@ -65,15 +68,15 @@ onward s x = cond (eqb (x .no) 0) (passing s x) x
 
 -- with n elements to leave out
 abbrev pub skipping : Reader → ℕ → Reader
-skipping x n = record { no = x .no; token = x .token; bad = x .bad; skip = n; kept = x .kept }
+skipping x n = record { no = x .no; token = x .token; noted = x .noted; skip = n; kept = x .kept }
 
 -- refused at the token: No. 3
 abbrev pub refusing : Reader → Token → Reader
-refusing x t = record { no = 3; token = t; bad = x .bad; skip = 0; kept = x .kept }
+refusing x t = record { no = 3; token = t; noted = x .noted; skip = 0; kept = x .kept }
 
 -- without the group that is left out
 abbrev pub leaving : Reader → Reader
-leaving x = skipping (ready (x .token) (x .bad) (withEntry (x .kept) 0)) GROUP
+leaving x = skipping (ready (x .token) (x .noted) (withEntry (x .kept) 0)) GROUP
 
 -- one element less to leave out
 abbrev pub leavingOne : Reader → Reader
@@ -87,7 +90,7 @@ taking s x e =
     cond (isKept e)
     (ready
     (tokenAt s (x .token .end))
-    (marked (x .bad) (outOf s (elementRange e (x .token .class)) (x .token .start)))
+    (noting (x .noted) (map outside (outOf s (elementRange e (x .token .class)) (x .token .start ∷ []))))
     (withEntries (x .kept) (elementEntries e (x .token .class) (x .token .start))))
     (passing s x)
 
@@ -98,9 +101,9 @@ unfoldable pub flagsFrom : ℕ → List ℕ → Reader → ℕ → Token → Wor
 flagsFrom zero s x e t w = refusing x t
 flagsFrom (suc n) s x e t w =
     let bar = tokenAt s (t .end) in
-    let words = withWord w (t .class) in
+    let words = withWord w (t .class) (mark (t .start)) in
     let more = flagsFrom n s x e (tokenAt s (bar .end)) words in
-    let last = ready bar (x .bad) (withEntry (x .kept) (bitsOf words)) in
+    let last = ready bar (withSecond (x .noted) (listSecond e words)) (withEntry (x .kept) (listEntry e words)) in
     cond (member (t .class) (startsOf e)) (cond (eqb (bar .class) «|») more last) (refusing x t)
 
 -- there are no more of them than tokens
@@ -133,10 +136,10 @@ abbrev pub startsPast : List ℕ → Token → Bool
 startsPast s t = ltb (t .class) BAD && leb (length s) (t .start)
 
 -- nothing read, with the refusal n or 0
-abbrev pub unread : ℕ → Token → ℕ → List ℕ → Reader
-unread n t bad l = record { no = n; token = t; bad = bad; skip = 0; kept = keptAt 0 l }
+abbrev pub unread : ℕ → Token → Noted → List ℕ → Reader
+unread n t f l = record { no = n; token = t; noted = f; skip = 0; kept = keptAt 0 l }
 
 -- a phrase from the token t on, where n is 0; a refusal n is handed on, and nothing is read from a token that starts past the source
-unfoldable pub phraseRead : List ℕ → ℕ → Token → ℕ → ℕ → List ℕ → Reader
-phraseRead s n t bad phrase l =
-    cond (eqb n 0) (cond (startsPast s t) (unread n t bad l) (phraseFrom s (elementsOf phrase) (starting t bad l))) (unread n t bad l)
+unfoldable pub phraseRead : List ℕ → ℕ → Token → Noted → ℕ → List ℕ → Reader
+phraseRead s n t f phrase l =
+    cond (eqb n 0) (cond (startsPast s t) (unread n t f l) (phraseFrom s (elementsOf phrase) (starting t f l))) (unread n t f l)

@@ -1,15 +1,17 @@
 -- Printing a phrase from a row: the elements that are read, one after another (document 01, Resolved text).
 -- Assumes nothing.
 use Prim.Native.Nat.{ℕ, _+_, _-_, _/_, _%_, _^_}
-use mathlib.Core.Bool.{Bool, true, false, cond}
+use mathlib.Core.Bool.{Bool, true, false, cond, _||_}
 use mathlib.Core.List.{List, [], _∷_, _++_}
 use lib.Dec.{eqb, ltb}
 use lib.ListN.{getD}
 use Rattle.lexemes.specs.Classes.{«|», «name», «questionid», «step», «default», «DEFAULT», NAME}
 use Rattle.rows.specs.Columns as column
 use Rattle.rows.specs.Flags as flag
-use Rattle.grammar.specs.Flags.{FlagWord, flagWord, flagWords, setIn}
-use Rattle.elements.specs.Kinds.{OPTION-FLAGS, TRUTH, isFlagList, H8, H4, H2, MAYBE, GROUP}
+use Rattle.rows.specs.Codes.{NUMERIC}
+use Rattle.rows.specs.Sizes.{sizeOf, displayOf}
+use Rattle.grammar.specs.Flags.{FlagWord, flagWord, flagWords, setIn, sizeWord, displayWord}
+use Rattle.elements.specs.Kinds.{OPTION-FLAGS, TRUTH, FLAG-LIST, NUMERIC-FLAGS, H8, H4, H2, MAYBE, GROUP}
 use Rattle.answers.specs.Text.{Word, decimal, hex, ruleName, lexeme, flagList, truth}
 
 -- ---- one element
@@ -26,6 +28,11 @@ wordAt i = getD flagWords i (flagWord 0 0)
 abbrev pub afterBar : Bool → Bool → ℕ → List Word
 afterBar any there k = cond there (cond any (lexeme «|») [] ++ lexeme k) []
 
+-- a numeric's FL: the words of its flags, then its size and its display (document 02, W-204)
+unfoldable pub numericFlags : ℕ → ℕ → List Word
+numericFlags set size-and-display =
+    flagList (setIn set flagWords ++ (sizeWord (sizeOf size-and-display) ∷ displayWord (displayOf size-and-display) ∷ []))
+
 -- an option's flags: `0` or `DEFAULT`
 unfoldable pub optionFlags : ℕ → List Word
 optionFlags set = cond (flag.isSet flag.OPTION-DEFAULT set) (lexeme «DEFAULT») (decimal 0)
@@ -36,7 +43,7 @@ elementWords e v =
     cond (eqb e NAME) (ruleName v)
     (cond (eqb e OPTION-FLAGS) (optionFlags v)
     (cond (eqb e TRUTH) (truth v)
-    (cond (isFlagList e) (setWords v)
+    (cond (eqb e FLAG-LIST) (setWords v)
     (cond (eqb e H8) (hex 8 v)
     (cond (eqb e H4) (hex 4 v)
     (cond (eqb e H2) (hex 2 v)
@@ -45,13 +52,13 @@ elementWords e v =
 -- ---- the parts that may be absent
 
 -- one that starts with the word is printed: no name of a question, its number always, a step always, a default where it is written, flags where
--- there are any
+-- it has them
 abbrev pub shownBy : Bool → Bool → ℕ → Bool
-shownBy any-flag has-default w =
+shownBy has-flags has-default w =
     cond (eqb w «name») false
     (cond (eqb w «questionid») true
     (cond (eqb w «step») true
-    (cond (eqb w «default») has-default any-flag)))
+    (cond (eqb w «default») has-default has-flags)))
 
 -- some word stands in a list
 abbrev pub filled : List FlagWord → Bool
@@ -61,6 +68,10 @@ filled (w ∷ ws) = true
 -- by a row's flags
 abbrev pub anyFlag : ℕ → Bool
 anyFlag set = filled (setIn set flagWords)
+
+-- a numeric always has flags: its size and its display
+abbrev pub hasFlags : ℕ → ℕ → Bool
+hasFlags code set = eqb code NUMERIC || anyFlag set
 
 abbrev pub hasDefault : ℕ → Bool
 hasDefault set = flag.isSet flag.HAS-DEFAULT set
@@ -110,10 +121,15 @@ module _ (shown : ℕ → Bool) (element : ℕ → ℕ → List Word) where
 
 -- of the row r, whose values come from the sources
 abbrev pub shownIn : List ℕ → ℕ → Bool
-shownIn r w = shownBy (anyFlag (getD r column.FLAGS 0)) (hasDefault (getD r column.FLAGS 0)) w
+shownIn r w = shownBy (hasFlags (getD r column.CODE 0) (getD r column.FLAGS 0)) (hasDefault (getD r column.FLAGS 0)) w
+
+-- an element of the row r, whose value comes from a source; a numeric's FL is of two columns
+unfoldable pub elementOf : List ℕ → ℕ → ℕ → List Word
+elementOf r e source =
+    cond (eqb e NUMERIC-FLAGS) (numericFlags (getD r column.FLAGS 0) (getD r column.SIZE 0)) (elementWords e (valueFrom r source))
 
 abbrev pub elementIn : List ℕ → List ℕ → ℕ → ℕ → List Word
-elementIn sources r e passed = elementWords e (valueFrom r (getD sources passed 0))
+elementIn sources r e passed = elementOf r e (getD sources passed 0)
 
 unfoldable pub phraseWords : List ℕ → List ℕ → List ℕ → List Word
 phraseWords pattern sources r = phraseFrom (shownIn r) (elementIn sources r) pattern 0 0

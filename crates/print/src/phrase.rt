@@ -1,12 +1,16 @@
 // The printer of a phrase from a row: the phrases are those that are read (crate phrases).
 use crate::shown::put_element;
+use crate::shown::put_numeric_flags;
 use crate::shown::shows;
 use crate::sources::value_from;
 use elements::kinds::GROUP;
 use elements::kinds::MAYBE;
+use elements::kinds::NUMERIC_FLAGS;
 use lexemes::classes::NAME;
 use rows::cell;
+use rows::columns::CODE;
 use rows::columns::FLAGS;
+use rows::columns::SIZE;
 use spellings::words::put_word;
 ghost use mathlib.Core.Path.{_≡_};
 ghost use Prim.Native.Nat.{_≤_, _<_};
@@ -15,7 +19,7 @@ ghost use Rattle.lexemes.specs.Classes.{NAME};
 ghost use Rattle.rows.specs.Table.{rowAt};
 ghost use Rattle.elements.specs.Kinds.{MAYBE};
 ghost use Rattle.spellings.specs.Output.{Prints};
-ghost use Rattle.print.specs.Phrase.{oneMore, phraseWords};
+ghost use Rattle.print.specs.Phrase.{oneMore, elementOf, phraseWords};
 ghost use Rattle.print.specs.Steps.{Stepped, Entered};
 
 // Where the printer of a phrase stands: the bytes so far, the next element, how many of those that have values it has
@@ -51,7 +55,11 @@ fn enter_group(p: Progress, pattern: &[u8], table: &[u64], row: usize) -> Progre
     ensures { λ r. ⌜ Entered (rowAt (now (table .entry)) row) (now (pattern .entry)) p r ⌝ }
 {
     let next = p.next + 1;
-    if shows(byte_at(pattern, next), cell(table, row, FLAGS)) {
+    if shows(
+        byte_at(pattern, next),
+        cell(table, row, CODE),
+        cell(table, row, FLAGS),
+    ) {
         return Progress {
             at: p.at,
             next,
@@ -65,7 +73,29 @@ fn enter_group(p: Progress, pattern: &[u8], table: &[u64], row: usize) -> Progre
     }
 }
 
-// An element that is no sign and no reserved word.
+// An element that is no sign and no reserved word, of the value from a source; a numeric's FL is of two columns.
+fn put_from_row(
+    out: &mut [u8],
+    at: usize,
+    want: u8,
+    source: u8,
+    table: &[u64],
+    row: usize,
+) -> usize
+    ensures { λ r. ⌜ Prints (now (out .entry)) at (elementOf (rowAt (now (table .entry)) row) want source) (now (out .exit)) r ⌝ }
+{
+    if want == NUMERIC_FLAGS {
+        return put_numeric_flags(
+            out,
+            at,
+            cell(table, row, FLAGS),
+            cell(table, row, SIZE),
+        );
+    }
+    put_element(out, at, want, value_from(table, row, source))
+}
+
+// The next element, which is no sign and no reserved word.
 fn put_value(
     out: &mut [u8],
     p: Progress,
@@ -78,8 +108,7 @@ fn put_value(
     ensures { λ r. ⌜ Stepped (now (sources .entry)) (rowAt (now (table .entry)) row) (now (pattern .entry)) (now (out .entry)) p (now (out .exit)) r ⌝ }
 {
     let k = p.next;
-    let value = value_from(table, row, byte_at(sources, p.passed));
-    let at = put_element(out, p.at, pattern[k], value);
+    let at = put_from_row(out, p.at, pattern[k], byte_at(sources, p.passed), table, row);
     Progress {
         at,
         next: k + 1,

@@ -1,7 +1,9 @@
 // What an element of a phrase is printed as, and which of the parts that may be absent are printed.
 use elements::kinds::*;
 use lexemes::classes::*;
+use rows::codes::NUMERIC;
 use rows::flags;
+use rows::sizes;
 use spellings::numerals::put_decimal;
 use spellings::numerals::put_hex;
 use spellings::numerals::put_rule_name;
@@ -11,10 +13,10 @@ ghost use mathlib.Core.Path.{_≡_};
 ghost use Prim.Native.Nat.{_<_};
 ghost use lib.ListN.{length};
 ghost use Rattle.rows.specs.Flags.{isSet};
-ghost use Rattle.grammar.specs.Flags.{flagWord, flagWords};
+ghost use Rattle.grammar.specs.Flags.{flagWord, flagWords, sizeWord, displayWord};
 ghost use Rattle.answers.specs.Text.{truth};
 ghost use Rattle.spellings.specs.Output.{Prints};
-ghost use Rattle.print.specs.Phrase.{wordAt, afterBar, setWords, optionFlags, elementWords, shownBy, anyFlag, hasDefault};
+ghost use Rattle.print.specs.Phrase.{wordAt, afterBar, setWords, optionFlags, numericFlags, elementWords, shownBy, anyFlag, hasFlags, hasDefault};
 
 // A flag, by its value, is set.
 fn is_set(set: u64, flag: u64) -> bool
@@ -41,6 +43,15 @@ fn flag_word(i: usize) -> FlagWord
         1 => FlagWord(INTERACTIVE, flags::INTERACTIVE),
         _ => FlagWord(RESET_REQUIRED, flags::RESET_REQUIRED),
     }
+}
+
+// Some flag word is set.
+fn any_flag(set: u64) -> bool
+    ensures { λ r. ⌜ r ≡ anyFlag set ⌝ }
+{
+    is_set(set, flags::READ_ONLY)
+        | is_set(set, flags::INTERACTIVE)
+        | is_set(set, flags::RESET_REQUIRED)
 }
 
 // A flag word where it is there, after `|` where another stands before it.
@@ -71,6 +82,40 @@ fn put_flags(out: &mut [u8], at: usize, set: u64) -> usize
     at
 }
 
+// The word of a size: that of eight bytes where there is no such word.
+fn size_word(size: u64) -> u8
+    ensures { λ r. ⌜ r ≡ sizeWord size .class ⌝ }
+{
+    match size {
+        1 => NUMERIC_SIZE_1,
+        2 => NUMERIC_SIZE_2,
+        4 => NUMERIC_SIZE_4,
+        _ => NUMERIC_SIZE_8,
+    }
+}
+
+// The word of a display: that of unsigned decimals where there is no such word.
+fn display_word(display: u64) -> u8
+    ensures { λ r. ⌜ r ≡ displayWord display .class ⌝ }
+{
+    match display {
+        sizes::INT_DEC => DISPLAY_INT_DEC,
+        sizes::UINT_HEX => DISPLAY_UINT_HEX,
+        _ => DISPLAY_UINT_DEC,
+    }
+}
+
+// A numeric's FL: the flag words that are set, then its size and its display.
+pub fn put_numeric_flags(out: &mut [u8], at: usize, set: u64, size_and_display: u64) -> usize
+    ensures { λ r. ⌜ Prints (now (out .entry)) at (numericFlags set «size_and_display») (now (out .exit)) r ⌝ }
+{
+    let flags = put_flags(out, at, set);
+    let bar = put_word_if(out, flags, any_flag(set), BAR);
+    let size = put_word(out, bar, size_word(size_and_display / 4));
+    let second = put_word(out, size, BAR);
+    put_word(out, second, display_word(size_and_display % 4))
+}
+
 fn put_truth(out: &mut [u8], at: usize, value: u64) -> usize
     ensures { λ r. ⌜ Prints (now (out .entry)) at (truth value) (now (out .exit)) r ⌝ }
 {
@@ -99,7 +144,6 @@ pub fn put_element(out: &mut [u8], at: usize, want: u8, value: u64) -> usize
         OPTION_FLAGS => put_option_flags(out, at, value),
         TRUTH => put_truth(out, at, value),
         FLAG_LIST => put_flags(out, at, value),
-        NUMERIC_FLAGS => put_flags(out, at, value),
         H8 => put_hex(out, at, value, 8),
         H4 => put_hex(out, at, value, 4),
         H2 => put_hex(out, at, value, 2),
@@ -107,10 +151,10 @@ pub fn put_element(out: &mut [u8], at: usize, want: u8, value: u64) -> usize
     }
 }
 
-// A part that may be absent is printed, by the word that it starts with and its row's flags: no name of a question, its
-// number always, flags where there are any, a step always, a default where one is written.
-pub fn shows(word: u8, set: u64) -> bool
-    ensures { λ r. ⌜ r ≡ shownBy (anyFlag set) (hasDefault set) word ⌝ }
+// A part that may be absent is printed, by the word that it starts with and its row's code and flags: no name of a question,
+// its number always, a numeric's flags always and others' where there are any, a step always, a default where one is written.
+pub fn shows(word: u8, code: u64, set: u64) -> bool
+    ensures { λ r. ⌜ r ≡ shownBy (hasFlags code set) (hasDefault set) word ⌝ }
 {
     match word {
         KW_NAME => false,
@@ -118,9 +162,7 @@ pub fn shows(word: u8, set: u64) -> bool
         KW_STEP => true,
         KW_DEFAULT => is_set(set, flags::HAS_DEFAULT),
         _ => {
-            is_set(set, flags::READ_ONLY)
-                | is_set(set, flags::INTERACTIVE)
-                | is_set(set, flags::RESET_REQUIRED)
+            (code == NUMERIC) | any_flag(set)
         }
     }
 }

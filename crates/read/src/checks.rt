@@ -1,4 +1,4 @@
-// Stages 1 to 5, which the quick check and reading share.
+// Stages 1 to 5 with 16, which the quick check and reading share.
 use crate::Survey;
 use lex::Found;
 ghost use mathlib.Core.Path.{_≡_};
@@ -49,9 +49,13 @@ pub fn survey(src: &[u8], table: &mut [u64]) -> Survey
     if w.no != 0 {
         return walk_refused(src, w.no, w.place);
     }
-    let bad = w.bad;
-    if bad != 0 {
-        return refused_cleared(table, 5, bad - 1);
+    let second = w.noted.second;
+    if second != 0 {
+        return refused_cleared(table, 16, second - 1);
+    }
+    let outside = w.noted.outside;
+    if outside != 0 {
+        return refused_cleared(table, 5, outside - 1);
     }
     Survey {
         number: 0,

@@ -1,4 +1,4 @@
-// Reading a source into a lent table, and the quick check (document 01, Refusal numbers; document 02, W-201).
+// Reading a source into a lent table, and the quick check (document 01, Refusal numbers; document 02, W-201 and W-204).
 mod accept;
 mod checks;
 mod faults;
@@ -43,7 +43,7 @@ pub struct Fault {
 // What the quick check counts places below.
 const PLACES: u64 = 4294967296;
 
-// Stages 1 to 5 alone: the refusal's number times 2^32 plus its place, or 0.
+// Stages 1 to 5 with 16 alone: the refusal's number times 2^32 plus its place, or 0.
 pub fn quick_check(src: &[u8]) -> u64
     ensures { λ r. ⌜ r ≡ quickCheck (now (src .entry)) ⌝ }
 {

@@ -16,12 +16,15 @@ use rows::columns::A;
 use rows::columns::B;
 use rows::columns::CODE;
 use rows::columns::D;
+use rows::columns::SIZE;
+use rows::sizes::INT_DEC;
 
-// x is below y, as two numbers of the numeric in this row.
+// x is below y, as two numbers of the numeric in this row: in the order of its size and display.
 fn below(table: &[u64], row: usize, x: u64, y: u64) -> bool
     ensures { λ r. ⌜ r ≡ below (draftAt (now (table .entry)) row) x y ⌝ }
 {
-    x < y
+    let size_and_display = cell(table, row, SIZE);
+    sizes::below(size_and_display / 4, size_and_display % 4 == INT_DEC, x, y)
 }
 
 // A numeric's maximum below its minimum, or its default outside them.

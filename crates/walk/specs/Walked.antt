@@ -19,11 +19,10 @@ use Rattle.grammar.specs.Grammar.{rules}
 use Rattle.grammar.specs.Notation.{t, r}
 use Rattle.grammar.specs.Derivation.{tooDeep, maxConditions, maxGroups}
 use Rattle.answers.specs.Rows.{Draft}
-use Rattle.grammar.specs.Ranges.{outOfRange}
 use Rattle.answers.specs.Drafts.{encoded}
 use Rattle.phrases.specs.declared.Cursor.{Cursor}
 use Rattle.phrases.specs.Stream.{stream, resume, Within}
-use Rattle.elements.specs.Marks.{marked}
+use Rattle.elements.specs.Marks.{faults, nothingNoted, noting}
 use Rattle.elements.specs.Symbols.{symbolsOf, titleAndHelp, EXPRESSION-CLOSE}
 use Rattle.fields.specs.Words.{wordDraft}
 use Rattle.walk.specs.declared.State.{State}
@@ -49,7 +48,7 @@ pub record Tree (s : List ℕ) (α : List Symbol) (M : Meaning) (st r : State) (
   pub table : t′ ≡ put t (st .rows) (map encoded drafts)
   pub rows : r .rows ≡ st .rows + length drafts
   pub counted : r .rules ≡ st .rules + count
-  pub bad : r .bad ≡ marked (st .bad) (outOfRange s trees)
+  pub noted : r .noted ≡ noting (st .noted) (faults s trees)
 
 -- the verdict at r is that at st with the symbols α due before, at the depth d; and where there is no refusal, the trees
 pub record Walked (s : List ℕ) (d : Depth) (α : List Symbol) (M : Meaning) (st r : State) (t t′ : List ℕ) : Type 0 where
@@ -80,19 +79,19 @@ pub record Closes (s : List ℕ) (phrase : ℕ) (st r : State) : Type 0 where
 
 -- at the end of a phrase, with no row more
 abbrev pub closed : State → Cursor → State
-closed st c = record { no = c .no; token = c .token; rows = st .rows; rules = st .rules; bad = c .bad }
+closed st c = record { no = c .no; token = c .token; rows = st .rows; rules = st .rules; noted = c .noted }
 
 -- past the token
 abbrev pub passed : List ℕ → State → State
-passed s st = record { no = st .no; token = tokenAt s (st .token .end); rows = st .rows; rules = st .rules; bad = st .bad }
+passed s st = record { no = st .no; token = tokenAt s (st .token .end); rows = st .rows; rules = st .rules; noted = st .noted }
 
 -- refused at the token: No. 4
 abbrev pub deep : State → State
-deep st = record { no = 4; token = st .token; rows = st .rows; rules = st .rules; bad = st .bad }
+deep st = record { no = 4; token = st .token; rows = st .rows; rules = st .rules; noted = st .noted }
 
 -- with one row more
 abbrev pub advanced : State → State
-advanced st = record { no = 0; token = st .token; rows = st .rows + 1; rules = st .rules; bad = st .bad }
+advanced st = record { no = 0; token = st .token; rows = st .rows + 1; rules = st .rules; noted = st .noted }
 
 -- the row of the word k after what was read up to st
 pub record WithRow (parent : ℕ) (k : Token) (st r : State) (t t′ : List ℕ) : Type 0 where
@@ -127,7 +126,7 @@ pub record OpensCondition (s : List ℕ) (parent : ℕ) (st st′ : State) (t₀
 
 -- where a walk starts
 abbrev pub starting : Token → State
-starting k = record { no = 0; token = k; rows = 0; rules = 0; bad = 0 }
+starting k = record { no = 0; token = k; rows = 0; rules = 0; noted = nothingNoted }
 
 -- formset guid = GUID , title = STR , help = STR ,
 abbrev pub setOpen : List Symbol

@@ -1,5 +1,5 @@
--- What a walk over a whole source promises: the refusal of stages 3 and 4 or the derivation, its draft rows in the table, and its first number
--- out of range (document 01, Refusal numbers 3 to 5).
+-- What a walk over a whole source promises: the refusal of stages 3 and 4 or the derivation, its draft rows in the table, its first second size or
+-- display word and its first number out of range (document 01, Refusal numbers 3 to 5; document 02, W-204, refusal 16).
 -- Assumes nothing.
 use Prim.Native.Nat.{ℕ, _≤_}
 use mathlib.Core.Path.{_≡_}
@@ -16,10 +16,10 @@ use Rattle.grammar.specs.Derivation.{Derives}
 use Rattle.grammar.specs.Reading.{verdict}
 use Rattle.grammar.specs.Source.{sourceTokens}
 use Rattle.answers.specs.Rows.{rulesIn}
-use Rattle.grammar.specs.Ranges.{outOfRange}
+use Rattle.grammar.specs.Ranges.{outOfRange, secondWords}
 use Rattle.answers.specs.Drafts.{encoded}
 use Rattle.answers.specs.Answer.{drafts}
-use Rattle.elements.specs.Marks.{firstMark}
+use Rattle.elements.specs.Marks.{firstMark, nothingNoted}
 use Rattle.walk.specs.declared.State.{State}
 use Rattle.walk.specs.declared.Outcome.{Outcome}
 
@@ -43,8 +43,9 @@ pub record WalkedWhole (s : List ℕ) (r : Outcome) (t t′ : List ℕ) : Type 0
   pub table : t′ ≡ put t 0 (map encoded (drafts s tree))
   pub rows : r .rows ≡ length (drafts s tree)
   pub rules : r .rules ≡ rulesIn tree
-  -- the mark, a place plus one, of the first number out of its range, or 0
-  pub bad : r .bad ≡ firstMark (outOfRange s tree)
+  -- the marks, each a place plus one, of the first second word and of the first number out of its range, or 0
+  pub second : r .noted .second ≡ firstMark (secondWords tree)
+  pub outside : r .noted .outside ≡ firstMark (outOfRange s tree)
   -- each row has a token of its own
   pub few : r .rows ≤ length s
 
@@ -52,17 +53,17 @@ pub record WalkedWhole (s : List ℕ) (r : Outcome) (t t′ : List ℕ) : Type 0
 pub record Walks (s : List ℕ) (r : Outcome) (t t′ : List ℕ) : Type 0 where
   pub number : r .no ≡ refusalNumber (verdict (sourceTokens s))
   pub place : r .place ≡ refusalPlace s (verdict (sourceTokens s))
-  pub nothing : r .no ≢ 0 → (r .rows ≡ 0) × (r .rules ≡ 0) × (r .bad ≡ 0)
+  pub nothing : r .no ≢ 0 → (r .rows ≡ 0) × (r .rules ≡ 0) × (r .noted ≡ nothingNoted)
   pub zeros : r .no ≢ 0 → t′ ≡ replicate (length t) 0
   pub derived : r .no ≡ 0 → WalkedWhole s r t t′
 
 -- ---- what the end of a walk over a source of n bytes means
 
 abbrev pub refusing : ℕ → ℕ → Outcome
-refusing number place = record { no = number; place = place; rows = 0; rules = 0; bad = 0 }
+refusing number place = record { no = number; place = place; rows = 0; rules = 0; noted = nothingNoted }
 
 unfoldable pub ended : ℕ → State → Outcome
 ended n st =
     cond (eqb (st .no) 0)
-    (cond (eqb (st .token .class) END) (record { no = 0; place = 0; rows = st .rows; rules = st .rules; bad = st .bad }) (refusing 3 (st .token .start)))
+    (cond (eqb (st .token .class) END) (record { no = 0; place = 0; rows = st .rows; rules = st .rules; noted = st .noted }) (refusing 3 (st .token .start)))
     (cond (eqb (st .token .class) END) (refusing 3 n) (refusing (st .no) (st .token .start)))

@@ -4,6 +4,7 @@ use crate::items::items;
 use crate::steps::close;
 use crate::steps::flat;
 use elements::KEPT;
+use elements::noted::nothing_noted;
 use elements::phrase;
 use fields::form_set_row;
 use lexemes::classes::*;
@@ -50,13 +51,13 @@ pub fn form_list(src: &[u8], table: &mut [u64], s: State) -> State
 // The rest of a form set's opening, from the inner brace of its GUID on, if there is one.
 fn guid_end(src: &[u8], c: Cursor, kept: &mut [u64]) -> Cursor
     requires { ⌜ Within (now src) (c .token) ⌝ }
-    ensures { λ e. ⌜ Passed (now (src .entry)) (r <guid-end> ∷ titleAndHelp) (c .no) (c .token) (c .bad) (now (kept .entry)) e (now (kept .exit)) ⌝ }
+    ensures { λ e. ⌜ Passed (now (src .entry)) (r <guid-end> ∷ titleAndHelp) (c .no) (c .token) (c .noted) (now (kept .entry)) e (now (kept .exit)) ⌝ }
 {
     let token = c.token;
     if token.class == OPEN_BRACE {
-        return phrases::read(src, c.no, token, c.bad, phrase::FORM_SET_BRACED, kept);
+        return phrases::read(src, c.no, token, c.noted, phrase::FORM_SET_BRACED, kept);
     }
-    phrases::read(src, c.no, token, c.bad, phrase::FORM_SET_PLAIN, kept)
+    phrases::read(src, c.no, token, c.noted, phrase::FORM_SET_PLAIN, kept)
 }
 
 // The form set's opening, with its row.
@@ -65,7 +66,7 @@ pub fn open_form_set(src: &[u8], table: &mut [u64]) -> State
 {
     let first = lex::token_at(src, 0);
     let mut high = [0; KEPT];
-    let c = phrases::read(src, 0, first, 0, phrase::FORM_SET_OPEN, &mut high);
+    let c = phrases::read(src, 0, first, nothing_noted(), phrase::FORM_SET_OPEN, &mut high);
     let mut low = [0; KEPT];
     let e = guid_end(src, c, &mut low);
     let token = e.token;
@@ -75,7 +76,7 @@ pub fn open_form_set(src: &[u8], table: &mut [u64]) -> State
             token,
             rows: 0,
             rules: 0,
-            bad: e.bad,
+            noted: e.noted,
         };
     }
     rows::put_row(table, 0, form_set_row(src, first.start, high, low));
@@ -84,6 +85,6 @@ pub fn open_form_set(src: &[u8], table: &mut [u64]) -> State
         token,
         rows: 1,
         rules: 0,
-        bad: e.bad,
+        noted: e.noted,
     }
 }

@@ -6,6 +6,7 @@ use crate::starts::starts_item;
 use crate::steps::at_end;
 use crate::steps::close;
 use crate::steps::flat;
+use crate::steps::numeric;
 use crate::steps::too_deep;
 use crate::steps::word;
 use elements::KEPT;
@@ -60,7 +61,7 @@ fn open_rule(src: &[u8], table: &mut [u64], s: State, parent: usize) -> State
 {
     let first = s.token;
     let mut kept = [0; KEPT];
-    let c = phrases::read(src, s.no, first, s.bad, phrase::RULE_OPEN, &mut kept);
+    let c = phrases::read(src, s.no, first, s.noted, phrase::RULE_OPEN, &mut kept);
     if c.no != 0 {
         return at_end(s, c);
     }
@@ -76,7 +77,7 @@ fn open_rule(src: &[u8], table: &mut [u64], s: State, parent: usize) -> State
         token,
         rows: s.rows + 1,
         rules: own,
-        bad: c.bad,
+        noted: c.noted,
     }
 }
 
@@ -113,7 +114,7 @@ fn item(src: &[u8], table: &mut [u64], s: State, parent: usize) -> State
         KW_LABEL => flat(src, table, s, parent, phrase::LABEL),
         KW_GOTO => flat(src, table, s, parent, phrase::GOTO),
         KW_CHECKBOX => flat(src, table, s, parent, phrase::CHECKBOX),
-        KW_NUMERIC => flat(src, table, s, parent, phrase::NUMERIC),
+        KW_NUMERIC => numeric(src, table, s, parent),
         _ => one_of(src, table, s, parent),
     }
 }

@@ -1,5 +1,5 @@
-// One walk over a source by the grammar, stages 3 to 5: it writes draft rows as far as whole rows fit, counts all, keeps
-// the first number out of its range, and stops at the first token that the grammar or a depth refuses.
+// One walk over a source by the grammar, stages 3, 4, 16 and 5: it writes draft rows as far as whole rows fit, counts all,
+// notes the first fault of 16 and of 5, and stops at the first token that the grammar or a depth refuses.
 mod expressions;
 mod forms;
 mod items;
@@ -9,43 +9,46 @@ mod steps;
 use crate::forms::form_list;
 use crate::forms::open_form_set;
 use crate::steps::close;
+use elements::noted::Noted;
+use elements::noted::nothing_noted;
 use elements::phrase;
 use lex::Token;
 use lexemes::classes::END;
 use phrases::SYNTAX;
 ghost use mathlib.Core.Path.{_≡_};
 ghost use lib.ListN.{length};
+ghost use Rattle.elements.specs.Marks.{nothingNoted};
 ghost use Rattle.walk.specs.Whole.{Walks, ended};
 
-// Where a walk stands: the refusal or 0, the token, how many rows and how many rules there are so far, and the mark of
-// the first number out of its range or 0. A mark is a place plus one.
+// Where a walk stands: the refusal or 0, the token, how many rows and how many rules there are so far, and the faults that
+// are noted.
 pub struct State {
     pub no: u64,
     pub token: Token,
     pub rows: usize,
     pub rules: usize,
-    pub bad: usize,
+    pub noted: Noted,
 }
 
-// What a walk ends with: the refusal's number and place, or 0 and 0; how many rows and rules there are, and the mark
-// of the first number out of its range or 0. Where there is a refusal, all these are 0.
+// What a walk ends with: the refusal's number and place, or 0 and 0; how many rows and rules there are, and the faults
+// that are noted. Where there is a refusal, all these are 0.
 pub struct Outcome {
     pub no: u64,
     pub place: usize,
     pub rows: usize,
     pub rules: usize,
-    pub bad: usize,
+    pub noted: Noted,
 }
 
 fn refusing(no: u64, place: usize) -> Outcome
-    ensures { λ r. ⌜ r ≡ record { no = no; place = place; rows = 0; rules = 0; bad = 0 } ⌝ }
+    ensures { λ r. ⌜ r ≡ record { no = no; place = place; rows = 0; rules = 0; noted = nothingNoted } ⌝ }
 {
     Outcome {
         no,
         place,
         rows: 0,
         rules: 0,
-        bad: 0,
+        noted: nothing_noted(),
     }
 }
 
@@ -70,7 +73,7 @@ fn finish(src: &[u8], s: State) -> Outcome
         place: 0,
         rows: s.rows,
         rules: s.rules,
-        bad: s.bad,
+        noted: s.noted,
     }
 }
 

@@ -1,6 +1,9 @@
 // The smallest steps of a walk.
 use crate::State;
 use elements::KEPT;
+use elements::noted::with_outside;
+use elements::phrase;
+use fields::first_oversized;
 use fields::phrase_row;
 use fields::word_row;
 use lex::Token;
@@ -9,10 +12,11 @@ ghost use mathlib.Core.Path.{_≡_};
 ghost use mathlib.Core.Bool.{false};
 ghost use mathlib.Core.List.{[], _∷_};
 ghost use Prim.Native.Nat.{_+_, _<_, _^_};
-ghost use Rattle.lexemes.specs.Classes.{BAD};
+ghost use Rattle.lexemes.specs.Classes.{«numeric», BAD};
 ghost use Rattle.ll1.specs.Machine.{allNullable};
 ghost use Rattle.grammar.specs.Grammar.{rules};
-ghost use Rattle.grammar.specs.Notation.{t};
+ghost use Rattle.grammar.specs.Notation.{t, r};
+ghost use Rattle.grammar.specs.Rules.{<item>};
 ghost use Rattle.grammar.specs.Source.{numberAt};
 ghost use Rattle.answers.specs.Drafts.{encoded};
 ghost use Rattle.rows.specs.Table.{withRow};
@@ -20,7 +24,7 @@ ghost use Rattle.fields.specs.Phrases.{kept, phraseDraft};
 ghost use Rattle.phrases.specs.Stream.{Within};
 ghost use Rattle.elements.specs.Symbols.{symbolsOf};
 ghost use Rattle.walk.specs.Meanings.{Counted, Worded};
-ghost use Rattle.walk.specs.Walked.{Room, Reads, Closes, WithRow, passed, closed, deep, ReadsRow};
+ghost use Rattle.walk.specs.Walked.{Room, Reads, Closes, WithRow, passed, closed, deep, ReadsUnder, ReadsRow};
 
 // The refusal of a depth too many (document 01, No. 4).
 const DEPTH: u64 = 4;
@@ -35,7 +39,7 @@ pub fn too_deep(s: State) -> State
         token,
         rows: s.rows,
         rules: s.rules,
-        bad: s.bad,
+        noted: s.noted,
     }
 }
 
@@ -49,7 +53,7 @@ pub fn past(src: &[u8], s: State) -> State
         token: next,
         rows: s.rows,
         rules: s.rules,
-        bad: s.bad,
+        noted: s.noted,
     }
 }
 
@@ -63,7 +67,7 @@ pub fn at_end(s: State, c: Cursor) -> State
         token,
         rows: s.rows,
         rules: s.rules,
-        bad: c.bad,
+        noted: c.noted,
     }
 }
 
@@ -75,7 +79,7 @@ pub fn close(src: &[u8], s: State, phrase: u8) -> State
     let mut kept = [0; KEPT];
     at_end(
         s,
-        phrases::read(src, s.no, s.token, s.bad, phrase, &mut kept),
+        phrases::read(src, s.no, s.token, s.noted, phrase, &mut kept),
     )
 }
 
@@ -102,7 +106,7 @@ pub fn flat(src: &[u8], table: &mut [u64], s: State, parent: usize, phrase: u8) 
 {
     let first = s.token;
     let mut kept = [0; KEPT];
-    let c = phrases::read(src, s.no, first, s.bad, phrase, &mut kept);
+    let c = phrases::read(src, s.no, first, s.noted, phrase, &mut kept);
     if c.no != 0 {
         return at_end(s, c);
     }
@@ -113,7 +117,29 @@ pub fn flat(src: &[u8], table: &mut [u64], s: State, parent: usize, phrase: u8) 
         token,
         rows: s.rows + 1,
         rules: s.rules,
-        bad: c.bad,
+        noted: c.noted,
+    }
+}
+
+// A numeric, with its row; that a number does not fit its size is noted.
+pub fn numeric(src: &[u8], table: &mut [u64], s: State, parent: usize) -> State
+    requires { ⌜ Room (now src) s × (s .token .class ≡ «numeric») ⌝ }
+    ensures { λ s′. ⌜ ReadsUnder (now (src .entry)) (r <item> ∷ []) parent s s′ (now (table .entry)) (now (table .exit)) ⌝ }
+{
+    let first = s.token;
+    let mut kept = [0; KEPT];
+    let c = phrases::read(src, s.no, first, s.noted, phrase::NUMERIC, &mut kept);
+    if c.no != 0 {
+        return at_end(s, c);
+    }
+    put_phrase_row(src, table, s.rows, first, parent, kept);
+    let token = c.token;
+    State {
+        no: 0,
+        token,
+        rows: s.rows + 1,
+        rules: s.rules,
+        noted: with_outside(c.noted, first_oversized(src, kept) as usize),
     }
 }
 
@@ -132,7 +158,7 @@ pub fn with_row(table: &mut [u64], s: State, parent: usize, word: Token) -> Stat
         token,
         rows: s.rows + 1,
         rules: s.rules,
-        bad: s.bad,
+        noted: s.noted,
     }
 }
 

@@ -68,16 +68,18 @@ listed =
     ("===", tok class.«==» 0 2 ∷ tok class.«=» 2 3 ∷ tok class.END 3 3 ∷ []) ∷
     ("!==", tok class.«!=» 0 2 ∷ tok class.«=» 2 3 ∷ tok class.END 3 3 ∷ []) ∷
     ("<>", tok class.«<» 0 1 ∷ tok class.«>» 1 2 ∷ tok class.END 2 2 ∷ []) ∷
-    -- upper and lower case differ; only the words of the grammar are reserved
+    -- upper and lower case differ; only the words of the grammar are reserved, and each is written out
     (
-      "NAME N STR HEAD FL GUID H8 varid key R1 true or NUMERIC_SIZE_1",
+      "NAME N STR HEAD FL GUID H8 varid key R1 true or NUMERIC_SIZE_3 _2",
       tok class.NAME 0 4 ∷ tok class.NAME 5 6 ∷ tok class.NAME 7 10 ∷ tok class.NAME 11 15 ∷ tok class.NAME 16 18 ∷
           tok class.NAME 19 23 ∷ tok class.NAME 24 26 ∷ tok class.NAME 27 32 ∷ tok class.NAME 33 36 ∷ tok class.NAME 37 39 ∷
-          tok class.NAME 40 44 ∷ tok class.NAME 45 47 ∷ tok class.NAME 48 62 ∷ tok class.END 62 62 ∷ [],
+          tok class.NAME 40 44 ∷ tok class.NAME 45 47 ∷ tok class.NAME 48 62 ∷ tok class.NAME 63 65 ∷
+          tok class.END 65 65 ∷ [],
     ) ∷ (
-      "TRUE endif DEFAULT text value name",
+      "TRUE endif DEFAULT text value name NUMERIC_SIZE_1 DISPLAY_UINT_DEC",
       tok class.«TRUE» 0 4 ∷ tok class.«endif» 5 10 ∷ tok class.«DEFAULT» 11 18 ∷ tok class.«text» 19 23 ∷
-          tok class.«value» 24 29 ∷ tok class.«name» 30 34 ∷ tok class.END 34 34 ∷ [],
+          tok class.«value» 24 29 ∷ tok class.«name» 30 34 ∷ tok class.«NUMERIC_SIZE_1» 35 49 ∷
+          tok class.«DISPLAY_UINT_DEC» 50 66 ∷ tok class.END 66 66 ∷ [],
     ) ∷
     []
 

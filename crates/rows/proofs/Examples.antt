@@ -1,9 +1,9 @@
--- Worked examples: two rows and one number over are lent, 25 numbers.
+-- Worked examples: two rows and one number over are lent, 27 numbers.
 use mathlib.Core.Path.{_≡_, refl}
 use mathlib.Core.List.{List, [], _∷_, flatten}
 use Prim.Native.Nat.{ℕ, _+_, _*_}
 use lib.ListN.{replicate}
-use Rattle.rows.specs.Columns.{ROW, CODE, PLACE}
+use Rattle.rows.specs.Columns.{ROW, CODE, SIZE}
 use Rattle.rows.specs.Table.{wholeRows, rowAt, withRow, cellAt, cleared}
 use Rattle.rows.specs.Rows.{put, laid}
 
@@ -17,7 +17,7 @@ two-rows : wholeRows lent ≡ 2
 two-rows = refl
 
 -- the last number of the second row, and the number over, which is no cell
-last-cell : cellAt lent 1 PLACE ≡ 7
+last-cell : cellAt lent 1 SIZE ≡ 7
 unfolding rowAt
 last-cell = refl
 

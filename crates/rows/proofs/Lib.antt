@@ -7,6 +7,7 @@ pub mod FlatLaws
 pub mod RunLaws
 pub mod LaidLaws
 pub mod MarkLaws
+pub mod SizeLaws
 pub mod ListedCodes
 mod CodeLaws
 mod Examples

@@ -60,12 +60,36 @@ pub fn spelling(class: u8) -> Spelling
         AND => Spelling(0x2044_4E41, 0, 0x2044_4E41, 4),
         // DEFAULT
         DEFAULT => Spelling(0x4146_4544, 0, 0x2054_4C55, 8),
+        // DISPLAY_INT_DEC
+        DISPLAY_INT_DEC => Spelling(0x5F59_414C_5053_4944, 0, 0x2043_4544_5F54_4E49, 16),
+        // DISPLAY_UINT_DEC
+        DISPLAY_UINT_DEC => Spelling(
+            0x5F59_414C_5053_4944,
+            0x4345_445F_544E_4955,
+            0x2043_4544_5F54_4E49,
+            17,
+        ),
+        // DISPLAY_UINT_HEX
+        DISPLAY_UINT_HEX => Spelling(
+            0x5F59_414C_5053_4944,
+            0x5845_485F_544E_4955,
+            0x2058_4548_5F54_4E49,
+            17,
+        ),
         // FALSE
         FALSE => Spelling(0x534C_4146, 0, 0x2045_534C, 6),
         // INTERACTIVE
         INTERACTIVE => Spelling(0x5443_4152_4554_4E49, 0, 0x2045_5649_5443_4152, 12),
         // NOT
         NOT => Spelling(0x2054_4F4E, 0, 0x2054_4F4E, 4),
+        // NUMERIC_SIZE_1
+        NUMERIC_SIZE_1 => Spelling(0x5F43_4952_454D_554E, 0, 0x2031_5F45_5A49_535F, 15),
+        // NUMERIC_SIZE_2
+        NUMERIC_SIZE_2 => Spelling(0x5F43_4952_454D_554E, 0, 0x2032_5F45_5A49_535F, 15),
+        // NUMERIC_SIZE_4
+        NUMERIC_SIZE_4 => Spelling(0x5F43_4952_454D_554E, 0, 0x2034_5F45_5A49_535F, 15),
+        // NUMERIC_SIZE_8
+        NUMERIC_SIZE_8 => Spelling(0x5F43_4952_454D_554E, 0, 0x2038_5F45_5A49_535F, 15),
         // ONE
         ONE => Spelling(0x2045_4E4F, 0, 0x2045_4E4F, 4),
         // ONES

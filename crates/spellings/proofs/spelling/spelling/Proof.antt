@@ -88,6 +88,13 @@ spelling-spec =
     (λ c. spells (c .match .keys69) refl refl)
     (λ c. spells (c .match .keys70) refl refl)
     (λ c. spells (c .match .keys71) refl refl)
+    (λ c. spells (c .match .keys72) refl refl)
+    (λ c. spells (c .match .keys73) refl refl)
+    (λ c. spells (c .match .keys74) refl refl)
+    (λ c. spells (c .match .keys75) refl refl)
+    (λ c. spells (c .match .keys76) refl refl)
+    (λ c. spells (c .match .keys77) refl refl)
+    (λ c. spells (c .match .keys78) refl refl)
     (λ c.
     let class = c .before .args .class in
     let last : class ≡ NAME - 1 = omega (arith, c .before .pre, past-all (Unit {0}) 0 (NAME - 1) class (c .match .rest) (λ u. omega arith)) in

@@ -9,6 +9,7 @@ use Prim.Native.Nat.{ℕ, zero, suc, _+_, _*_}
 use lib.Dec.{eqb}
 use Rattle.lexemes.specs.Classes.{open-brace, close-brace, open-paren, close-paren, comma, semicolon, «=», «|», «&», «==», «!=», «<», «<=», «>», «>=», «<<», «>>», «+» as plus, «-» as minus, «*» as asterisk, «/» as slash, «%» as percent}
 use Rattle.lexemes.specs.Classes.{«AND», «DEFAULT», «FALSE», «INTERACTIVE», «NOT», «ONE», «ONES», «OR», «READ_ONLY», «RESET_REQUIRED», «STRING_TOKEN», «TRUE», «UNDEFINED», «ZERO»}
+use Rattle.lexemes.specs.Classes.{«NUMERIC_SIZE_1», «NUMERIC_SIZE_2», «NUMERIC_SIZE_4», «NUMERIC_SIZE_8», «DISPLAY_INT_DEC», «DISPLAY_UINT_DEC», «DISPLAY_UINT_HEX»}
 use Rattle.lexemes.specs.Classes.{«checkbox», «default», «disableif», «endcheckbox», «endform», «endformset», «endif», «endnumeric», «endoneof», «endrule», «flags», «form», «formid», «formset», «goto», «grayoutif», «guid», «help», «label», «maximum», «minimum», «name», «numeric», «oneof», «option», «prompt», «questionid», «questionref», «rule», «ruleref», «step», «subtitle», «suppressif», «text», «title», «value»}
 use Rattle.lexemes.specs.Classes.{NAME, HEX, DECIMAL, BAD}
 use Rattle.ll1.specs.Trees.{Token, token, Trees, nil, leaf, node}
@@ -105,7 +106,9 @@ everything guid-end =
     ++ «checkbox» ∷ head ++ comma ∷ «flags» ∷ «=» ∷ «INTERACTIVE» ∷ comma ∷ «default» ∷ «=» ∷ «TRUE» ∷ comma ∷ «endcheckbox» ∷ semicolon ∷ []
     ++ «checkbox» ∷ head ++ comma ∷ «default» ∷ «=» ∷ «FALSE» ∷ comma ∷ «endcheckbox» ∷ semicolon ∷ «checkbox» ∷ head ++ comma ∷ «endcheckbox» ∷ semicolon ∷ []
     ++ «numeric» ∷ head ++ comma ∷ «minimum» ∷ «=» ∷ DECIMAL ∷ comma ∷ «maximum» ∷ «=» ∷ DECIMAL ∷ comma ∷ «endnumeric» ∷ semicolon ∷ []
-    ++ «numeric» ∷ head ++ comma ∷ «flags» ∷ «=» ∷ «READ_ONLY» ∷ «|» ∷ «INTERACTIVE» ∷ «|» ∷ «RESET_REQUIRED» ∷ comma
+    ++ «numeric» ∷ head ++ comma ∷ «flags» ∷ «=» ∷ «READ_ONLY» ∷ «|» ∷ «INTERACTIVE» ∷ «|» ∷ «RESET_REQUIRED» ∷ «|» ∷ «NUMERIC_SIZE_1»
+    ∷ «|» ∷ «NUMERIC_SIZE_2» ∷ «|» ∷ «NUMERIC_SIZE_4» ∷ «|» ∷ «NUMERIC_SIZE_8» ∷ «|» ∷ «DISPLAY_INT_DEC» ∷ «|» ∷ «DISPLAY_UINT_DEC»
+    ∷ «|» ∷ «DISPLAY_UINT_HEX» ∷ comma
     ∷ «minimum» ∷ «=» ∷ HEX ∷ comma ∷ «maximum» ∷ «=» ∷ DECIMAL ∷ comma
     ∷ «step» ∷ «=» ∷ DECIMAL ∷ comma ∷ «default» ∷ «=» ∷ DECIMAL ∷ comma ∷ «endnumeric» ∷ semicolon ∷ []
     ++ «oneof» ∷ head ++ comma ∷ «flags» ∷ «=» ∷ «READ_ONLY» ∷ comma ∷ «option» ∷ «text» ∷ «=» ∷ string ++ comma ∷ «value» ∷ «=» ∷ DECIMAL ∷ comma ∷ «flags» ∷ «=» ∷ DECIMAL ∷ semicolon

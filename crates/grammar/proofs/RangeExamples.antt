@@ -8,8 +8,10 @@ use Prim.Native.String.{String}
 use Rattle.lexemes.specs.Lexemes.{bytes}
 use Rattle.lexemes.specs.Words.{run}
 use Rattle.values.specs.Numbers.{valueFrom, numeral, valueAt, digitsAt}
-use Rattle.grammar.specs.Rules.{<id>, <small>, <large>, <numeric-value>, <zero>, <H8>, <H4>, <H2>}
+use Rattle.grammar.specs.Rules.{<id>, <small>, <large>, <zero>, <H8>, <H4>, <H2>}
+use Rattle.sizes.specs.Sizes.{fits, modulus}
 use Rattle.grammar.specs.Ranges.{rangeOf, keeps}
+use Rattle.grammar.specs.Ranges as Ranges
 
 -- a rule of the grammar, a number written in its place, and whether the number keeps to it
 pub record Written : Type 0 where
@@ -43,8 +45,6 @@ writings =
     ∷ "18446744073709551615" kept-in <large>
     ∷ "18446744073709551616" outside <large>
     ∷ "0x10000000000000000" outside <large>
-    ∷ "18446744073709551615" kept-in <numeric-value>
-    ∷ "18446744073709551616" outside <numeric-value>
     -- option flags
     ∷ "0x00" kept-in <zero>
     ∷ "16" outside <zero>
@@ -56,6 +56,24 @@ writings =
     ∷ "0xAB" kept-in <H2>
     ∷ "0x001" outside <H2>
     ∷ []
+
+-- a size, a number of a numeric of that size, and whether the number fits it (document 02, W-204; docs/DECISIONS.md, W204.27)
+unfoldable pub sized : List (ℕ × String × Bool)
+sized =
+    (1, "255", true)
+    ∷ (1, "256", false)
+    ∷ (1, "18446744073709551616", false)
+    ∷ (2, "0x0000000ffff", true)
+    ∷ (2, "65536", false)
+    ∷ (4, "4294967295", true)
+    ∷ (4, "4294967296", false)
+    ∷ (8, "18446744073709551615", true)
+    ∷ (8, "18446744073709551616", false)
+    ∷ []
+
+pub sizes-as-decided : map (λ w. keeps (bytes (w .1)) (Ranges.bytes (w .0)) 0) sized ≡ map (λ w. w .2) sized
+unfolding sized keeps fits modulus valueAt numeral valueFrom run
+sizes-as-decided = refl
 
 pub ranges-as-decided : map (λ w. keeps (bytes (w .number)) (rangeOf (w .rule)) 0) writings ≡ map (λ w. w .kept) writings
 unfolding writings keeps rangeOf valueAt digitsAt numeral valueFrom run

@@ -14,7 +14,7 @@ use Rattle.ll1.proofs.Ll1.{Ll1}
 use Rattle.ll1.proofs.Theorems as Ll1
 use Rattle.grammar.specs.Rules.{<flag>, <numeric-flag>}
 use Rattle.grammar.specs.Notation.{choice}
-use Rattle.grammar.specs.Flags.{flagWords}
+use Rattle.grammar.specs.Flags.{flagWords, numericWords, classesOf}
 use Rattle.grammar.specs.Grammar.{productions, rules}
 use Rattle.grammar.specs.Lookahead.{lookahead}
 use Rattle.grammar.specs.Derivation.{tooDeep, Derives, SourceSays}
@@ -34,8 +34,8 @@ pub productions-in-order : map (λ p. p .name) productions ≡ counted 58 0
 unfolding productions
 productions-in-order = refl
 
--- the words of FL are those that have a value, of a numeric's too
-pub flags-listed : (getD rules <flag> [] ≡ choice (map (λ w. w .class) flagWords)) × (getD rules <numeric-flag> [] ≡ choice (map (λ w. w .class) flagWords))
+-- the words of FL are those that have a value, and a numeric's are these and the sizes and displays
+pub flags-listed : (getD rules <flag> [] ≡ choice (classesOf flagWords)) × (getD rules <numeric-flag> [] ≡ choice (classesOf numericWords))
 unfolding rules productions
 flags-listed = (refl, refl)
 

@@ -21,16 +21,17 @@ use Rattle.answers.specs.Answer.{LONGEST, Answer, refuses, accepts, stag
 use Rattle.answers.specs.WholeAnswer.{Checked, refusal, derived, checked, readAnswer, rowsOf, readTable}
 use Rattle.answers.specs.Text.{resolvedText}
 use Rattle.answers.specs.Resolution.{textOfSource}
-use Rattle.answers.specs.Demand3.{Sound, Grammatical, Passes, PassesAll, to-4, to-5, to-6, to-7, to-8, to-9, to-10, to-11, to-12, to-14}
-use Rattle.answers.specs.Demand3.{Refuses, source-too-long, bad-token, no-text-starts-so, source-ends-early, opens-too-many, number-outside}
+use Rattle.answers.specs.Demand3.{Sound, Grammatical, Passes, PassesAll, to-4, to-16, to-5, to-6, to-7, to-8, to-9, to-10, to-11, to-12, to-14}
+use Rattle.answers.specs.Demand3.{Refuses, source-too-long, bad-token, no-text-starts-so, source-ends-early, opens-too-many, second-word, number-outside}
 use Rattle.answers.specs.Demand3.{more-rows, form-repeated, question-repeated, name-repeated, rule-over-limit, nothing-found, bad-choice, reaches-itself}
-use Rattle.answers.proofs.Checks.{listed, checked-1, checked-2, checked-parsed, checked-5, checked-derived, Decided, stopped, passed, decided}
+use Rattle.answers.proofs.Checks.{listed, checked-1, checked-2, checked-parsed, checked-16, checked-5, checked-derived, Decided, stopped, passed, decided}
 use Rattle.answers.proofs.Circles.{settled-free, circle-first, circle-listed}
 
 -- ---- what a source is that passes every stage, or the stages up to a number
 
 pub passes-grammatical : {s : List ℕ} {n : ℕ} {tree : Trees} {k : ℕ} → Passes s n tree k → Grammatical s tree
 passes-grammatical (to-4 g) = g
+passes-grammatical (to-16 p e) = passes-grammatical p
 passes-grammatical (to-5 p e) = passes-grammatical p
 passes-grammatical (to-6 p e) = passes-grammatical p
 passes-grammatical (to-7 p e) = passes-grammatical p
@@ -48,15 +49,16 @@ passes-room (to-14 (to-12 (to-11 (to-10 (to-9 (to-8 (to-7 (to-6 p h) e₇) e₈)
 -- it is sound, and a sound one passes where there is room
 pub sound-passes : {s : List ℕ} {n : ℕ} {tree : Trees} → Sound s tree → length s ≤ LONGEST → length (drafts s tree) ≤ n / ROW → PassesAll s n tree
 sound-passes d short room =
-    let with-rows = to-6 (to-5 (to-4 (record { short = short; derives = d .derives; depths = d .depths })) (d .ranges)) room in
+    let with-rows = to-6 (to-5 (to-16 (to-4 (record { short = short; derives = d .derives; depths = d .depths })) (d .words)) (d .ranges)) room in
     let with-choices = to-12 (to-11 (to-10 (to-9 (to-8 (to-7 with-rows (d .forms)) (d .questions)) (d .names)) (d .limit)) (d .references)) (d .choices) in
     to-14 with-choices (d .circles)
 
 pub passes-sound : {s : List ℕ} {n : ℕ} {tree : Trees} → PassesAll s n tree → Sound s tree
-passes-sound (to-14 (to-12 (to-11 (to-10 (to-9 (to-8 (to-7 (to-6 (to-5 (to-4 g) e₅) h) e₇) e₈) e₉) e₁₀) e₁₁) e₁₂) e₁₄) =
+passes-sound (to-14 (to-12 (to-11 (to-10 (to-9 (to-8 (to-7 (to-6 (to-5 (to-16 (to-4 g) e₁₆) e₅) h) e₇) e₈) e₉) e₁₀) e₁₁) e₁₂) e₁₄) =
     record {
       derives = g .derives;
       depths = g .depths;
+      words = e₁₆;
       ranges = e₅;
       forms = e₇;
       questions = e₈;
@@ -69,7 +71,7 @@ passes-sound (to-14 (to-12 (to-11 (to-10 (to-9 (to-8 (to-7 (to-6 (to-5 (to-4 g) 
 
 -- the stages that a source alone decides find its derivation
 pub passes-derived : {s : List ℕ} {n : ℕ} {tree : Trees} → PassesAll s n tree → checked s ≡ derived tree
-passes-derived {s} {n} {tree} p = checked-derived s tree (passes-grammatical p) (passes-sound p .ranges)
+passes-derived {s} {n} {tree} p = checked-derived s tree (passes-grammatical p) (passes-sound p .words) (passes-sound p .ranges)
 
 -- its rows and its text are those of the derivation
 pub passes-rows : {s : List ℕ} {n : ℕ} {tree : Trees} → PassesAll s n tree → rowsOf s ≡ finished s (drafts s tree)
@@ -110,7 +112,7 @@ module _ (s : List ℕ) (n : ℕ) (tree : Trees) where
 
   pub past-5 : Passes s n tree 5 → readAnswer s n ≡ answerOf s ds (n / ROW)
   unfolding readAnswer
-  past-5 (to-5 (to-4 g) e) = rw (checked-derived s tree g e, readAnswer)
+  past-5 (to-5 (to-16 (to-4 g) w) e) = rw (checked-derived s tree g w e, readAnswer)
 
   past-6 : Passes s n tree 6 → readAnswer s n ≡ from-7 s ds
   unfolding answerOf
@@ -158,7 +160,8 @@ module _ (s : List ℕ) (n : ℕ) where
   refused-answer (no-text-starts-so {p = p} h e w) = refusal-answer 3 p (checked-parsed s (refused 3 p) h e w)
   refused-answer (source-ends-early h e w) = refusal-answer 3 (length s) (checked-parsed s ends-early h e w)
   refused-answer (opens-too-many {p = p} h e w) = refusal-answer 4 p (checked-parsed s (refused 4 p) h e w)
-  refused-answer (number-outside {tree = tree} {p = p} {ps = ps} (to-4 g) e) = refusal-answer 5 p (checked-5 s tree p ps g e)
+  refused-answer (second-word {tree = tree} {p = p} {ps = ps} (to-4 g) e) = refusal-answer 16 p (checked-16 s tree p ps g e)
+  refused-answer (number-outside {tree = tree} {p = p} {ps = ps} (to-16 (to-4 g) w) e) = refusal-answer 5 p (checked-5 s tree p ps g w e)
   refused-answer (more-rows {tree = tree} p h) = past-5 s n tree p ∙ rw (lt-ltb (n / ROW) (length (drafts s tree)) h, answerOf)
   refused-answer (form-repeated {tree = tree} p e) = past-6 s n tree p ∙ rw e
   refused-answer (question-repeated {tree = tree} p e) = past-7 s n tree p ∙ rw e
@@ -175,6 +178,7 @@ refused-number (bad-token h e) z = omega arith
 refused-number (no-text-starts-so h e w) z = omega arith
 refused-number (source-ends-early h e w) z = omega arith
 refused-number (opens-too-many h e w) z = omega arith
+refused-number (second-word p e) z = omega arith
 refused-number (number-outside p e) z = omega arith
 refused-number (more-rows p h) z = omega arith
 refused-number (form-repeated p e) z = omega arith
@@ -225,5 +229,5 @@ module _ (s : List ℕ) (n : ℕ) where
   answer-right = by (decided s)
     where
       by : {c : Checked} → Decided s c → Right s n (readAnswer s n)
-      by (stopped k p h r) = by-refusal (r n)
-      by (passed {tree = tree} g e) = with-derivation tree (to-5 (to-4 g) e)
+      by (stopped k p h b r) = by-refusal (r n)
+      by (passed {tree = tree} g w e) = with-derivation tree (to-5 (to-16 (to-4 g) w) e)

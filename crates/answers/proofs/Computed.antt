@@ -22,7 +22,8 @@ use Rattle.grammar.specs.Reading.{verdictFrom, derivation}
 use Rattle.grammar.specs.Source.{grammarTokens, sourceTokens, numberAt}
 use Rattle.answers.specs.Expression.{expression}
 use Rattle.answers.specs.Rows.{Draft}
-use Rattle.grammar.specs.Ranges.{ranges, rangeOf, keeps, outOfRange}
+use Rattle.sizes.specs.Sizes as sizes
+use Rattle.grammar.specs.Ranges.{ranges, rangeOf, keeps, gathered, outOfRangeHere, outOfRange, secondsHere, secondWords}
 use Rattle.answers.specs.Stages.{any, faultsAfter, repeatedForms, repeatedQuestions, repeatedNames, rulesOverLimit, formFrom, formRound, unfound, below, badChoices, ownNumbers, withNumbers, numberedRows, ownOfFirst, withReferences, settled, finished, onCircle, circularReferences}
 use Rattle.answers.specs.Answer.{Answer, answerOf, drafts}
 use Rattle.answers.specs.WholeAnswer.{refusal, derived, checked, readAnswer, rowsOf}
@@ -36,7 +37,7 @@ pub record Outcome : Type 0 where
 
 -- reading the source into n numbers
 unfoldable pub outcomeIn : ℕ → List ℕ → Outcome
-unfolding signs reserved run all same placeAmong isGap inComment gap isHex wordClass wordToken signClass signToken tokenFrom tokenAfterGap tokensWithin tokensFrom tokens badAmong firstBad sameWord valueFrom numeral valueAt digitsAt picked freeFrom fill numbered mem member questions isQuestion machine.run parser.derivation productions rules lookahead verdictFrom derivation grammarTokens sourceTokens numberAt expression ranges rangeOf keeps outOfRange any faultsAfter repeatedForms repeatedQuestions repeatedNames rulesOverLimit formFrom formRound unfound below badChoices ownNumbers withNumbers numberedRows ownOfFirst withReferences settled finished leads closure circular ruleRound stepIn stepsAmong greatest onCircle circularReferences checked answerOf drafts readAnswer rowsOf
+unfolding signs reserved run all same placeAmong isGap inComment gap isHex wordClass wordToken signClass signToken tokenFrom tokenAfterGap tokensWithin tokensFrom tokens badAmong firstBad sameWord valueFrom numeral valueAt digitsAt picked freeFrom fill numbered mem member questions isQuestion machine.run parser.derivation productions rules lookahead verdictFrom derivation grammarTokens sourceTokens numberAt expression ranges rangeOf keeps gathered outOfRangeHere outOfRange secondsHere secondWords sizes.modulus sizes.fits any faultsAfter repeatedForms repeatedQuestions repeatedNames rulesOverLimit formFrom formRound unfound sizes.width sizes.half sizes.low sizes.minus sizes.amount sizes.signedBelow sizes.below below badChoices ownNumbers withNumbers numberedRows ownOfFirst withReferences settled finished leads closure circular ruleRound stepIn stepsAmong greatest onCircle circularReferences checked answerOf drafts readAnswer rowsOf
 outcomeIn n s =
     let a = readAnswer s n in
     record { answer = a; rows = cond (eqb (a .number) 0) (rowsOf s) [] }
@@ -47,17 +48,17 @@ outcome s = outcomeIn (10 * ROW) s
 
 -- the rows alone
 unfoldable pub rowsRead : List ℕ → List (List ℕ)
-unfolding signs reserved run all same placeAmong isGap inComment gap isHex wordClass wordToken signClass signToken tokenFrom tokenAfterGap tokensWithin tokensFrom tokens badAmong firstBad sameWord valueFrom numeral valueAt digitsAt picked freeFrom fill numbered mem member questions isQuestion machine.run parser.derivation productions rules lookahead verdictFrom derivation grammarTokens sourceTokens numberAt expression ranges rangeOf keeps outOfRange any faultsAfter repeatedForms repeatedQuestions repeatedNames rulesOverLimit formFrom formRound unfound below badChoices ownNumbers withNumbers numberedRows ownOfFirst withReferences settled finished leads closure circular ruleRound stepIn stepsAmong greatest onCircle circularReferences checked answerOf drafts readAnswer rowsOf
+unfolding signs reserved run all same placeAmong isGap inComment gap isHex wordClass wordToken signClass signToken tokenFrom tokenAfterGap tokensWithin tokensFrom tokens badAmong firstBad sameWord valueFrom numeral valueAt digitsAt picked freeFrom fill numbered mem member questions isQuestion machine.run parser.derivation productions rules lookahead verdictFrom derivation grammarTokens sourceTokens numberAt expression ranges rangeOf keeps gathered outOfRangeHere outOfRange secondsHere secondWords sizes.modulus sizes.fits any faultsAfter repeatedForms repeatedQuestions repeatedNames rulesOverLimit formFrom formRound unfound sizes.width sizes.half sizes.low sizes.minus sizes.amount sizes.signedBelow sizes.below below badChoices ownNumbers withNumbers numberedRows ownOfFirst withReferences settled finished leads closure circular ruleRound stepIn stepsAmong greatest onCircle circularReferences checked answerOf drafts readAnswer rowsOf
 rowsRead s = rowsOf s
 
--- the rows before any stage; of a source that stage 1 to 5 refuses, none
+-- the rows before any stage; of a source that stage 1 to 5 or 16 refuses, none
 unfoldable pub draftsRead : List ℕ → List Draft
-unfolding signs reserved run all same placeAmong isGap inComment gap isHex wordClass wordToken signClass signToken tokenFrom tokenAfterGap tokensWithin tokensFrom tokens badAmong firstBad sameWord valueFrom numeral valueAt digitsAt picked freeFrom fill numbered mem member questions isQuestion machine.run parser.derivation productions rules lookahead verdictFrom derivation grammarTokens sourceTokens numberAt expression ranges rangeOf keeps outOfRange drafts checked
+unfolding signs reserved run all same placeAmong isGap inComment gap isHex wordClass wordToken signClass signToken tokenFrom tokenAfterGap tokensWithin tokensFrom tokens badAmong firstBad sameWord valueFrom numeral valueAt digitsAt picked freeFrom fill numbered mem member questions isQuestion machine.run parser.derivation productions rules lookahead verdictFrom derivation grammarTokens sourceTokens numberAt expression ranges rangeOf keeps gathered outOfRangeHere outOfRange secondsHere secondWords sizes.modulus sizes.fits drafts checked
 draftsRead s = elim (checked s) [ refusal k p ↦ [] | derived f ↦ drafts s f ]
 
 -- what refusal 11 names; of a source that an earlier stage refuses, the place 0
 unfoldable pub unfoundRead : List ℕ → List ℕ
-unfolding signs reserved run all same placeAmong isGap inComment gap isHex wordClass wordToken signClass signToken tokenFrom tokenAfterGap tokensWithin tokensFrom tokens badAmong firstBad sameWord valueFrom numeral valueAt digitsAt picked freeFrom fill numbered mem member questions isQuestion machine.run parser.derivation productions rules lookahead verdictFrom derivation grammarTokens sourceTokens numberAt expression ranges rangeOf keeps outOfRange any faultsAfter repeatedForms repeatedQuestions repeatedNames rulesOverLimit formFrom formRound unfound below badChoices ownNumbers withNumbers numberedRows ownOfFirst withReferences settled finished leads closure circular ruleRound stepIn stepsAmong greatest onCircle circularReferences checked answerOf drafts readAnswer rowsOf
+unfolding signs reserved run all same placeAmong isGap inComment gap isHex wordClass wordToken signClass signToken tokenFrom tokenAfterGap tokensWithin tokensFrom tokens badAmong firstBad sameWord valueFrom numeral valueAt digitsAt picked freeFrom fill numbered mem member questions isQuestion machine.run parser.derivation productions rules lookahead verdictFrom derivation grammarTokens sourceTokens numberAt expression ranges rangeOf keeps gathered outOfRangeHere outOfRange secondsHere secondWords sizes.modulus sizes.fits any faultsAfter repeatedForms repeatedQuestions repeatedNames rulesOverLimit formFrom formRound unfound sizes.width sizes.half sizes.low sizes.minus sizes.amount sizes.signedBelow sizes.below below badChoices ownNumbers withNumbers numberedRows ownOfFirst withReferences settled finished leads closure circular ruleRound stepIn stepsAmong greatest onCircle circularReferences checked answerOf drafts readAnswer rowsOf
 unfoundRead s = elim (checked s) [ refusal k p ↦ 0 ∷ [] | derived f ↦ unfound s (drafts s f) ]
 
 -- what resolving it through n numbers into m bytes answers, and its text
@@ -66,10 +67,10 @@ pub record Resolved : Type 0 where
   pub text : List ℕ
 
 unfoldable pub resolvedIn : ℕ → ℕ → List ℕ → Resolved
-unfolding signs reserved lexemes run all same placeAmong isGap inComment gap isHex wordClass wordToken signClass signToken tokenFrom tokenAfterGap tokensWithin tokensFrom tokens badAmong firstBad sameWord valueFrom numeral valueAt digitsAt picked freeFrom fill numbered mem member questions isQuestion machine.run parser.derivation productions rules lookahead verdictFrom derivation grammarTokens sourceTokens numberAt expression ranges rangeOf keeps outOfRange any faultsAfter repeatedForms repeatedQuestions repeatedNames rulesOverLimit formFrom formRound unfound below badChoices ownNumbers withNumbers numberedRows ownOfFirst withReferences settled finished leads closure circular ruleRound stepIn stepsAmong greatest onCircle circularReferences checked answerOf drafts readAnswer rowsOf decimalDigits hexDigits textOf rowFirstAt resolvedText textOfSource resolution
+unfolding signs reserved lexemes run all same placeAmong isGap inComment gap isHex wordClass wordToken signClass signToken tokenFrom tokenAfterGap tokensWithin tokensFrom tokens badAmong firstBad sameWord valueFrom numeral valueAt digitsAt picked freeFrom fill numbered mem member questions isQuestion machine.run parser.derivation productions rules lookahead verdictFrom derivation grammarTokens sourceTokens numberAt expression ranges rangeOf keeps gathered outOfRangeHere outOfRange secondsHere secondWords sizes.modulus sizes.fits any faultsAfter repeatedForms repeatedQuestions repeatedNames rulesOverLimit formFrom formRound unfound sizes.width sizes.half sizes.low sizes.minus sizes.amount sizes.signedBelow sizes.below below badChoices ownNumbers withNumbers numberedRows ownOfFirst withReferences settled finished leads closure circular ruleRound stepIn stepsAmong greatest onCircle circularReferences checked answerOf drafts readAnswer rowsOf decimalDigits hexDigits textOf rowFirstAt resolvedText textOfSource resolution
 resolvedIn n m s = record { answer = resolution s n m; text = textOfSource s }
 
 -- the text alone
 unfoldable pub textRead : List ℕ → List ℕ
-unfolding signs reserved lexemes run all same placeAmong isGap inComment gap isHex wordClass wordToken signClass signToken tokenFrom tokenAfterGap tokensWithin tokensFrom tokens badAmong firstBad sameWord valueFrom numeral valueAt digitsAt picked freeFrom fill numbered mem member questions isQuestion machine.run parser.derivation productions rules lookahead verdictFrom derivation grammarTokens sourceTokens numberAt expression ranges rangeOf keeps outOfRange any faultsAfter repeatedForms repeatedQuestions repeatedNames rulesOverLimit formFrom formRound unfound below badChoices ownNumbers withNumbers numberedRows ownOfFirst withReferences settled finished leads closure circular ruleRound stepIn stepsAmong greatest onCircle circularReferences checked answerOf drafts readAnswer rowsOf decimalDigits hexDigits textOf rowFirstAt resolvedText textOfSource
+unfolding signs reserved lexemes run all same placeAmong isGap inComment gap isHex wordClass wordToken signClass signToken tokenFrom tokenAfterGap tokensWithin tokensFrom tokens badAmong firstBad sameWord valueFrom numeral valueAt digitsAt picked freeFrom fill numbered mem member questions isQuestion machine.run parser.derivation productions rules lookahead verdictFrom derivation grammarTokens sourceTokens numberAt expression ranges rangeOf keeps gathered outOfRangeHere outOfRange secondsHere secondWords sizes.modulus sizes.fits any faultsAfter repeatedForms repeatedQuestions repeatedNames rulesOverLimit formFrom formRound unfound sizes.width sizes.half sizes.low sizes.minus sizes.amount sizes.signedBelow sizes.below below badChoices ownNumbers withNumbers numberedRows ownOfFirst withReferences settled finished leads closure circular ruleRound stepIn stepsAmong greatest onCircle circularReferences checked answerOf drafts readAnswer rowsOf decimalDigits hexDigits textOf rowFirstAt resolvedText textOfSource
 textRead s = textOfSource s

@@ -24,8 +24,8 @@ opening = "formset guid={0x1,0x2,0x3,{0x4,0x5,0x6,0x7,0x8,0x9,0xA,0xB}},title=ST
 
 abbrev frame : List (List ℕ)
 frame =
-    (0x0E ∷ 0 ∷ 0 ∷ 2 ∷ 3 ∷ 0 ∷ 4295098371 ∷ 289644378304612875 ∷ 0 ∷ 0 ∷ 0 ∷ 0 ∷ [])
-    ∷ (0x01 ∷ 0 ∷ 1 ∷ 4 ∷ 0 ∷ 0 ∷ 0 ∷ 0 ∷ 0 ∷ 0 ∷ 0 ∷ 104 ∷ [])
+    (0x0E ∷ 0 ∷ 0 ∷ 2 ∷ 3 ∷ 0 ∷ 4295098371 ∷ 289644378304612875 ∷ 0 ∷ 0 ∷ 0 ∷ 0 ∷ 0 ∷ [])
+    ∷ (0x01 ∷ 0 ∷ 1 ∷ 4 ∷ 0 ∷ 0 ∷ 0 ∷ 0 ∷ 0 ∷ 0 ∷ 0 ∷ 104 ∷ 0 ∷ [])
     ∷ []
 
 abbrev pub framed-bytes : List ℕ → List ℕ
@@ -115,6 +115,48 @@ pub stray-as-decided : map (λ x. outcome (x .source) .answer) strayCases ≡ ma
 unfolding strayCases outcomeIn
 stray-as-decided = refl
 
+-- ---- sizes and displays (document 02, W-204)
+
+-- a numeric with these flags and limits, from place 140 on; its first flag word stands at 214, its numbers after `minimum=` and so on
+abbrev numeric : String → String → List ℕ
+numeric f l = bytes "numeric prompt=STRING_TOKEN(5),help=STRING_TOKEN(6),flags=" ++ (bytes f ++ (bytes "," ++ (bytes l ++ bytes ",endnumeric;")))
+
+unfoldable pub sizedCases : List Refused
+sizedCases =
+    -- W204.24: the second word of its sort; with both sorts repeated, the earlier of the two seconds
+    framed-bytes (numeric "NUMERIC_SIZE_1|DISPLAY_INT_DEC|DISPLAY_UINT_HEX|NUMERIC_SIZE_1" "minimum=0,maximum=1")
+    gives refuses 16 229
+    -- W204.25: 16 comes before a 5 that stands earlier, and after a 3 that stands later
+    ∷ framed-bytes (bytes "label 65536;" ++ numeric "NUMERIC_SIZE_1|NUMERIC_SIZE_1" "minimum=0,maximum=1")
+    gives refuses 16 225
+    ∷ framed-bytes (numeric "NUMERIC_SIZE_1|NUMERIC_SIZE_1" "minimum=0,maximum=1" ++ bytes "label;")
+    gives refuses 3 264
+    -- W204.22: the words join no other question's flags
+    ∷ framed "checkbox prompt=STRING_TOKEN(5),help=STRING_TOKEN(6),flags=NUMERIC_SIZE_1,endcheckbox;"
+    gives refuses 3 199
+    -- W204.27: the earliest number that does not fit, one over 2^64 - 1 among them
+    ∷ framed-bytes (numeric "NUMERIC_SIZE_1" "minimum=300,maximum=18446744073709551616")
+    gives refuses 5 221
+    ∷ framed-bytes (numeric "NUMERIC_SIZE_1" "minimum=0,maximum=18446744073709551616,step=256")
+    gives refuses 5 231
+    ∷ framed-bytes (numeric "NUMERIC_SIZE_1" "minimum=0,maximum=256" ++ bytes "label 65536;")
+    gives refuses 5 231
+    ∷ framed-bytes (bytes "label 65536;" ++ numeric "NUMERIC_SIZE_1" "minimum=0,maximum=256")
+    gives refuses 5 146
+    -- W204.28: the signed order
+    ∷ framed-bytes (numeric "NUMERIC_SIZE_1|DISPLAY_INT_DEC" "minimum=251,maximum=5,default=250")
+    gives refuses 12 259
+    -- W204.29: each absent by itself
+    ∷ framed-bytes (numeric "DISPLAY_INT_DEC" "minimum=251,maximum=5")
+    gives refuses 12 234
+    ∷ framed-bytes (numeric "NUMERIC_SIZE_1" "minimum=251,maximum=5")
+    gives refuses 12 233
+    ∷ []
+
+pub sized-as-decided : map (λ x. outcome (x .source) .answer) sizedCases ≡ map (λ x. x .answer) sizedCases
+unfolding sizedCases outcomeIn
+sized-as-decided = refl
+
 -- ---- sources that are accepted, and their rows
 
 infix 68 _has_
@@ -125,28 +167,35 @@ unfoldable pub acceptedCases : List Accepted
 acceptedCases =
     -- D37: a question and a rule may share a name
     framed "rule A,1 endrule;checkbox name=A,prompt=STRING_TOKEN(5),help=STRING_TOKEN(6),endcheckbox;"
-    has ((24 ∷ 1 ∷ 1 ∷ 0 ∷ 0 ∷ 0 ∷ 0 ∷ 0 ∷ 0 ∷ 0 ∷ 146 ∷ 140 ∷ []) ∷ (69 ∷ 2 ∷ 0 ∷ 0 ∷ 0 ∷ 0 ∷ 1 ∷ 0 ∷ 0 ∷ 0 ∷ 0 ∷ 147 ∷ []) ∷ (6 ∷ 1 ∷ 1 ∷ 5 ∷ 6 ∷ 0 ∷ 0 ∷ 0 ∷ 0 ∷ 0 ∷ 172 ∷ 157 ∷ []) ∷ [])
+    has ((24 ∷ 1 ∷ 1 ∷ 0 ∷ 0 ∷ 0 ∷ 0 ∷ 0 ∷ 0 ∷ 0 ∷ 146 ∷ 140 ∷ 0 ∷ []) ∷ (69 ∷ 2 ∷ 0 ∷ 0 ∷ 0 ∷ 0 ∷ 1 ∷ 0 ∷ 0 ∷ 0 ∷ 0 ∷ 147 ∷ 0 ∷ []) ∷ (6 ∷ 1 ∷ 1 ∷ 5 ∷ 6 ∷ 0 ∷ 0 ∷ 0 ∷ 0 ∷ 0 ∷ 172 ∷ 157 ∷ 0 ∷ []) ∷ [])
     -- D40: by name a questionref finds a question whose number is given automatically
     ∷ framed "checkbox name=B,prompt=STRING_TOKEN(5),help=STRING_TOKEN(6),endcheckbox;rule A,questionref(B) endrule;"
-    has ((6 ∷ 1 ∷ 1 ∷ 5 ∷ 6 ∷ 0 ∷ 0 ∷ 0 ∷ 0 ∷ 0 ∷ 155 ∷ 140 ∷ []) ∷ (24 ∷ 1 ∷ 1 ∷ 0 ∷ 0 ∷ 0 ∷ 0 ∷ 0 ∷ 0 ∷ 0 ∷ 218 ∷ 212 ∷ []) ∷ (64 ∷ 3 ∷ 0 ∷ 0 ∷ 0 ∷ 0 ∷ 1 ∷ 0 ∷ 0 ∷ 0 ∷ 0 ∷ 219 ∷ []) ∷ [])
+    has ((6 ∷ 1 ∷ 1 ∷ 5 ∷ 6 ∷ 0 ∷ 0 ∷ 0 ∷ 0 ∷ 0 ∷ 155 ∷ 140 ∷ 0 ∷ []) ∷ (24 ∷ 1 ∷ 1 ∷ 0 ∷ 0 ∷ 0 ∷ 0 ∷ 0 ∷ 0 ∷ 0 ∷ 218 ∷ 212 ∷ 0 ∷ []) ∷ (64 ∷ 3 ∷ 0 ∷ 0 ∷ 0 ∷ 0 ∷ 1 ∷ 0 ∷ 0 ∷ 0 ∷ 0 ∷ 219 ∷ 0 ∷ []) ∷ [])
     -- D39: a rule may refer to a later one
     ∷ framed "rule A,ruleref(B) endrule;rule B,1 endrule;"
-    has ((24 ∷ 1 ∷ 1 ∷ 0 ∷ 0 ∷ 0 ∷ 0 ∷ 0 ∷ 0 ∷ 0 ∷ 146 ∷ 140 ∷ []) ∷ (63 ∷ 2 ∷ 0 ∷ 0 ∷ 0 ∷ 0 ∷ 2 ∷ 0 ∷ 0 ∷ 0 ∷ 0 ∷ 147 ∷ []) ∷ (24 ∷ 1 ∷ 2 ∷ 0 ∷ 0 ∷ 0 ∷ 0 ∷ 0 ∷ 0 ∷ 0 ∷ 172 ∷ 166 ∷ []) ∷ (69 ∷ 4 ∷ 0 ∷ 0 ∷ 0 ∷ 0 ∷ 1 ∷ 0 ∷ 0 ∷ 0 ∷ 0 ∷ 173 ∷ []) ∷ [])
+    has ((24 ∷ 1 ∷ 1 ∷ 0 ∷ 0 ∷ 0 ∷ 0 ∷ 0 ∷ 0 ∷ 0 ∷ 146 ∷ 140 ∷ 0 ∷ []) ∷ (63 ∷ 2 ∷ 0 ∷ 0 ∷ 0 ∷ 0 ∷ 2 ∷ 0 ∷ 0 ∷ 0 ∷ 0 ∷ 147 ∷ 0 ∷ []) ∷ (24 ∷ 1 ∷ 2 ∷ 0 ∷ 0 ∷ 0 ∷ 0 ∷ 0 ∷ 0 ∷ 0 ∷ 172 ∷ 166 ∷ 0 ∷ []) ∷ (69 ∷ 4 ∷ 0 ∷ 0 ∷ 0 ∷ 0 ∷ 1 ∷ 0 ∷ 0 ∷ 0 ∷ 0 ∷ 173 ∷ 0 ∷ []) ∷ [])
     -- D45: two unnumbered questions, one that writes 1, one unnumbered: 2, 3, 1, 4
     ∷ framed "checkbox prompt=STRING_TOKEN(5),help=STRING_TOKEN(6),endcheckbox;goto 1,prompt=STRING_TOKEN(5),help=STRING_TOKEN(6);checkbox questionid=1,prompt=STRING_TOKEN(5),help=STRING_TOKEN(6),endcheckbox;checkbox prompt=STRING_TOKEN(5),help=STRING_TOKEN(6),endcheckbox;"
-    has ((6 ∷ 1 ∷ 2 ∷ 5 ∷ 6 ∷ 0 ∷ 0 ∷ 0 ∷ 0 ∷ 0 ∷ 0 ∷ 140 ∷ []) ∷ (15 ∷ 1 ∷ 3 ∷ 5 ∷ 6 ∷ 0 ∷ 1 ∷ 0 ∷ 0 ∷ 0 ∷ 0 ∷ 205 ∷ []) ∷ (6 ∷ 1 ∷ 1 ∷ 5 ∷ 6 ∷ 0 ∷ 0 ∷ 0 ∷ 0 ∷ 0 ∷ 0 ∷ 256 ∷ []) ∷ (6 ∷ 1 ∷ 4 ∷ 5 ∷ 6 ∷ 0 ∷ 0 ∷ 0 ∷ 0 ∷ 0 ∷ 0 ∷ 334 ∷ []) ∷ [])
+    has ((6 ∷ 1 ∷ 2 ∷ 5 ∷ 6 ∷ 0 ∷ 0 ∷ 0 ∷ 0 ∷ 0 ∷ 0 ∷ 140 ∷ 0 ∷ []) ∷ (15 ∷ 1 ∷ 3 ∷ 5 ∷ 6 ∷ 0 ∷ 1 ∷ 0 ∷ 0 ∷ 0 ∷ 0 ∷ 205 ∷ 0 ∷ []) ∷ (6 ∷ 1 ∷ 1 ∷ 5 ∷ 6 ∷ 0 ∷ 0 ∷ 0 ∷ 0 ∷ 0 ∷ 0 ∷ 256 ∷ 0 ∷ []) ∷ (6 ∷ 1 ∷ 4 ∷ 5 ∷ 6 ∷ 0 ∷ 0 ∷ 0 ∷ 0 ∷ 0 ∷ 0 ∷ 334 ∷ 0 ∷ []) ∷ [])
     -- D48: places of operators and operands
     ∷ framed "rule A,(1)+NOT 2 endrule;"
-    has ((24 ∷ 1 ∷ 1 ∷ 0 ∷ 0 ∷ 0 ∷ 0 ∷ 0 ∷ 0 ∷ 0 ∷ 146 ∷ 140 ∷ []) ∷ (69 ∷ 2 ∷ 0 ∷ 0 ∷ 0 ∷ 0 ∷ 1 ∷ 0 ∷ 0 ∷ 0 ∷ 0 ∷ 148 ∷ []) ∷ (69 ∷ 2 ∷ 0 ∷ 0 ∷ 0 ∷ 0 ∷ 2 ∷ 0 ∷ 0 ∷ 0 ∷ 0 ∷ 155 ∷ []) ∷ (23 ∷ 2 ∷ 0 ∷ 0 ∷ 0 ∷ 0 ∷ 0 ∷ 0 ∷ 0 ∷ 0 ∷ 0 ∷ 151 ∷ []) ∷ (58 ∷ 2 ∷ 0 ∷ 0 ∷ 0 ∷ 0 ∷ 0 ∷ 0 ∷ 0 ∷ 0 ∷ 0 ∷ 150 ∷ []) ∷ [])
+    has ((24 ∷ 1 ∷ 1 ∷ 0 ∷ 0 ∷ 0 ∷ 0 ∷ 0 ∷ 0 ∷ 0 ∷ 146 ∷ 140 ∷ 0 ∷ []) ∷ (69 ∷ 2 ∷ 0 ∷ 0 ∷ 0 ∷ 0 ∷ 1 ∷ 0 ∷ 0 ∷ 0 ∷ 0 ∷ 148 ∷ 0 ∷ []) ∷ (69 ∷ 2 ∷ 0 ∷ 0 ∷ 0 ∷ 0 ∷ 2 ∷ 0 ∷ 0 ∷ 0 ∷ 0 ∷ 155 ∷ 0 ∷ []) ∷ (23 ∷ 2 ∷ 0 ∷ 0 ∷ 0 ∷ 0 ∷ 0 ∷ 0 ∷ 0 ∷ 0 ∷ 0 ∷ 151 ∷ 0 ∷ []) ∷ (58 ∷ 2 ∷ 0 ∷ 0 ∷ 0 ∷ 0 ∷ 0 ∷ 0 ∷ 0 ∷ 0 ∷ 0 ∷ 150 ∷ 0 ∷ []) ∷ [])
     -- D50, D63: flags
     ∷ framed "checkbox prompt=STRING_TOKEN(5),help=STRING_TOKEN(6),flags=RESET_REQUIRED|READ_ONLY|READ_ONLY,default=FALSE,endcheckbox;"
-    has ((6 ∷ 1 ∷ 1 ∷ 5 ∷ 6 ∷ 273 ∷ 0 ∷ 0 ∷ 0 ∷ 0 ∷ 0 ∷ 140 ∷ []) ∷ [])
+    has ((6 ∷ 1 ∷ 1 ∷ 5 ∷ 6 ∷ 273 ∷ 0 ∷ 0 ∷ 0 ∷ 0 ∷ 0 ∷ 140 ∷ 0 ∷ []) ∷ [])
     -- D51: text then help, though the source has help first; D52: options
     ∷ framed "text help=STRING_TOKEN(7),text=STRING_TOKEN(8);oneof prompt=STRING_TOKEN(5),help=STRING_TOKEN(6),option text=STRING_TOKEN(7),value=8,flags=DEFAULT;endoneof;"
-    has ((3 ∷ 1 ∷ 0 ∷ 8 ∷ 7 ∷ 0 ∷ 0 ∷ 0 ∷ 0 ∷ 0 ∷ 0 ∷ 140 ∷ []) ∷ (5 ∷ 1 ∷ 1 ∷ 5 ∷ 6 ∷ 0 ∷ 0 ∷ 0 ∷ 0 ∷ 0 ∷ 0 ∷ 187 ∷ []) ∷ (9 ∷ 3 ∷ 0 ∷ 7 ∷ 0 ∷ 16 ∷ 8 ∷ 0 ∷ 0 ∷ 0 ∷ 0 ∷ 237 ∷ []) ∷ [])
+    has ((3 ∷ 1 ∷ 0 ∷ 8 ∷ 7 ∷ 0 ∷ 0 ∷ 0 ∷ 0 ∷ 0 ∷ 0 ∷ 140 ∷ 0 ∷ []) ∷ (5 ∷ 1 ∷ 1 ∷ 5 ∷ 6 ∷ 0 ∷ 0 ∷ 0 ∷ 0 ∷ 0 ∷ 0 ∷ 187 ∷ 0 ∷ []) ∷ (9 ∷ 3 ∷ 0 ∷ 7 ∷ 0 ∷ 16 ∷ 8 ∷ 0 ∷ 0 ∷ 0 ∷ 0 ∷ 237 ∷ 0 ∷ []) ∷ [])
     -- a numeric with all its parts, in a condition
     ∷ framed "disableif TRUE;numeric name=N,questionid=9,prompt=STRING_TOKEN(5),help=STRING_TOKEN(6),flags=INTERACTIVE,minimum=1,maximum=0xFF,step=2,default=3,endnumeric;subtitle text=STRING_TOKEN(9);endif;"
-    has ((30 ∷ 1 ∷ 0 ∷ 0 ∷ 0 ∷ 0 ∷ 0 ∷ 0 ∷ 0 ∷ 0 ∷ 0 ∷ 140 ∷ []) ∷ (70 ∷ 2 ∷ 0 ∷ 0 ∷ 0 ∷ 0 ∷ 0 ∷ 0 ∷ 0 ∷ 0 ∷ 0 ∷ 150 ∷ []) ∷ (7 ∷ 2 ∷ 9 ∷ 5 ∷ 6 ∷ 260 ∷ 1 ∷ 255 ∷ 2 ∷ 3 ∷ 169 ∷ 155 ∷ []) ∷ (2 ∷ 2 ∷ 0 ∷ 9 ∷ 0 ∷ 0 ∷ 0 ∷ 0 ∷ 0 ∷ 0 ∷ 0 ∷ 296 ∷ []) ∷ [])
+    has ((30 ∷ 1 ∷ 0 ∷ 0 ∷ 0 ∷ 0 ∷ 0 ∷ 0 ∷ 0 ∷ 0 ∷ 0 ∷ 140 ∷ 0 ∷ []) ∷ (70 ∷ 2 ∷ 0 ∷ 0 ∷ 0 ∷ 0 ∷ 0 ∷ 0 ∷ 0 ∷ 0 ∷ 0 ∷ 150 ∷ 0 ∷ []) ∷ (7 ∷ 2 ∷ 9 ∷ 5 ∷ 6 ∷ 260 ∷ 1 ∷ 255 ∷ 2 ∷ 3 ∷ 169 ∷ 155 ∷ 33 ∷ []) ∷ (2 ∷ 2 ∷ 0 ∷ 9 ∷ 0 ∷ 0 ∷ 0 ∷ 0 ∷ 0 ∷ 0 ∷ 0 ∷ 296 ∷ 0 ∷ []) ∷ [])
+    -- W204.30, W204.31: numbers as they are written, size times 4 plus display; a repeated flag adds nothing
+    ∷ framed-bytes (numeric "NUMERIC_SIZE_1|DISPLAY_INT_DEC" "minimum=251,maximum=5,default=255")
+    has ((7 ∷ 1 ∷ 1 ∷ 5 ∷ 6 ∷ 256 ∷ 251 ∷ 5 ∷ 0 ∷ 255 ∷ 0 ∷ 140 ∷ 4 ∷ []) ∷ [])
+    ∷ framed-bytes (numeric "NUMERIC_SIZE_1|DISPLAY_UINT_HEX|READ_ONLY|READ_ONLY" "minimum=0,maximum=1")
+    has ((7 ∷ 1 ∷ 1 ∷ 5 ∷ 6 ∷ 1 ∷ 0 ∷ 1 ∷ 0 ∷ 0 ∷ 0 ∷ 140 ∷ 6 ∷ []) ∷ [])
+    ∷ framed-bytes (numeric "DISPLAY_INT_DEC" "minimum=18446744073709551611,maximum=5")
+    has ((7 ∷ 1 ∷ 1 ∷ 5 ∷ 6 ∷ 0 ∷ 18446744073709551611 ∷ 5 ∷ 0 ∷ 0 ∷ 0 ∷ 140 ∷ 32 ∷ []) ∷ [])
     ∷ []
 
 pub accepted-as-decided : map (λ x. rowsRead (x .source)) acceptedCases ≡ map (λ x. x .rows) acceptedCases

@@ -4,7 +4,7 @@ use Prim.Native.Nat.{ℕ, _+_, _-_, _*_, _/_, _^_, _≤_, _<_}
 use native.Mathlib.Omega.{arith}
 use mathlib.Core.Path.{_≡_, sym, ap, _∙_}
 use mathlib.Core.List.{List, flatten}
-use mathlib.Core.Logic.{_⊎_, _↔_, _≢_}
+use mathlib.Core.Logic.{_↔_, _≢_}
 use lib.ListN.{length, drop, replicate}
 use lib.Seq.{drop-at}
 use Rattle.lex.specs.declared.Found.the-variants.{At}
@@ -21,7 +21,7 @@ use Rattle.grammar.specs.Source.{sourceTokens, numberAt}
 use Rattle.answers.specs.Stages.{ownNumbers, finished}
 use Rattle.answers.specs.Answer.{LONGEST, Answer, refuses, accepts, drafts}
 use Rattle.answers.specs.WholeAnswer.{quickCheck, readAnswer, rowsOf, readTable}
-use Rattle.answers.specs.Demand3.{Sound, PassesAll, Refuses, questionNumbers, GetsSmallest}
+use Rattle.answers.specs.Demand3.{Sound, Early, PassesAll, Refuses, questionNumbers, GetsSmallest}
 use Rattle.grammar.proofs.Theorems.{one-derivation}
 use Rattle.grammar.proofs.SourceTokens.{tokens-few}
 use Rattle.answers.proofs.RowCount as RowCount
@@ -60,7 +60,8 @@ module _ (s : List ℕ) where
       found (refusing r) e = absurd (refused-number r e)
 
   -- whatever table is lent, reading accepts exactly when the source is no longer than 65,536 bytes, has a derivation whose depths, ranges, 255-rule
-  -- limit, uniqueness, reference and choice rules hold and of whose rules none reaches itself (W-202), and its rows are no more than the whole rows lent
+  -- limit, uniqueness, reference and choice rules hold, of whose rules none reaches itself (W-202) and of whose numerics none has a second size or
+  -- display word (W-204), and its rows are no more than the whole rows lent
   pub accepts-with-room : (n : ℕ) → (readAnswer s n .number ≡ 0) ↔ ((tree : Trees) × Sound s tree × (length s ≤ LONGEST) × (length (drafts s tree) ≤ n / ROW))
   accepts-with-room n =
       let w = accepts-passing n in (
@@ -76,7 +77,7 @@ module _ (s : List ℕ) where
 
   -- ---- refusals
 
-  -- reading refuses with an answer exactly when a line of document 01's table, with W-202's 14, says so, and with that answer only
+  -- reading refuses with an answer exactly when a line of document 01's table, with W-202's 14 and W-204's 16, says so, and with that answer only
   pub refuses-exactly : (n : ℕ) (a : Answer) → Refuses s n a ↔ ((readAnswer s n ≡ a) × (a .number ≢ 0))
   refuses-exactly n a = (λ r. (refused-answer s n r, refused-number r), λ w. found (answer-right s n) (w .0) (w .1))
     where
@@ -84,12 +85,12 @@ module _ (s : List ℕ) where
       found (accepting p) e h = absurd (h (ap (λ c. c .number) (sym e)))
       found (refusing r) e h = rw e at r
 
-  -- the quick check is "refusal number times 2^32 plus place" exactly where reading refuses with one of 1 to 5, whatever table is lent
-  pub quick-check-refuses : (k p : ℕ) → 1 ≤ k → k ≤ 5 → p < 2 ^ 32 → (quickCheck s ≡ k * 2 ^ 32 + p) ↔ ((n : ℕ) → readAnswer s n ≡ refuses k p)
+  -- the quick check is "refusal number times 2^32 plus place" exactly where reading refuses with one of 1 to 5 or 16, whatever table is lent
+  pub quick-check-refuses : (k p : ℕ) → Early k → p < 2 ^ 32 → (quickCheck s ≡ k * 2 ^ 32 + p) ↔ ((n : ℕ) → readAnswer s n ≡ refuses k p)
   quick-check-refuses = QuickCheck.refusals-agree s
 
   -- and 0 where it does not
-  pub quick-check-passes : (quickCheck s ≡ 0) ↔ ((n : ℕ) → (readAnswer s n .number ≡ 0) ⊎ (6 ≤ readAnswer s n .number))
+  pub quick-check-passes : (quickCheck s ≡ 0) ↔ ((n : ℕ) → Early (readAnswer s n .number) → ⊥)
   quick-check-passes = QuickCheck.passes-agree s
 
   -- ---- the rows and numbers of a derivation

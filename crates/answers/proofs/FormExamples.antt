@@ -18,13 +18,13 @@ apart = two-forms "rule A,1 endrule;" "suppressif ruleref(A);endif;"
 -- the form set; form 1 in row 1, with rule A in row 2; form 2 in row 4, with a condition in row 5 and its ruleref in row 6
 abbrev drafts : List Draft
 drafts =
-    withoutMarks (0x0E ∷ 0 ∷ 0 ∷ 2 ∷ 3 ∷ 0 ∷ 4295098371 ∷ 289644378304612875 ∷ 0 ∷ 0 ∷ 0 ∷ 0 ∷ [])
-    ∷ record { row = 0x01 ∷ 0 ∷ 1 ∷ 4 ∷ 0 ∷ 0 ∷ 0 ∷ 0 ∷ 0 ∷ 0 ∷ 0 ∷ 104 ∷ []; ownAt = 117; limitAt = 0; defaultAt = 0 }
-    ∷ withoutMarks (0x18 ∷ 1 ∷ 1 ∷ 0 ∷ 0 ∷ 0 ∷ 0 ∷ 0 ∷ 0 ∷ 0 ∷ 146 ∷ 140 ∷ [])
-    ∷ withoutMarks (0x45 ∷ 2 ∷ 0 ∷ 0 ∷ 0 ∷ 0 ∷ 1 ∷ 0 ∷ 0 ∷ 0 ∷ 0 ∷ 147 ∷ [])
-    ∷ record { row = 0x01 ∷ 0 ∷ 2 ∷ 4 ∷ 0 ∷ 0 ∷ 0 ∷ 0 ∷ 0 ∷ 0 ∷ 0 ∷ 165 ∷ []; ownAt = 178; limitAt = 0; defaultAt = 0 }
-    ∷ withoutMarks (0x0A ∷ 4 ∷ 0 ∷ 0 ∷ 0 ∷ 0 ∷ 0 ∷ 0 ∷ 0 ∷ 0 ∷ 0 ∷ 201 ∷ [])
-    ∷ record { row = 0x3F ∷ 5 ∷ 0 ∷ 0 ∷ 0 ∷ 0 ∷ 0 ∷ 0 ∷ 0 ∷ 0 ∷ 0 ∷ 212 ∷ []; ownAt = 221; limitAt = 0; defaultAt = 0 }
+    withoutMarks (0x0E ∷ 0 ∷ 0 ∷ 2 ∷ 3 ∷ 0 ∷ 4295098371 ∷ 289644378304612875 ∷ 0 ∷ 0 ∷ 0 ∷ 0 ∷ 0 ∷ [])
+    ∷ record { row = 0x01 ∷ 0 ∷ 1 ∷ 4 ∷ 0 ∷ 0 ∷ 0 ∷ 0 ∷ 0 ∷ 0 ∷ 0 ∷ 104 ∷ 0 ∷ []; ownAt = 117; limitAt = 0; defaultAt = 0 }
+    ∷ withoutMarks (0x18 ∷ 1 ∷ 1 ∷ 0 ∷ 0 ∷ 0 ∷ 0 ∷ 0 ∷ 0 ∷ 0 ∷ 146 ∷ 140 ∷ 0 ∷ [])
+    ∷ withoutMarks (0x45 ∷ 2 ∷ 0 ∷ 0 ∷ 0 ∷ 0 ∷ 1 ∷ 0 ∷ 0 ∷ 0 ∷ 0 ∷ 147 ∷ 0 ∷ [])
+    ∷ record { row = 0x01 ∷ 0 ∷ 2 ∷ 4 ∷ 0 ∷ 0 ∷ 0 ∷ 0 ∷ 0 ∷ 0 ∷ 0 ∷ 165 ∷ 0 ∷ []; ownAt = 178; limitAt = 0; defaultAt = 0 }
+    ∷ withoutMarks (0x0A ∷ 4 ∷ 0 ∷ 0 ∷ 0 ∷ 0 ∷ 0 ∷ 0 ∷ 0 ∷ 0 ∷ 0 ∷ 201 ∷ 0 ∷ [])
+    ∷ record { row = 0x3F ∷ 5 ∷ 0 ∷ 0 ∷ 0 ∷ 0 ∷ 0 ∷ 0 ∷ 0 ∷ 0 ∷ 0 ∷ 212 ∷ 0 ∷ []; ownAt = 221; limitAt = 0; defaultAt = 0 }
     ∷ []
 
 drafts-are : draftsRead apart ≡ drafts

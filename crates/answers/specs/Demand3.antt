@@ -3,7 +3,7 @@
 use Prim.Native.Nat.{ℕ, zero, suc, _/_, _≤_, _<_}
 use mathlib.Core.Path.{_≡_}
 use mathlib.Core.Bool.{true, false, not, cond, _&&_}
-use mathlib.Core.Logic.{_≢_}
+use mathlib.Core.Logic.{_≢_, _⊎_}
 use mathlib.Core.List.{List, [], _∷_}
 use lib.Dec.{ltb}
 use lib.ListN.{length, getD, take}
@@ -69,6 +69,10 @@ pub data Passes (s : List ℕ) (n : ℕ) (tree : Trees) : ℕ → Type 0 where
   to-11 : Passes s n tree 10 → unfound s (drafts s tree) ≡ [] → Passes s n tree 11
   to-12 : Passes s n tree 11 → badChoices (drafts s tree) ≡ [] → Passes s n tree 12
   to-14 : Passes s n tree 12 → NoCircle (ruleSteps (finished s (drafts s tree))) → Passes s n tree 14
+
+-- the stages of the quick check: "over stages 1 to 5 alone", and 16, "in the quick check too" (W-204)
+abbrev pub Early : ℕ → Type 0
+Early k = ((1 ≤ k) × (k ≤ 5)) ⊎ (k ≡ 16)
 
 -- no stage refuses them
 abbrev pub PassesAll : List ℕ → ℕ → Trees → Type 0

@@ -111,12 +111,12 @@ pub record Asked (value : ℕ → ℕ) (h : Trees) : Type 0 where
   pub name : nameMark value h ≤ suc LONGEST
 
 pub question-other :
-    (value : ℕ → ℕ) (k parent : ℕ) (h : Trees) (flags a b c d place numberLimit default : ℕ)
+    (value : ℕ → ℕ) (k parent : ℕ) (h : Trees) (flags a b c d size place numberLimit default : ℕ)
     → isQuestion k ≡ true → Asked value h → flags < HALF → place ≤ LONGEST → numberLimit ≤ suc LONGEST → default ≤ suc LONGEST
     → (eqb k code.GOTO || eqb k code.NUMERIC ≡ true → 0 < numberLimit)
-    → Other (question value k parent place h (column.FLAGS ≔ flags ∷ column.A ≔ a ∷ column.B ≔ b ∷ column.C ≔ c ∷ column.D ≔ d ∷ []) numberLimit default)
+    → Other (question value k parent place h (column.FLAGS ≔ flags ∷ column.A ≔ a ∷ column.B ≔ b ∷ column.C ≔ c ∷ column.D ≔ d ∷ column.SIZE ≔ size ∷ []) numberLimit default)
 unfolding isQuestion questions member
-question-other value k parent h flags a b c d place numberLimit default q asked f p l m limited =
+question-other value k parent h flags a b c d size place numberLimit default q asked f p l m limited =
     let not-form = apart isQuestion k code.FORM q refl in
     let not-option = apart isQuestion k code.OPTION q refl in
     let not-question-ref = apart isQuestion k code.QUESTION-REF q refl in

@@ -82,17 +82,17 @@ module _ (s : List ℕ) where
       bare code.TEXT parent 0 _ _ 0 0 0 0 _ refl (string-range s t 7 refl) (string-range s t 3 refl) (place-at s t 0)
   item-other parent (suc (suc zero)) t = bare code.LABEL parent _ 0 0 0 0 0 0 _ refl (omega arith) (omega arith) (place-at s t 0)
   item-other {c} parent (suc (suc (suc zero))) t =
-      question-other number-at code.GOTO parent (child 3 c) _ _ 0 0 0 _ _ 0 refl (head-asked (part s t 3 <head> refl))
+      question-other number-at code.GOTO parent (child 3 c) _ _ 0 0 0 0 _ _ 0 refl (head-asked (part s t 3 <head> refl))
       (omega (arith, flags-le (child 4 c))) (place-at s t 0) (mark-at s t 1) (omega arith) (λ e. omega arith)
   item-other {c} parent (suc (suc (suc (suc zero)))) t =
-      question-other number-at code.CHECKBOX parent (child 1 c) _ 0 0 0 _ _ 0 0 refl (head-asked (part s t 1 <head> refl))
+      question-other number-at code.CHECKBOX parent (child 1 c) _ 0 0 0 _ 0 _ 0 0 refl (head-asked (part s t 1 <head> refl))
       (flags-small (eqb (chosen 4 c) 1) (child 3 c)) (place-at s t 0) (omega arith) (omega arith) never
   item-other {c} parent (suc (suc (suc (suc (suc zero))))) t =
-      question-other number-at code.NUMERIC parent (child 1 c) _ _ _ _ _ _ _ _ refl (head-asked (part s t 1 <head> refl))
+      question-other number-at code.NUMERIC parent (child 1 c) _ _ _ _ _ _ _ _ _ refl (head-asked (part s t 1 <head> refl))
       (flags-small (eqb (chosen 13 c) 1) (child 3 c)) (place-at s t 0) (mark-at s t 10)
       (when-le (eqb (chosen 13 c) 1) _ _ (mark-at s (part s t 13 <number-default>? refl) 2)) (λ e. omega arith)
   item-other {c} parent (suc (suc (suc (suc (suc (suc zero)))))) t =
-      question-other number-at code.ONE-OF parent (child 1 c) _ 0 0 0 0 _ 0 0 refl (head-asked (part s t 1 <head> refl))
+      question-other number-at code.ONE-OF parent (child 1 c) _ 0 0 0 0 0 _ 0 0 refl (head-asked (part s t 1 <head> refl))
       (omega (arith, flags-le (child 3 c))) (place-at s t 0) (omega arith) (omega arith) never
   item-other parent (suc (suc (suc (suc (suc (suc (suc zero))))))) t =
       bare code.SUPPRESS-IF parent 0 0 0 0 0 0 0 _ refl (omega arith) (omega arith) (place-at s t 0)

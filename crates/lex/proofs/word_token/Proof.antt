@@ -47,11 +47,15 @@ returns c = known-token (c .before .before .before .before .before .before .args
 returns-2 : tie.Need-returns-2 Inv-loop μ-loop
 unfolding reserved
 returns-2 c =
-    let s = c .before .before .before .before .before .before .before .args .src .now in
+    let start = c .before .before .before .before .before .before .before in
+    let s = start .args .src .now in
+    let at = start .args .at in
+    let end = c .before .before .before .before .loop .end in
     let is-end = c .before .before .before .before .loop .inv .1 (c .if2 .taken) in
-    let w = word (drop (c .before .before .before .before .before .before .before .args .at) s) in
-    let is-class = c .before .before .class-of .ensures ∙ ap (λ w. SIGNS + placeAmong w reserved) (word-part s (c .before .before .before .before .before .before .before .args .at) (c .before .before .before .before .loop .end) is-end) in
-    name-token s (c .before .before .before .before .before .before .before .args .at) (c .before .before .before .before .before .before .before .pre .1) (c .before .before .before .before .before .before .before .pre .2) NAME (c .before .before .before .before .loop .end) (omega (arith, is-class, place-le w reserved, c .before .if1 .left)) is-end
+    let w = word (drop at s) in
+    let is-class = c .before .before .class-of .ensures ∙ ap (λ w. SIGNS + placeAmong w reserved) (word-part s at end is-end) in
+    let is-name : NAME ≡ SIGNS + placeAmong w reserved = omega (arith, is-class, place-le w reserved, c .before .if1 .left) in
+    name-token s at (start .pre .1) (start .pre .2) NAME end is-name is-end
 
 add-word-end : tie.Need-add-word-end Inv-loop μ-loop
 add-word-end c = search needs

@@ -58,7 +58,7 @@ limit-like p e = clean-like _ (λ before′ before d′ d b l h. like-fault (mar
 -- the rows compare numbers alike
 below-like : {d′ d : Draft} → Like d′ d → (x y : ℕ) → below d′ x y ≡ below d x y
 unfolding below
-below-like l x y = refl
+below-like l x y = rw (l .size-same)
 
 numeric-like : {d′ d : Draft} → Like d′ d → is code.NUMERIC d ≡ true → numericFaults d ≡ [] → numericFaults d′ ≡ []
 numeric-like {d′} {d} l e h =

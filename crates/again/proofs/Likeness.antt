@@ -48,6 +48,7 @@ pub record Like (d′ d : Draft) : Type 0 where
   pub a-same : is code.QUESTION-REF d || is code.RULE-REF d ≡ false → cell column.A d′ ≡ cell column.A d
   pub b-same : cell column.B d′ ≡ cell column.B d
   pub d-same : cell column.D d′ ≡ cell column.D d
+  pub size-same : cell column.SIZE d′ ≡ cell column.SIZE d
   pub default-same : ltb 0 (d′ .defaultAt) ≡ ltb 0 (d .defaultAt)
 
 -- ---- a finished row
@@ -89,6 +90,7 @@ like t look {d′} {d} m v =
       a-same = λ r. same-number t look m (rw (m .code-same) (or-no (is code.QUESTION-REF d) (is code.RULE-REF d) r .1)) ∙ a-cell look v ∙ v .a-same r;
       b-same = same-cell t look m column.B refl (λ e. omega arith) ∙ draft-cell look v column.B (λ e. omega arith) (λ e. omega arith);
       d-same = same-cell t look m column.D refl (λ e. omega arith) ∙ draft-cell look v column.D (λ e. omega arith) (λ e. omega arith);
+      size-same = same-cell t look m column.SIZE refl (λ e. omega arith) ∙ draft-cell look v column.SIZE (λ e. omega arith) (λ e. omega arith);
       default-same = m .default;
     }
 

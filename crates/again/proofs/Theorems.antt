@@ -16,7 +16,7 @@ use Rattle.rows.specs.Cells.{withoutPlaces}
 use Rattle.ll1.specs.Trees.{Trees}
 use Rattle.grammar.specs.Derivation.{Derives, NowhereTooDeep}
 use Rattle.grammar.specs.Source.{sourceTokens}
-use Rattle.grammar.specs.Ranges.{outOfRange}
+use Rattle.grammar.specs.Ranges.{outOfRange, secondWords}
 use Rattle.answers.specs.Rows.{Draft, rulesIn}
 use Rattle.answers.specs.Stages.{cell, is, repeatedForms, repeatedQuestions, repeatedNames, rulesOverLimit, unfound, badChoices, ownNumbers, finished}
 use Rattle.answers.specs.Answer.{LONGEST, drafts}
@@ -132,12 +132,13 @@ module _ (s : List ℕ) (tree : Trees) (sound : Sound s tree) (short : length s 
 
   -- where its rows match the source's, the text is sound too
   pub sound-again :
-      (t : List ℕ) (tree′ : Trees) → length t ≤ LONGEST → Derives (sourceTokens t) tree′ → NowhereTooDeep tree′ → outOfRange t tree′ ≡ []
-      → Pairs (Match t look) (drafts t tree′) ds → Sound t tree′
-  sound-again t tree′ short′ derives depths ranges matches =
+      (t : List ℕ) (tree′ : Trees) → length t ≤ LONGEST → Derives (sourceTokens t) tree′ → NowhereTooDeep tree′ → secondWords tree′ ≡ []
+      → outOfRange t tree′ ≡ [] → Pairs (Match t look) (drafts t tree′) ds → Sound t tree′
+  sound-again t tree′ short′ derives depths words ranges matches =
       record {
         derives = derives;
         depths = depths;
+        words = words;
         ranges = ranges;
         forms = forms-again t matches;
         questions = questions-again t matches;

@@ -113,7 +113,7 @@ module _ (s : List ℕ) where
   offered (kept-leaf q k) h p at n = offered k h p at n
   offered (kept-node {A = A} {i = i} {a = a} {c = c} e r k₁ k₂) h p at n =
       let t = both (not (member A others)) _ h in
-      let this : Node s A i c = record { alternative = a; is = e; range = r; under = k₁ } in
+      let this : Node s A i c = record { alternative = a; is = e; none-out = r; under = k₁ } in
       let under : eqb A <option>* ≡ true → Offered c = λ q. offered k₁ (only-options A i a e (rw q)) in
       all-append (offered-within A i c p at n this (t .0) under) (offered k₂ (t .1) p _ _)
 
@@ -172,7 +172,7 @@ module _ (s : List ℕ) where
   stands (kept-leaf p k) h parent at n l = stands k h parent at n l
   stands (kept-node {A = A} {i = i} {a = a} {c = c} e r k₁ k₂) h parent at n l =
       let t = both (not (member A offering)) _ h in
-      let this : Node s A i c = record { alternative = a; is = e; range = r; under = k₁ } in
+      let this : Node s A i c = record { alternative = a; is = e; none-out = r; under = k₁ } in
       let under : not (isOneOf A i) ≡ true → Standing c = λ q. stands k₁ (no-options A i a e (rw (t .0, q))) in
       let first = within-stands A i c parent at n this (t .0) under (λ q. l) (omega arith) in
       stands-append at (within A i c parent at n) _ first (stands k₂ (t .1) parent _ _ (omega arith))
@@ -181,7 +181,7 @@ module _ (s : List ℕ) where
 
   derivation-stands : {f : Trees} → Kept s (nonterminal <source> ∷ []) f → Stands 0 (rows f 0 0 0)
   derivation-stands (kept-node {i = i} {a = a} {c = c} e r k kept-nil) =
-      let this : Node s <source> i c = record { alternative = a; is = e; range = r; under = k } in
+      let this : Node s <source> i c = record { alternative = a; is = e; none-out = r; under = k } in
       let under : Standing c = stands k (no-options <source> i a e refl) in
       let first = within-stands <source> i c 0 0 0 this refl (λ q. under) (λ q. clash cc) (omega arith) in
       stands-append 0 (within <source> i c 0 0 0) [] first (stands-none _)

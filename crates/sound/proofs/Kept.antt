@@ -148,6 +148,20 @@ module _ (s : List ℕ) where
   unfolding rules
   string-range t n h = small-range (part t n <str> h) 2 refl
 
+  -- a list of places none of whose numbers is out of a range, in two parts
+  out-append : (range : Range) (ps qs : List ℕ) → outOf s range (ps ++ qs) ≡ [] → (outOf s range ps ≡ []) × (outOf s range qs ≡ [])
+  out-append range [] qs e = (refl, e)
+  out-append range (p ∷ ps) qs e =
+      let f = append-empty (cond (keeps s range p) [] (p ∷ [])) (outOf s range (ps ++ qs)) e in
+      let g = out-append range ps qs (f .1) in
+      (rw (f .0, g .0), g .1)
+
+  -- a part in square brackets that is written
+  written-keeps :
+      (range : Range) (part number : ℕ) (c : Trees)
+      → written part c ≡ true → outOf s range (writtenPlace part number c) ≡ [] → keeps s range (placeAt 0 (child number (child part c))) ≡ true
+  written-keeps range part number c e h = first-keeps range (placeAt 0 (child number (child part c))) [] (rw e at h) .0
+
   -- "Minimum, maximum, step and default must fit the size" (document 02, W-204)
   pub record Sized (c : Trees) : Type 0 where
     pub minimum : value (numberAt s) numeric·minimum c < modulus (sizeIn (child numeric·flags c))
@@ -163,24 +177,12 @@ module _ (s : List ℕ) where
       let step-at = writtenPlace numeric·step step·value c in
       let default-at = writtenPlace numeric·default default·value c in
       let all : outOf s (bytes w) (sizedPlaces c) ≡ [] = append-empty (outOf s (rangeOf <item>) (placeAt 0 c ∷ [])) _ (t .none-out) .1 in
-      let first = first-keeps (bytes w) (placeAt 0 (child numeric·minimum c)) _ all in
+      let first = first-keeps (bytes w) (placeAt 0 (child numeric·minimum c)) (placeAt 0 (child numeric·maximum c) ∷ (step-at ++ default-at)) all in
       let second = first-keeps (bytes w) (placeAt 0 (child numeric·maximum c)) (step-at ++ default-at) (first .1) in
-      let others = out-append step-at default-at (second .1) in
+      let others = out-append (bytes w) step-at default-at (second .1) in
       record {
         minimum = fit (placeAt 0 (child numeric·minimum c)) (first .0);
         maximum = fit (placeAt 0 (child numeric·maximum c)) (second .0);
-        step = λ e. fit _ (written-keeps numeric·step step·value c e (others .0));
-        default = λ e. fit _ (written-keeps numeric·default default·value c e (others .1));
+        step = λ e. fit (placeAt 0 (child step·value (child numeric·step c))) (written-keeps (bytes w) numeric·step step·value c e (others .0));
+        default = λ e. fit (placeAt 0 (child default·value (child numeric·default c))) (written-keeps (bytes w) numeric·default default·value c e (others .1));
       }
-    where
-      out-append : {range : Range} (ps qs : List ℕ) → outOf s range (ps ++ qs) ≡ [] → (outOf s range ps ≡ []) × (outOf s range qs ≡ [])
-      out-append [] qs e = (refl, e)
-      out-append {range} (p ∷ ps) qs e =
-          let f = append-empty (cond (keeps s range p) [] (p ∷ [])) (outOf s range (ps ++ qs)) e in
-          let g = out-append ps qs (f .1) in
-          (rw (f .0, g .0), g .1)
-
-      written-keeps :
-          {range : Range} (part number : ℕ) (c : Trees)
-          → written part c ≡ true → outOf s range (writtenPlace part number c) ≡ [] → keeps s range (placeAt 0 (child number (child part c))) ≡ true
-      written-keeps {range} part number c e h = first-keeps range (placeAt 0 (child number (child part c))) [] (rw e at h) .0

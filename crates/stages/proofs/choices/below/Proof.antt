@@ -1,5 +1,8 @@
 -- `stages::choices::below` meets its contract.
-use mathlib.Core.Path.{refl}
+use borrow.Author.Needs.{needs}
+use mathlib.Core.Path.{refl, _∙_}
+use Rattle.rows.specs.Columns as column
+use Rattle.drafts.proofs.DraftLaws.{cell-read}
 use Rattle.answers.specs.Stages.{below}
 use Rattle.stages.proofs.choices.below.Statement.{statement}
 use Rattle.stages.proofs.choices.below.Tie as tie
@@ -15,7 +18,7 @@ unfolding below
 returns c =
     let t = c .before .before .before .args .table .now in
     let i = c .before .before .before .args .row in
-    c .below .ensures ∙ rw (cell-read t i column.SIZE refl (c .before .before .cell .ensures))
+    c .below .ensures ∙ rw (cell-read t i column.SIZE refl (c .before .cell .ensures))
 
 pub below-spec : {M : Type 1} → statement M
-below-spec = tie.close (tie.spec returns)
+below-spec = tie.close (tie.spec cell-requires below-requires returns)

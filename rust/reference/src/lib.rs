@@ -28,14 +28,19 @@ pub const LONGEST: usize = 65_536;
 pub const QUICK_REFUSALS: &[u64] = &[1, 2, 3, 4, SECOND_WORD_REFUSAL, RANGE_REFUSAL];
 
 /// The refusals that reading gives, in the order of checking.
-pub const READ_REFUSALS: &[u64] =
-    &[1, 2, 3, 4, SECOND_WORD_REFUSAL, RANGE_REFUSAL, 6, 7, 8, 9, 10, LOST_REFUSAL, CHOICE_REFUSAL, CIRCLE_REFUSAL];
+#[rustfmt::skip]
+pub const READ_REFUSALS: &[u64] = &[
+    1, 2, 3, 4, SECOND_WORD_REFUSAL, RANGE_REFUSAL, TABLE_REFUSAL, 7, 8, 9, 10, LOST_REFUSAL, CHOICE_REFUSAL, CIRCLE_REFUSAL,
+];
 
 /// The refusal of a second size or display in one numeric.
 pub const SECOND_WORD_REFUSAL: u64 = 16;
 
 /// The refusal of a number outside its range, or over the size of its numeric.
 pub const RANGE_REFUSAL: u64 = 5;
+
+/// The refusal of a table that is too short.
+pub const TABLE_REFUSAL: u64 = 6;
 
 /// The refusal of a reference that finds nothing, or a rule of another form alone.
 pub const LOST_REFUSAL: u64 = 11;
@@ -54,7 +59,7 @@ pub const ANSWERS_REFUSAL: u64 = 15;
 pub const BYTES_REFUSAL: u64 = 30;
 
 /// The refusals whose place is always 0 or not in the source, so that they have no line and column.
-pub const PLACELESS_REFUSALS: &[u64] = &[1, 6, TEXT_REFUSAL, ANSWERS_REFUSAL, BYTES_REFUSAL];
+pub const PLACELESS_REFUSALS: &[u64] = &[1, TABLE_REFUSAL, TEXT_REFUSAL, ANSWERS_REFUSAL, BYTES_REFUSAL];
 
 /// A refusal's number and place, the place's line and column, and the need that 6 (rows) and 13 (bytes) tell.
 #[derive(Clone, Copy, PartialEq, Eq, Debug)]
@@ -138,7 +143,7 @@ fn read_in_order(source: &[u8], rows_lent: usize) -> Result<Reading, Refusal> {
     let mut record = record::Record::new();
     parser::parse(source, &mut record)?;
     if record.rows.len() > rows_lent {
-        return Err(Refusal::short(6, record.rows.len()));
+        return Err(Refusal::short(TABLE_REFUSAL, record.rows.len()));
     }
     record.check()?;
     let free = record.finish();

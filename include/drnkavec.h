@@ -45,7 +45,7 @@ enum {
     VFR_BAD_TOKEN = 2,          /* place: its first byte */
     VFR_NOT_GRAMMAR = 3,        /* place: the token, or the source length where the source ends early */
     VFR_TOO_DEEP = 4,           /* place: the token that opens a depth too many */
-    VFR_FORMAT_REPEATED = 16,   /* a second size or display in one numeric, even the same; place: that word */
+    VFR_SECOND_WORD = 16,       /* a second size or display in one numeric, even the same; place: that word */
     VFR_OUT_OF_RANGE = 5,       /* also a minimum, maximum, step or default over the size of its numeric; place: the
                                    number */
     VFR_TABLE_SHORT = 6,        /* place 0; the row count is the need */
@@ -82,7 +82,8 @@ enum {
     VFR_COL_D = 9,
     VFR_COL_NAME = 10,   /* place plus one of the name that a question or rule declares, or 0 */
     VFR_COL_PLACE = 11,  /* of the first token; of an operator, the operator */
-    VFR_COL_FORMAT = 12, /* of a numeric: VFR_SIZE_UNIT times its size in bytes, plus its display; 0 for other rows */
+    VFR_COL_SIZE = 12,   /* size and display of a numeric: VFR_SIZE_UNIT times the bytes, plus the display, see below; 0
+                            for other rows */
     VFR_COLUMNS = 13
 };
 
@@ -142,8 +143,8 @@ enum {
     VFR_DEFAULT_WRITTEN = 256    /* of a checkbox or numeric that writes `default` */
 };
 
-/* What VFR_COL_FORMAT is made of. The size is 1, 2, 4 or 8 bytes, and none of a numeric's four numbers is over the
- * largest unsigned number of its size. An absent size is 8 and an absent display VFR_DISPLAY_UINT_DEC, so that a numeric
+/* What VFR_COL_SIZE is made of. The size is 1, 2, 4 or 8 bytes, and none of a numeric's four numbers is over the
+ * largest unsigned number of its size. An absent size is 8, an absent display VFR_DISPLAY_UINT_DEC, so that a numeric
  * without both has 33. */
 enum {
     VFR_DISPLAY_INT_DEC = 0,   /* minimum, maximum and default are signed: two's complement of the size, 251 for -5 at

@@ -391,7 +391,7 @@ static void check_columns(void)
                                            [VFR_COL_A] = 20, [VFR_COL_B] = 23, [VFR_COL_C] = 21, [VFR_COL_D] = 22,
                                            [VFR_COL_NAME] = place_of(source, "N,") + 1,
                                            [VFR_COL_PLACE] = place_of(source, "numeric"),
-                                           [VFR_COL_FORMAT] = 2 * VFR_SIZE_UNIT + VFR_DISPLAY_UINT_HEX};
+                                           [VFR_COL_SIZE] = 2 * VFR_SIZE_UNIT + VFR_DISPLAY_UINT_HEX};
 
     check("every column of a numeric", has_read(3, 65534) && row_is(2, numeric));
     read_source(source, length, 3 * VFR_COLUMNS);
@@ -451,7 +451,7 @@ static void check_flags(void)
 
 static void check_refusal(const char *what, uint64_t number)
 {
-    const bool is_early = number < VFR_TABLE_SHORT || number == VFR_FORMAT_REPEATED;
+    const bool is_early = number < VFR_TABLE_SHORT || number == VFR_SECOND_WORD;
     bool good = quick(source, length) == (is_early ? number << 32 | fault.place : 0);
 
     read_source(source, length, NUMBERS);
@@ -833,7 +833,7 @@ static void check_format(const struct size *size, const struct display *display)
          ",step=", size->most, ",default=", size->most, ",endnumeric;", NULL);
     good = reads_question();
     check("the format, and all four numbers as large as they may be",
-          good && cell(2, VFR_COL_FORMAT) == size->bytes * VFR_SIZE_UNIT + display->number &&
+          good && cell(2, VFR_COL_SIZE) == size->bytes * VFR_SIZE_UNIT + display->number &&
               cell(2, VFR_COL_FLAGS) == VFR_DEFAULT_WRITTEN &&
               all(table + 2 * VFR_COLUMNS, VFR_COL_A, VFR_COL_D + 1, UINT64_MAX >> (64 - 8 * size->bytes)));
     make(NUMERIC, display->word, "|", size->word, ",minimum=^", size->past, ",maximum=", size->past, ",endnumeric;",
@@ -867,26 +867,26 @@ static void check_formats(void)
          "checkbox " STRINGS ",endcheckbox;", NULL);
     read_source(source, length, NUMBERS);
     check("absent words mean eight bytes and DISPLAY_UINT_DEC; other rows have no format",
-          has_read(6, 65531) && cell(2, VFR_COL_FORMAT) == 33 && cell(3, VFR_COL_FORMAT) == 9 &&
-              cell(4, VFR_COL_FORMAT) == 32 && cell(4, VFR_COL_FLAGS) == VFR_READ_ONLY &&
-              cell(5, VFR_COL_FORMAT) == 0 && cell(1, VFR_COL_FORMAT) == 0 && cell(0, VFR_COL_FORMAT) == 0);
+          has_read(6, 65531) && cell(2, VFR_COL_SIZE) == 33 && cell(3, VFR_COL_SIZE) == 9 &&
+              cell(4, VFR_COL_SIZE) == 32 && cell(4, VFR_COL_FLAGS) == VFR_READ_ONLY &&
+              cell(5, VFR_COL_SIZE) == 0 && cell(1, VFR_COL_SIZE) == 0 && cell(0, VFR_COL_SIZE) == 0);
 }
 
 static void check_second_words(void)
 {
     make(NUMERIC "NUMERIC_SIZE_1|\n  ^NUMERIC_SIZE_1" LIMITS, NULL);
-    check_refusal("a second size is refusal 16 at that word, even the same", VFR_FORMAT_REPEATED);
+    check_refusal("a second size is refusal 16 at that word, even the same", VFR_SECOND_WORD);
     make(NUMERIC "DISPLAY_INT_DEC|READ_ONLY|^DISPLAY_UINT_HEX|DISPLAY_INT_DEC" LIMITS, NULL);
-    check_refusal("a second display too, not a third", VFR_FORMAT_REPEATED);
+    check_refusal("a second display too, not a third", VFR_SECOND_WORD);
     make(NUMERIC "NUMERIC_SIZE_1|DISPLAY_INT_DEC|^DISPLAY_UINT_HEX|NUMERIC_SIZE_1" LIMITS, NULL);
-    check_refusal("of two seconds the earlier", VFR_FORMAT_REPEATED);
+    check_refusal("of two seconds the earlier", VFR_SECOND_WORD);
     make("label 65536;", NUMERIC "NUMERIC_SIZE_1|^NUMERIC_SIZE_2,minimum=0,maximum=256,endnumeric;", NULL);
-    check_refusal("it comes before a refusal 5 that stands earlier", VFR_FORMAT_REPEATED);
+    check_refusal("it comes before a refusal 5 that stands earlier", VFR_SECOND_WORD);
     make(NUMERIC "NUMERIC_SIZE_1|NUMERIC_SIZE_1" LIMITS "label ^;", NULL);
     check_refusal("and after a refusal 3 that stands later", VFR_NOT_GRAMMAR);
     make(NUMERIC "NUMERIC_SIZE_1|NUMERIC_SIZE_1" LIMITS, NULL);
     read_source(source, length, 0);
-    check("and before refusal 6", answer[VFR_ANSWER_NUMBER] == VFR_FORMAT_REPEATED);
+    check("and before refusal 6", answer[VFR_ANSWER_NUMBER] == VFR_SECOND_WORD);
     make(NUMERIC "READ_ONLY|NUMERIC_SIZE_1|READ_ONLY|DISPLAY_INT_DEC" LIMITS, NULL);
     check("one of each is none, nor is a flag twice", reads_question());
     make("checkbox " STRINGS ",flags=READ_ONLY|^NUMERIC_SIZE_1,endcheckbox;", NULL);
@@ -910,7 +910,7 @@ static void check_signed(void)
     resolve_source(source, length, NUMBERS, VFR_MAX_TEXT);
     check("numbers below zero stay as they are written in the row, and in the text",
           answer[VFR_ANSWER_NUMBER] == VFR_ACCEPTED && cell(2, VFR_COL_A) == 251 && cell(2, VFR_COL_B) == 5 &&
-              cell(2, VFR_COL_D) == 255 && cell(2, VFR_COL_FORMAT) == VFR_SIZE_UNIT + VFR_DISPLAY_INT_DEC &&
+              cell(2, VFR_COL_D) == 255 && cell(2, VFR_COL_SIZE) == VFR_SIZE_UNIT + VFR_DISPLAY_INT_DEC &&
               strstr((const char *)out, line) != NULL);
     show_source(source, length, LIST(1, 251), NUMBERS, 100);
     check("and so they are answered", answer[VFR_ANSWER_NUMBER] == VFR_ACCEPTED && out[7] == VFR_HIDDEN);

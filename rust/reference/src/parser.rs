@@ -103,9 +103,9 @@ impl Flags {
     }
 }
 
-/// The questions whose FL is read: sizes and displays stand in that of a numeric alone.
+/// Whose FL is read: sizes and displays stand in that of a numeric alone.
 #[derive(Clone, Copy, PartialEq, Eq)]
-enum Of {
+enum Question {
     Numeric,
     Other,
 }
@@ -378,7 +378,7 @@ impl<'a, E: Events<'a>> Parser<'a, '_, E> {
         cells[column::A] = target.value;
         if self.maybe(Kind::Comma) {
             self.all(&[Kind::Flags, Kind::Equals])?;
-            cells[column::FLAGS] = self.flag_list(Of::Other)?.bits;
+            cells[column::FLAGS] = self.flag_list(Question::Other)?.bits;
         }
         self.one(Kind::Semicolon)?;
         let row = self.question(cells, &head);
@@ -390,7 +390,7 @@ impl<'a, E: Events<'a>> Parser<'a, '_, E> {
         let place = self.advance().start;
         let head = self.head_and_comma()?;
         let mut cells = head.row(code::CHECKBOX, parent, place);
-        cells[column::FLAGS] = self.flags(Of::Other)?.bits;
+        cells[column::FLAGS] = self.flags(Question::Other)?.bits;
         if self.maybe(Kind::Default) {
             self.one(Kind::Equals)?;
             cells[column::FLAGS] |= flag::WRITTEN_DEFAULT;
@@ -411,7 +411,7 @@ impl<'a, E: Events<'a>> Parser<'a, '_, E> {
         let place = self.advance().start;
         let head = self.head_and_comma()?;
         let mut cells = head.row(code::NUMERIC, parent, place);
-        let flags = self.flags(Of::Numeric)?;
+        let flags = self.flags(Question::Numeric)?;
         let format = flags.format();
         let Some(minimum) = self.setting(Kind::Minimum, format)? else { return self.unexpected() };
         let Some(maximum) = self.setting(Kind::Maximum, format)? else { return self.unexpected() };
@@ -419,7 +419,7 @@ impl<'a, E: Events<'a>> Parser<'a, '_, E> {
         let default = self.setting(Kind::Default, format)?;
         self.all(&[Kind::Endnumeric, Kind::Semicolon])?;
         cells[column::FLAGS] = flags.bits;
-        cells[column::FORMAT] = format.cell();
+        cells[column::SIZE] = format.cell();
         cells[column::A] = minimum.value;
         cells[column::B] = maximum.value;
         cells[column::C] = step.map_or(0, |step| step.value);
@@ -447,7 +447,7 @@ impl<'a, E: Events<'a>> Parser<'a, '_, E> {
         let place = self.advance().start;
         let head = self.head_and_comma()?;
         let mut cells = head.row(code::ONEOF, parent, place);
-        cells[column::FLAGS] = self.flags(Of::Other)?.bits;
+        cells[column::FLAGS] = self.flags(Question::Other)?.bits;
         let oneof = self.question(cells, &head);
         self.events.oneof();
         self.option(oneof)?;
@@ -521,24 +521,26 @@ impl<'a, E: Events<'a>> Parser<'a, '_, E> {
     }
 
     /// [`flags =` FL `,`].
-    fn flags(&mut self, of: Of) -> Parsed<Flags> {
+    fn flags(&mut self, question: Question) -> Parsed<Flags> {
         if !self.maybe(Kind::Flags) {
             return Ok(Flags::default());
         }
         self.one(Kind::Equals)?;
-        let flags = self.flag_list(of)?;
+        let flags = self.flag_list(question)?;
         self.one(Kind::Comma)?;
         Ok(flags)
     }
 
     /// FL.
-    fn flag_list(&mut self, of: Of) -> Parsed<Flags> {
+    fn flag_list(&mut self, question: Question) -> Parsed<Flags> {
         let mut flags = Flags::default();
         loop {
             match FlagWord::of(self.token.kind) {
                 Some(FlagWord::Flag(bit)) => flags.bits |= bit,
-                Some(FlagWord::Size(size)) if of == Of::Numeric => self.once(&mut flags.size, size),
-                Some(FlagWord::Display(display)) if of == Of::Numeric => self.once(&mut flags.display, display),
+                Some(FlagWord::Size(size)) if question == Question::Numeric => self.once(&mut flags.size, size),
+                Some(FlagWord::Display(display)) if question == Question::Numeric => {
+                    self.once(&mut flags.display, display)
+                }
                 _ => return self.unexpected(),
             }
             self.advance();

@@ -20,7 +20,7 @@ pub mod column {
     pub const NAME: usize = 10;
     pub const PLACE: usize = 11;
     /// Of a numeric: its size times 4 plus its display.
-    pub const FORMAT: usize = 12;
+    pub const SIZE: usize = 12;
 }
 
 pub mod code {

@@ -308,7 +308,7 @@ fn flag_words(row: &Row) -> Vec<String> {
     let names =
         [(flag::READ_ONLY, "READ_ONLY"), (flag::INTERACTIVE, "INTERACTIVE"), (flag::RESET_REQUIRED, "RESET_REQUIRED")];
     let set = names.iter().filter(|(bit, _)| row[column::FLAGS] & bit != 0).map(|(_, name)| name.to_string());
-    let format = (row[column::CODE] == code::NUMERIC).then(|| Format::of_cell(row[column::FORMAT]).words());
+    let format = (row[column::CODE] == code::NUMERIC).then(|| Format::of_cell(row[column::SIZE]).words());
     set.chain(format.into_iter().flatten()).collect()
 }
 

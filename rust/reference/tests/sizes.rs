@@ -202,11 +202,11 @@ fn rows() {
     for (at, display) in ["INT_DEC", "UINT_DEC", "UINT_HEX"].into_iter().enumerate() {
         for size in [1, 2, 4, 8] {
             let row = question(&flagged(&format!("DISPLAY_{display}|NUMERIC_SIZE_{size}")));
-            assert_eq!(row[column::FORMAT], size * 4 + at as u64);
+            assert_eq!(row[column::SIZE], size * 4 + at as u64);
         }
-        assert_eq!(question(&flagged(&format!("DISPLAY_{display}")))[column::FORMAT], 32 + at as u64);
+        assert_eq!(question(&flagged(&format!("DISPLAY_{display}")))[column::SIZE], 32 + at as u64);
     }
-    assert_eq!(question(&flagged("NUMERIC_SIZE_2"))[column::FORMAT], 9);
+    assert_eq!(question(&flagged("NUMERIC_SIZE_2"))[column::SIZE], 9);
 }
 
 /// 32: thirteen numbers a row, and of other rows the last is 0.
@@ -215,7 +215,7 @@ fn width() {
     assert_eq!(ROW, 13);
     let reading = read(EXAMPLE.as_bytes(), 195 / ROW).expect("the worked example");
     assert_eq!((reading.rows.len(), reading.free), (15, 65_533));
-    let formats: Vec<u64> = reading.rows.iter().map(|row| row[column::FORMAT]).collect();
+    let formats: Vec<u64> = reading.rows.iter().map(|row| row[column::SIZE]).collect();
     assert_eq!(formats, [0, 0, 0, 0, 0, 0, 0, 0, 0, 0, 0, 0, 0, 0, 33]);
     let short = Refusal { number: 6, place: 0, position: Position::NONE, need: 15 };
     assert_eq!(read(EXAMPLE.as_bytes(), 194 / ROW), Err(short));

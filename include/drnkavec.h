@@ -2,7 +2,8 @@
  *
  * Refusal numbers, rows, codes and limits are those of document 01, "VFR sources to rows and resolved text"; lines,
  * columns and the 0 in all that is lent past a result are those of document 02, the change requests (W-201), and so are
- * the screen and the refusals from 14 on (W-202), and that a rule serves its own form alone (W-203).
+ * the screen and the refusals 14, 15 and 30 (W-202), that a rule serves its own form alone (W-203), and the sizes,
+ * displays and signed numbers of numerics with refusal 16 (W-204).
  * The library is target/staticlib/libface.a, which `rt staticlib face` writes; it is for Linux on x86-64.
  *
  * Every function takes every input. It reads the source without changing it, writes nowhere but to the
@@ -44,7 +45,9 @@ enum {
     VFR_BAD_TOKEN = 2,          /* place: its first byte */
     VFR_NOT_GRAMMAR = 3,        /* place: the token, or the source length where the source ends early */
     VFR_TOO_DEEP = 4,           /* place: the token that opens a depth too many */
-    VFR_OUT_OF_RANGE = 5,       /* place: the number */
+    VFR_SECOND_WORD = 16,       /* a second size or display in one numeric, even the same; place: that word */
+    VFR_OUT_OF_RANGE = 5,       /* also a minimum, maximum, step or default over the size of its numeric; place: the
+                                   number */
     VFR_TABLE_SHORT = 6,        /* place 0; the row count is the need */
     VFR_FORM_REPEATED = 7,      /* place: the second number */
     VFR_QUESTION_REPEATED = 8,  /* place: the second written number */
@@ -52,7 +55,9 @@ enum {
     VFR_TOO_MANY_RULES = 10,    /* place: the 256th `rule` */
     VFR_NOT_FOUND = 11,         /* place: the number or name that refers to nothing, or, in a `ruleref`, to a rule that
                                    stands in another form */
-    VFR_BAD_CHOICE = 12,        /* place: the maximum, default or value, or the second DEFAULT */
+    VFR_BAD_CHOICE = 12,        /* a maximum below its minimum or a default outside them, in the signed order of its
+                                   size where the numeric has DISPLAY_INT_DEC; a value or DEFAULT repeated in a oneof;
+                                   place: the maximum, default or value, or the second DEFAULT */
     VFR_RULE_CIRCLE = 14,       /* a rule reaches itself through references; place: the name in the source's first
                                    `ruleref`, inside a rule, that is a step of such a circle */
     VFR_OUTPUT_SHORT = 13,      /* resolving alone; place 0; the row count is the bytes needed. If they are more than
@@ -77,7 +82,9 @@ enum {
     VFR_COL_D = 9,
     VFR_COL_NAME = 10,   /* place plus one of the name that a question or rule declares, or 0 */
     VFR_COL_PLACE = 11,  /* of the first token; of an operator, the operator */
-    VFR_COLUMNS = 12
+    VFR_COL_SIZE = 12,   /* size and display of a numeric: VFR_SIZE_UNIT times the bytes, plus the display, see below; 0
+                            for other rows */
+    VFR_COLUMNS = 13
 };
 
 enum {
@@ -87,7 +94,7 @@ enum {
     VFR_TEXT = 0x03,        /* text, help */
     VFR_ONEOF = 0x05,       /* prompt, help */
     VFR_CHECKBOX = 0x06,    /* prompt, help; d: 1 for TRUE */
-    VFR_NUMERIC = 0x07,     /* prompt, help; a, b, c, d: minimum, maximum, step, default */
+    VFR_NUMERIC = 0x07,     /* prompt, help; a, b, c, d: minimum, maximum, step, default, as written or 0 */
     VFR_OPTION = 0x09,      /* text; a: value */
     VFR_SUPPRESSIF = 0x0A,
     VFR_FORMSET = 0x0E,     /* title, help; a: the GUID's 32, 16 and 16 bits, first highest; b: its eight bytes */
@@ -136,6 +143,17 @@ enum {
     VFR_DEFAULT_WRITTEN = 256    /* of a checkbox or numeric that writes `default` */
 };
 
+/* What VFR_COL_SIZE is made of. The size is 1, 2, 4 or 8 bytes, and none of a numeric's four numbers is over the
+ * largest unsigned number of its size. An absent size is 8, an absent display VFR_DISPLAY_UINT_DEC, so that a numeric
+ * without both has 33. */
+enum {
+    VFR_DISPLAY_INT_DEC = 0,   /* minimum, maximum and default are signed: two's complement of the size, 251 for -5 at
+                                  size 1 */
+    VFR_DISPLAY_UINT_DEC = 1,
+    VFR_DISPLAY_UINT_HEX = 2,
+    VFR_SIZE_UNIT = 4
+};
+
 /* ---- Screens ---- */
 
 /* The byte of a row: the sum of these for an item that is no condition, 0 for every other row. */
@@ -177,24 +195,25 @@ enum {
 
 /* Classes. The 22 signs have the numbers 0 to 21 in document 01's order,
  *     { } ( ) , ; = | & == != < <= > >= << >> + - * / %
- * and the 50 reserved words 22 to 71 in the order of their bytes:
- *     AND DEFAULT FALSE INTERACTIVE NOT ONE ONES OR READ_ONLY RESET_REQUIRED STRING_TOKEN TRUE UNDEFINED ZERO
- *     checkbox default disableif endcheckbox endform endformset endif endnumeric endoneof endrule flags form formid
- *     formset goto grayoutif guid help label maximum minimum name numeric oneof option prompt questionid questionref
- *     rule ruleref step subtitle suppressif text title value */
+ * and the 57 reserved words 22 to 78 in the order of their bytes:
+ *     AND DEFAULT DISPLAY_INT_DEC DISPLAY_UINT_DEC DISPLAY_UINT_HEX FALSE INTERACTIVE NOT NUMERIC_SIZE_1
+ *     NUMERIC_SIZE_2 NUMERIC_SIZE_4 NUMERIC_SIZE_8 ONE ONES OR READ_ONLY RESET_REQUIRED STRING_TOKEN TRUE UNDEFINED
+ *     ZERO checkbox default disableif endcheckbox endform endformset endif endnumeric endoneof endrule flags form
+ *     formid formset goto grayoutif guid help label maximum minimum name numeric oneof option prompt questionid
+ *     questionref rule ruleref step subtitle suppressif text title value */
 enum {
     VFR_TOKEN_SIGN = 0,       /* the first sign */
     VFR_TOKEN_RESERVED = 22,  /* the first reserved word */
-    VFR_TOKEN_NAME = 72,      /* a word that is not reserved */
-    VFR_TOKEN_HEX = 73,       /* a number with 0x */
-    VFR_TOKEN_DECIMAL = 74,   /* a number without */
-    VFR_TOKEN_BAD = 75,       /* what is no token: refusal 2 */
-    VFR_TOKEN_END = 76        /* the end of the source */
+    VFR_TOKEN_NAME = 79,      /* a word that is not reserved */
+    VFR_TOKEN_HEX = 80,       /* a number with 0x */
+    VFR_TOKEN_DECIMAL = 81,   /* a number without */
+    VFR_TOKEN_BAD = 82,       /* what is no token: refusal 2 */
+    VFR_TOKEN_END = 83        /* the end of the source */
 };
 
 /* ---- Functions ---- */
 
-/* Stages 1 to 5 alone: the refusal number times 2^32 plus the place, or 0. No line and column. */
+/* Stages 1 to 5 alone, with 16 before 5: the refusal number times 2^32 plus the place, or 0. No line and column. */
 uint64_t vfr_quick_check(const uint8_t *src, size_t src_len);
 
 /* Reads a source into a table of table_len numbers, so table_len / VFR_COLUMNS rows. Afterwards

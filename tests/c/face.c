@@ -1,5 +1,5 @@
-/* Checks the C interface of the library, and the header's constants against what the calls leave: a line for each check,
- * then the total. The exit status is 0 if all agree. */
+/* Checks the C interface of the library, and the header's constants against what the calls leave: a line for each
+ * check, some under a heading, then the total. The exit status is 0 if all agree. */
 
 #include "../../include/drnkavec.h"
 
@@ -380,8 +380,8 @@ static void check_example(void)
 /* A numeric in which no two columns hold the same number. */
 static void check_columns(void)
 {
-    make("numeric name=N,questionid=17,prompt=STRING_TOKEN(18),help=STRING_TOKEN(19),flags=READ_ONLY,",
-         "minimum=20,maximum=23,step=21,default=22,endnumeric;", NULL);
+    make("numeric name=N,questionid=17,prompt=STRING_TOKEN(18),help=STRING_TOKEN(19),",
+         "flags=DISPLAY_UINT_HEX|READ_ONLY|NUMERIC_SIZE_2,minimum=20,maximum=23,step=21,default=22,endnumeric;", NULL);
     read_source(source, length, NUMBERS);
     source[length] = '\0';
 
@@ -390,7 +390,8 @@ static void check_columns(void)
                                            [VFR_COL_FLAGS] = VFR_READ_ONLY + VFR_DEFAULT_WRITTEN,
                                            [VFR_COL_A] = 20, [VFR_COL_B] = 23, [VFR_COL_C] = 21, [VFR_COL_D] = 22,
                                            [VFR_COL_NAME] = place_of(source, "N,") + 1,
-                                           [VFR_COL_PLACE] = place_of(source, "numeric")};
+                                           [VFR_COL_PLACE] = place_of(source, "numeric"),
+                                           [VFR_COL_SIZE] = 2 * VFR_SIZE_UNIT + VFR_DISPLAY_UINT_HEX};
 
     check("every column of a numeric", has_read(3, 65534) && row_is(2, numeric));
     read_source(source, length, 3 * VFR_COLUMNS);
@@ -450,8 +451,8 @@ static void check_flags(void)
 
 static void check_refusal(const char *what, uint64_t number)
 {
-    const uint64_t early = number < VFR_TABLE_SHORT ? number << 32 | fault.place : 0;
-    bool good = quick(source, length) == early;
+    const bool is_early = number < VFR_TABLE_SHORT || number == VFR_SECOND_WORD;
+    bool good = quick(source, length) == (is_early ? number << 32 | fault.place : 0);
 
     read_source(source, length, NUMBERS);
     good = good && has_refused(number, fault) && cleared_table(NUMBERS);
@@ -737,8 +738,8 @@ static const char RESOLVED[] =
     "checkbox questionid = 2 , prompt = STRING_TOKEN ( 5 ) , help = STRING_TOKEN ( 6 ) , default = TRUE , "
     "endcheckbox ;\n"
     "suppressif NOT questionref ( 2 ) OR 1 + 2 * 3 == 7 ;\n"
-    "numeric questionid = 1 , prompt = STRING_TOKEN ( 7 ) , help = STRING_TOKEN ( 8 ) , flags = READ_ONLY , "
-    "minimum = 0 , maximum = 9 , step = 0 , endnumeric ;\n"
+    "numeric questionid = 1 , prompt = STRING_TOKEN ( 7 ) , help = STRING_TOKEN ( 8 ) , flags = READ_ONLY | "
+    "NUMERIC_SIZE_8 | DISPLAY_UINT_DEC , minimum = 0 , maximum = 9 , step = 0 , endnumeric ;\n"
     "endif ;\n"
     "endform ;\n"
     "endformset ;\n";
@@ -782,6 +783,139 @@ static void check_longest_text(void)
     check("one byte more is refusal 13, although the output lent has room for it",
           is_short(VFR_OUTPUT_SHORT, VFR_MAX_TEXT + 1) && cleared_table(NUMBERS) &&
               cleared_out(VFR_MAX_TEXT + 1));
+}
+
+/* ---- Numerics: document 02, W-204 ---- */
+
+#define NUMERIC "numeric " STRINGS ",flags="
+#define LIMITS ",minimum=0,maximum=1,endnumeric;"
+
+/* A size: its word, how many bytes it is, the largest number that fits it and the one past it; then the largest signed
+ * number, and the least, which follows it. */
+static const struct size {
+    const char *word;
+    uint64_t bytes;
+    const char *most, *past, *largest, *least;
+} SIZES[] = {
+    {"NUMERIC_SIZE_1", 1, "255", "256", "127", "128"},
+    {"NUMERIC_SIZE_2", 2, "65535", "65536", "32767", "32768"},
+    {"NUMERIC_SIZE_4", 4, "4294967295", "4294967296", "2147483647", "2147483648"},
+    {"NUMERIC_SIZE_8", 8, "18446744073709551615", "18446744073709551616", "9223372036854775807", "9223372036854775808"},
+};
+
+/* A display's word, its number, and whether it is signed. */
+static const struct display {
+    const char *word;
+    uint64_t number;
+    bool is_signed;
+} DISPLAYS[] = {
+    {"DISPLAY_INT_DEC", VFR_DISPLAY_INT_DEC, true},
+    {"DISPLAY_UINT_DEC", VFR_DISPLAY_UINT_DEC, false},
+    {"DISPLAY_UINT_HEX", VFR_DISPLAY_UINT_HEX, false},
+};
+
+/* The made source, which has one question, is read. */
+static bool reads_question(void)
+{
+    read_source(source, length, NUMBERS);
+    return quick(source, length) == 0 && has_read(FRAME_ROWS + 1, 65534);
+}
+
+/* Of one size and display: the format; numbers that fit and numbers that do not; the order about the highest bit. */
+static void check_format(const struct size *size, const struct display *display)
+{
+    const char *const lower = display->is_signed ? size->least : size->largest;
+    const char *const upper = display->is_signed ? size->largest : size->least;
+    bool good;
+
+    printf("%s with %s:\n", size->word, display->word);
+    make(NUMERIC, size->word, "|", display->word, ",minimum=", size->most, ",maximum=", size->most,
+         ",step=", size->most, ",default=", size->most, ",endnumeric;", NULL);
+    good = reads_question();
+    check("the format, and all four numbers as large as they may be",
+          good && cell(2, VFR_COL_SIZE) == size->bytes * VFR_SIZE_UNIT + display->number &&
+              cell(2, VFR_COL_FLAGS) == VFR_DEFAULT_WRITTEN &&
+              all(table + 2 * VFR_COLUMNS, VFR_COL_A, VFR_COL_D + 1, UINT64_MAX >> (64 - 8 * size->bytes)));
+    make(NUMERIC, display->word, "|", size->word, ",minimum=^", size->past, ",maximum=", size->past, ",endnumeric;",
+         NULL);
+    check_refusal("a minimum over the size is refusal 5", VFR_OUT_OF_RANGE);
+    make(NUMERIC, display->word, "|", size->word, ",minimum=0,maximum=^", size->past, ",step=", size->past,
+         ",endnumeric;", NULL);
+    check_refusal("so is a maximum", VFR_OUT_OF_RANGE);
+    make(NUMERIC, display->word, "|", size->word, ",minimum=1,maximum=0,step=^", size->past, ",endnumeric;", NULL);
+    check_refusal("so is a step, before refusal 12", VFR_OUT_OF_RANGE);
+    make(NUMERIC, display->word, "|", size->word, ",minimum=0,maximum=0,default=^", size->past, ",endnumeric;", NULL);
+    check_refusal("so is a default", VFR_OUT_OF_RANGE);
+    make(NUMERIC, size->word, "|", display->word, ",minimum=", lower, ",maximum=", upper, ",default=", lower,
+         ",endnumeric;", NULL);
+    check("limits about the highest bit in their order", reads_question());
+    make(NUMERIC, size->word, "|", display->word, ",minimum=", upper, ",maximum=^", lower, ",endnumeric;", NULL);
+    check_refusal("the other way round they are refusal 12", VFR_BAD_CHOICE);
+    make(NUMERIC, size->word, "|", display->word, ",minimum=", lower, ",maximum=", lower, ",default=^", upper,
+         ",endnumeric;", NULL);
+    check_refusal("and so is such a default", VFR_BAD_CHOICE);
+}
+
+static void check_formats(void)
+{
+    for (size_t i = 0; i < sizeof SIZES / sizeof *SIZES; i++) {
+        for (size_t j = 0; j < sizeof DISPLAYS / sizeof *DISPLAYS; j++) {
+            check_format(&SIZES[i], &DISPLAYS[j]);
+        }
+    }
+    make("numeric " STRINGS LIMITS, NUMERIC "NUMERIC_SIZE_2" LIMITS, NUMERIC "DISPLAY_INT_DEC|READ_ONLY" LIMITS,
+         "checkbox " STRINGS ",endcheckbox;", NULL);
+    read_source(source, length, NUMBERS);
+    check("absent words mean eight bytes and DISPLAY_UINT_DEC; other rows have no format",
+          has_read(6, 65531) && cell(2, VFR_COL_SIZE) == 33 && cell(3, VFR_COL_SIZE) == 9 &&
+              cell(4, VFR_COL_SIZE) == 32 && cell(4, VFR_COL_FLAGS) == VFR_READ_ONLY &&
+              cell(5, VFR_COL_SIZE) == 0 && cell(1, VFR_COL_SIZE) == 0 && cell(0, VFR_COL_SIZE) == 0);
+}
+
+static void check_second_words(void)
+{
+    make(NUMERIC "NUMERIC_SIZE_1|\n  ^NUMERIC_SIZE_1" LIMITS, NULL);
+    check_refusal("a second size is refusal 16 at that word, even the same", VFR_SECOND_WORD);
+    make(NUMERIC "DISPLAY_INT_DEC|READ_ONLY|^DISPLAY_UINT_HEX|DISPLAY_INT_DEC" LIMITS, NULL);
+    check_refusal("a second display too, not a third", VFR_SECOND_WORD);
+    make(NUMERIC "NUMERIC_SIZE_1|DISPLAY_INT_DEC|^DISPLAY_UINT_HEX|NUMERIC_SIZE_1" LIMITS, NULL);
+    check_refusal("of two seconds the earlier", VFR_SECOND_WORD);
+    make("label 65536;", NUMERIC "NUMERIC_SIZE_1|^NUMERIC_SIZE_2,minimum=0,maximum=256,endnumeric;", NULL);
+    check_refusal("it comes before a refusal 5 that stands earlier", VFR_SECOND_WORD);
+    make(NUMERIC "NUMERIC_SIZE_1|NUMERIC_SIZE_1" LIMITS "label ^;", NULL);
+    check_refusal("and after a refusal 3 that stands later", VFR_NOT_GRAMMAR);
+    make(NUMERIC "NUMERIC_SIZE_1|NUMERIC_SIZE_1" LIMITS, NULL);
+    read_source(source, length, 0);
+    check("and before refusal 6", answer[VFR_ANSWER_NUMBER] == VFR_SECOND_WORD);
+    make(NUMERIC "READ_ONLY|NUMERIC_SIZE_1|READ_ONLY|DISPLAY_INT_DEC" LIMITS, NULL);
+    check("one of each is none, nor is a flag twice", reads_question());
+    make("checkbox " STRINGS ",flags=READ_ONLY|^NUMERIC_SIZE_1,endcheckbox;", NULL);
+    check_refusal("a size among the flags of another question is refusal 3", VFR_NOT_GRAMMAR);
+    make("goto 1," STRINGS ",flags=^DISPLAY_UINT_DEC;", NULL);
+    check_refusal("so is a display", VFR_NOT_GRAMMAR);
+    make("rule ^NUMERIC_SIZE_4,1 endrule;", NULL);
+    check_refusal("and so are both as names", VFR_NOT_GRAMMAR);
+}
+
+/* From -5 to 5 in one byte: the row, the text and the screen. */
+static void check_signed(void)
+{
+    static const char line[] =
+        "\nnumeric questionid = 1 , prompt = STRING_TOKEN ( 5 ) , help = STRING_TOKEN ( 6 ) , "
+        "flags = READ_ONLY | RESET_REQUIRED | NUMERIC_SIZE_1 | DISPLAY_INT_DEC , "
+        "minimum = 251 , maximum = 5 , step = 0 , default = 255 , endnumeric ;\n";
+
+    make("numeric questionid=1," STRINGS ",flags=DISPLAY_INT_DEC|RESET_REQUIRED|NUMERIC_SIZE_1|READ_ONLY,",
+         "minimum=0xFB,maximum=5,default=255,endnumeric;suppressif questionref(1)==251;label 1;endif;", NULL);
+    resolve_source(source, length, NUMBERS, VFR_MAX_TEXT);
+    check("numbers below zero stay as they are written in the row, and in the text",
+          answer[VFR_ANSWER_NUMBER] == VFR_ACCEPTED && cell(2, VFR_COL_A) == 251 && cell(2, VFR_COL_B) == 5 &&
+              cell(2, VFR_COL_D) == 255 && cell(2, VFR_COL_SIZE) == VFR_SIZE_UNIT + VFR_DISPLAY_INT_DEC &&
+              strstr((const char *)out, line) != NULL);
+    show_source(source, length, LIST(1, 251), NUMBERS, 100);
+    check("and so they are answered", answer[VFR_ANSWER_NUMBER] == VFR_ACCEPTED && out[7] == VFR_HIDDEN);
+    show_source(source, length, LIST(1, UINT64_MAX - 4), NUMBERS, 100);
+    check("and not in 64 bits", answer[VFR_ANSWER_NUMBER] == VFR_ACCEPTED && out[7] == 0);
 }
 
 /* ---- Showing: document 02, W-202 ---- */
@@ -1014,7 +1148,7 @@ static void check_walk(void)
 {
     static const struct wanted six_lines[] = {
         {VFR_TOKEN_NAME, {0, 1, 1}, 3},
-        {47, {18, 4, 3}, 22},
+        {54, {18, 4, 3}, 22},
         {6, {22, 4, 7}, 23},
         {VFR_TOKEN_HEX, {23, 4, 8}, 27},
         {4, {27, 4, 12}, 28},
@@ -1045,12 +1179,13 @@ static void check_classes(void)
 {
     static const char *const words[] = {
         "{", "}", "(", ")", ",", ";", "=", "|", "&", "==", "!=", "<", "<=", ">", ">=", "<<", ">>", "+", "-", "*", "/",
-        "%", "AND", "DEFAULT", "FALSE", "INTERACTIVE", "NOT", "ONE", "ONES", "OR", "READ_ONLY", "RESET_REQUIRED",
-        "STRING_TOKEN", "TRUE", "UNDEFINED", "ZERO", "checkbox", "default", "disableif", "endcheckbox", "endform",
-        "endformset", "endif", "endnumeric", "endoneof", "endrule", "flags", "form", "formid", "formset", "goto",
-        "grayoutif", "guid", "help", "label", "maximum", "minimum", "name", "numeric", "oneof", "option", "prompt",
-        "questionid", "questionref", "rule", "ruleref", "step", "subtitle", "suppressif", "text", "title", "value",
-        "other", "0x0", "0",
+        "%", "AND", "DEFAULT", "DISPLAY_INT_DEC", "DISPLAY_UINT_DEC", "DISPLAY_UINT_HEX", "FALSE", "INTERACTIVE", "NOT",
+        "NUMERIC_SIZE_1", "NUMERIC_SIZE_2", "NUMERIC_SIZE_4", "NUMERIC_SIZE_8", "ONE", "ONES", "OR", "READ_ONLY",
+        "RESET_REQUIRED", "STRING_TOKEN", "TRUE", "UNDEFINED", "ZERO", "checkbox", "default", "disableif",
+        "endcheckbox", "endform", "endformset", "endif", "endnumeric", "endoneof", "endrule", "flags", "form", "formid",
+        "formset", "goto", "grayoutif", "guid", "help", "label", "maximum", "minimum", "name", "numeric", "oneof",
+        "option", "prompt", "questionid", "questionref", "rule", "ruleref", "step", "subtitle", "suppressif", "text",
+        "title", "value", "other", "0x0", "0",
     };
     const size_t count = sizeof words / sizeof *words;
     bool good = count == VFR_TOKEN_BAD;
@@ -1166,6 +1301,9 @@ int main(void)
     check_token_lengths();
     check_resolve();
     check_longest_text();
+    check_formats();
+    check_second_words();
+    check_signed();
     check_show();
     check_bytes();
     check_questions();

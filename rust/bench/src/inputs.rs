@@ -25,7 +25,7 @@ pub struct Kind {
     pub build: fn(usize) -> String,
 }
 
-pub const KINDS: [Kind; 11] = [
+pub const KINDS: [Kind; 12] = [
     Kind { name: "realistic", build: realistic },
     Kind { name: "operator chain", build: chain },
     Kind { name: "rules of one number", build: rules },
@@ -33,6 +33,7 @@ pub const KINDS: [Kind; 11] = [
     Kind { name: "references to the last name", build: references },
     Kind { name: "references to a rule, deep", build: rule_references },
     Kind { name: "options of one oneof", build: options },
+    Kind { name: "numerics of all sizes", build: numerics },
     Kind { name: "deep groups in deep conditions", build: groups },
     Kind { name: "blanks and comments", build: blanks },
     Kind { name: "a fault in the first token", build: early_fault },
@@ -163,6 +164,30 @@ fn options(size: usize) -> String {
     let start = format!("{START}{FORM}oneof prompt=STRING_TOKEN(1),help=STRING_TOKEN(1),");
     let option = |at| format!("option text=STRING_TOKEN(1),value={at},flags=0;");
     filled(size, &start, &format!("endoneof;\n{END}"), option)
+}
+
+/// Numerics of every size and display, with limits below zero.
+fn numerics(size: usize) -> String {
+    in_form(size, numeric)
+}
+
+fn numeric(at: usize) -> String {
+    const FORMATS: [(&str, &str); 6] = [
+        ("NUMERIC_SIZE_1 | DISPLAY_INT_DEC", "minimum = 251, maximum = 5, step = 1, default = 255"),
+        ("NUMERIC_SIZE_2 | DISPLAY_UINT_HEX", "minimum = 0, maximum = 0xFFFF, step = 0x10, default = 0x8000"),
+        ("READ_ONLY | DISPLAY_INT_DEC | NUMERIC_SIZE_4", "minimum = 0xFFFFFFF0, maximum = 0x7FFFFFFF, default = 0"),
+        ("NUMERIC_SIZE_8 | DISPLAY_UINT_DEC", "minimum = 1, maximum = 18446744073709551615, step = 1000"),
+        ("DISPLAY_INT_DEC", "minimum = 18446744073709551516, maximum = 100, default = 18446744073709551615"),
+        ("INTERACTIVE | RESET_REQUIRED", "minimum = 0, maximum = 9, step = 1, default = 3"),
+    ];
+    let (flags, limits) = FORMATS[at % FORMATS.len()];
+    let string = 10 + at;
+    format!(
+        "  numeric name = Sensor{at}, prompt = STRING_TOKEN({string}), help = STRING_TOKEN({string}),
+    flags = {flags},
+    {limits},
+  endnumeric;\n"
+    )
 }
 
 fn groups(size: usize) -> String {

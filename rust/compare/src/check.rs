@@ -102,7 +102,7 @@ pub fn reading(source: &[u8], table_len: usize, answer_len: usize) -> Result<Ans
 pub fn quick(source: &[u8]) -> Result<Answered, String> {
     let (given, wanted) = (library::quick_check(source), reference::quick_check(source));
     let difference = (given != wanted).then(|| format!("quick check: library {given:#x}, reference {wanted:#x}"));
-    agreed(Answered { met: Met::of_number(wanted >> 32), line: 0 }, difference)
+    agreed(Answered { met: Met::of_quick(wanted, source), line: 0 }, difference)
 }
 
 /// Resolving, with a table, an output and an answer of these lengths.

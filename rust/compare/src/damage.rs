@@ -8,12 +8,13 @@ pub const SIGNS: [&str; 22] = [
 ];
 
 #[rustfmt::skip]
-pub const RESERVED: [&str; 50] = [
+pub const RESERVED: [&str; 57] = [
     "formset", "guid", "title", "help", "endformset", "STRING_TOKEN", "form", "formid", "endform", "rule", "endrule",
     "subtitle", "text", "label", "goto", "flags", "checkbox", "default", "TRUE", "FALSE", "endcheckbox", "numeric",
     "minimum", "maximum", "step", "endnumeric", "oneof", "endoneof", "suppressif", "grayoutif", "disableif", "endif",
     "option", "value", "DEFAULT", "name", "questionid", "prompt", "READ_ONLY", "INTERACTIVE", "RESET_REQUIRED", "OR",
-    "AND", "NOT", "ZERO", "ONE", "ONES", "UNDEFINED", "questionref", "ruleref",
+    "AND", "NOT", "ZERO", "ONE", "ONES", "UNDEFINED", "questionref", "ruleref", "NUMERIC_SIZE_1", "NUMERIC_SIZE_2",
+    "NUMERIC_SIZE_4", "NUMERIC_SIZE_8", "DISPLAY_INT_DEC", "DISPLAY_UINT_DEC", "DISPLAY_UINT_HEX",
 ];
 
 const BAD: [&str; 14] =
@@ -31,12 +32,16 @@ fn lexeme(random: &mut Random) -> String {
 }
 
 /// Statements with a fault, from stage 2 to stage 14, whatever stands before them.
-const FAULTY: [&str; 12] = [
+const FAULTY: [&str; 15] = [
     "label 0X1 ;",
     "label ;",
     "suppressif NOT NOT NOT NOT NOT NOT NOT NOT NOT NOT NOT NOT NOT NOT NOT NOT NOT NOT NOT NOT NOT NOT NOT NOT NOT NOT NOT \
      NOT NOT NOT NOT NOT NOT 1 ; endif ;",
+    "numeric prompt = STRING_TOKEN ( 1 ) , help = STRING_TOKEN ( 2 ) , flags = NUMERIC_SIZE_1 | DISPLAY_INT_DEC | \
+     NUMERIC_SIZE_2 , minimum = 0 , maximum = 1 , endnumeric ;",
     "label 65536 ;",
+    "numeric prompt = STRING_TOKEN ( 1 ) , help = STRING_TOKEN ( 2 ) , flags = NUMERIC_SIZE_2 | READ_ONLY , minimum = 0 , \
+     maximum = 65536 , endnumeric ;",
     "endform ; form formid = 64999 , title = STRING_TOKEN ( 1 ) ; endform ; form formid = 64999 , title = STRING_TOKEN ( 2 ) ;",
     "goto 1 , questionid = 64998 , prompt = STRING_TOKEN ( 1 ) , help = STRING_TOKEN ( 2 ) ; \
      goto 1 , questionid = 64998 , prompt = STRING_TOKEN ( 1 ) , help = STRING_TOKEN ( 2 ) ;",
@@ -47,6 +52,8 @@ const FAULTY: [&str; 12] = [
      rule later_rule , 1 endrule ;",
     "rule late_name , ruleref ( later_name ) endrule ; rule later_name , NOT ruleref ( late_name ) endrule ;",
     "numeric prompt = STRING_TOKEN ( 1 ) , help = STRING_TOKEN ( 2 ) , minimum = 5 , maximum = 4 , endnumeric ;",
+    "numeric prompt = STRING_TOKEN ( 1 ) , help = STRING_TOKEN ( 2 ) , flags = DISPLAY_INT_DEC | NUMERIC_SIZE_1 , \
+     minimum = 127 , maximum = 128 , endnumeric ;",
     "oneof prompt = STRING_TOKEN ( 1 ) , help = STRING_TOKEN ( 2 ) , option text = STRING_TOKEN ( 3 ) , value = 7 , flags = 0 ; \
      option text = STRING_TOKEN ( 3 ) , value = 0x7 , flags = 0 ; endoneof ;",
 ];

@@ -22,15 +22,17 @@ suppressif 7 - 2 * 3 == 1 AND NOT questionref ( R ) ; grayoutif ( ruleref ( C ) 
 disableif TRUE ; label 1 ; endif ; \
 checkbox prompt = STRING_TOKEN ( 1 ) , help = STRING_TOKEN ( 2 ) , endcheckbox ; endif ; \
 rule C , 4 >= 1 << 2 OR FALSE endrule ; \
-numeric questionid = 8 , prompt = STRING_TOKEN ( 1 ) , help = STRING_TOKEN ( 2 ) , flags = READ_ONLY , \
-minimum = 1 , maximum = 9 , step = 2 , default = 5 , endnumeric ; \
+numeric questionid = 8 , prompt = STRING_TOKEN ( 1 ) , help = STRING_TOKEN ( 2 ) , \
+flags = NUMERIC_SIZE_1 | READ_ONLY | DISPLAY_INT_DEC , \
+minimum = 251 , maximum = 9 , step = 2 , default = 255 , endnumeric ; \
 numeric prompt = STRING_TOKEN ( 1 ) , help = STRING_TOKEN ( 2 ) , minimum = 0 , maximum = 0 , endnumeric ; \
 oneof prompt = STRING_TOKEN ( 1 ) , help = STRING_TOKEN ( 2 ) , flags = READ_ONLY , \
 option text = STRING_TOKEN ( 3 ) , value = 4 , flags = DEFAULT ; \
 option text = STRING_TOKEN ( 5 ) , value = 6 , flags = 0 ; endoneof ; \
 endform ; endformset ;";
 
-const OTHERS: [&str; 13] = ["A", "C", "Q", "X", "0", "1", "2", "9", "0x9", "65536", "18446744073709551616", "0x", "@"];
+const OTHERS: [&str; 15] =
+    ["A", "C", "Q", "X", "0", "1", "2", "9", "0x9", "250", "256", "65536", "18446744073709551616", "0x", "@"];
 
 const BYTES: &[u8] = b" \t\r\n/!=<>|(){},;0x9aA_\x00\x0c\xff";
 

@@ -1,5 +1,6 @@
 //! Random texts of the grammar, with faults of chosen stages or none.
 
+mod numeric;
 mod sorted;
 
 use crate::random::Random;
@@ -11,18 +12,23 @@ const FLAGS: [&str; 3] = ["READ_ONLY", "INTERACTIVE", "RESET_REQUIRED"];
 
 /// Names that are easily taken for something else; pairs in the last line have one key in the library's index of names.
 #[rustfmt::skip]
-pub const NAMES: [&str; 38] = [
+pub const NAMES: [&str; 45] = [
     "A", "B", "a", "b", "_", "__", "_0", "R1", "R2", "N", "NAME", "STR", "x", "x0", "x00", "true", "True", "TRUE_",
     "endi", "endif_", "Endif", "NOT1", "NOTx", "ON", "ONESS", "rules", "ru", "varid", "key", "questionrefs", "forms", "or",
+    "NUMERIC_SIZE_3", "NUMERIC_SIZE", "numeric_size_1", "DISPLAY_INT_HEX", "DISPLAY_INT_DEC_", "DISPLAY", "_2",
     "YeHtR", "QrpY", "gzL", "uJlAv", "xSP", "QWBvx",
 ];
 
-/// A fault for which a text is to be refused: one of stages 4, 5 and 7 to 10, two of 11 (what is referred to is nowhere, or
-/// is a rule of another form), one of 12 and of 14.
+/// A fault for which a text is to be refused: one of 3 (a numeric's word among the flags of another question), of 4 and of
+/// 16, two of 5 (a number that no place may have, or one over the size of its numeric), one each of 7 to 10, two of 11 (what
+/// is referred to is nowhere, or is a rule of another form), one of 12 and of 14.
 #[derive(Clone, Copy, PartialEq, Eq)]
 enum Fault {
+    Misplaced,
     Depth,
+    SecondWord,
     Range,
+    Size,
     Form,
     Number,
     Name,
@@ -33,9 +39,12 @@ enum Fault {
     Circle,
 }
 
-const FAULTS: [Fault; 10] = [
+const FAULTS: [Fault; 13] = [
+    Fault::Misplaced,
     Fault::Depth,
+    Fault::SecondWord,
     Fault::Range,
+    Fault::Size,
     Fault::Form,
     Fault::Number,
     Fault::Name,
@@ -397,15 +406,14 @@ impl<'r> Writer<'r> {
         }
     }
 
+    /// FL of a question that is no numeric.
     fn flag_list(&mut self) {
         let count = self.random.between(1, 4);
-        for at in 0..count {
-            if at > 0 {
-                self.push("|");
-            }
-            let word = self.random.pick(&FLAGS);
-            self.push(word);
+        let mut words: Vec<&str> = (0..count).map(|_| self.random.pick(&FLAGS)).collect();
+        if self.slips(Fault::Misplaced) {
+            words[self.random.below(count)] = self.numeric_word();
         }
+        self.phrase(&words.join(" | "));
     }
 
     fn flags(&mut self) {
@@ -442,40 +450,6 @@ impl<'r> Writer<'r> {
             self.push(",");
         }
         self.phrase("endcheckbox ;");
-    }
-
-    fn setting(&mut self, word: &str, value: u64) {
-        self.push(word);
-        self.push("=");
-        self.number(value, 0, u64::MAX);
-        self.push(",");
-    }
-
-    fn numeric(&mut self) {
-        self.push("numeric");
-        self.head(Sort::Number);
-        self.push(",");
-        self.flags();
-        let (any, other) = (self.value(0, u64::MAX), self.value(0, u64::MAX));
-        let (mut low, mut high) = (any.min(other), any.max(other));
-        let mut default = self.value(low, high);
-        if self.slips(Fault::Choice) {
-            match self.random.below(3) {
-                0 => std::mem::swap(&mut low, &mut high),
-                1 => default = low.wrapping_sub(1),
-                _ => default = high.wrapping_add(1),
-            }
-        }
-        self.setting("minimum", low);
-        self.setting("maximum", high);
-        if self.random.once_in(2) {
-            let step = self.value(0, u64::MAX);
-            self.setting("step", step);
-        }
-        if self.random.once_in(2) {
-            self.setting("default", default);
-        }
-        self.phrase("endnumeric ;");
     }
 
     fn oneof(&mut self) {

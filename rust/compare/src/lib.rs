@@ -1,5 +1,6 @@
 //! What the programs of this crate share: the checks of the library against the reference, the sources and answers for
-//! them, the tally of the answers met, the references into other forms, and the count of checks of given cases.
+//! them, the tally of the answers met, the references into other forms, the numerics of a source, and the count of checks of
+//! given cases.
 
 #![forbid(unsafe_code)]
 
@@ -10,6 +11,7 @@ pub mod edits;
 mod grammar;
 pub mod json;
 mod limits;
+mod numerics;
 pub mod outcomes;
 pub mod random;
 mod rules;

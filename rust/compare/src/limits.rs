@@ -6,7 +6,7 @@ use reference::LONGEST;
 
 /// A text at one of document 01's limits, or a little past it.
 pub fn at_a_limit(random: &mut Random) -> Vec<u8> {
-    match random.below(16) {
+    match random.below(18) {
         0 => padded(random),
         1 => longest_chain(random),
         2 => {
@@ -31,6 +31,8 @@ pub fn at_a_limit(random: &mut Random) -> Vec<u8> {
         12 => longest_text(random),
         13 => many_conditions(random),
         14 => many_answers(random),
+        15 => many_numerics(random),
+        16 => borders(random),
         _ => {
             let name = "n".repeat(random.between(1, 3_000));
             let other = format!("{}{}", &name[1..], random.pick(&["n", "m", "nn", ""]));
@@ -172,4 +174,33 @@ fn many_answers(random: &mut Random) -> Vec<u8> {
         format!("checkbox questionid={number},{strings},endcheckbox;{condition}")
     };
     framed(&(0..count).map(question).collect::<String>())
+}
+
+/// Numerics whose resolved text is about as long as one may be, or longer.
+fn many_numerics(random: &mut Random) -> Vec<u8> {
+    let words = random.pick(&["", "flags=NUMERIC_SIZE_1,", "flags=DISPLAY_INT_DEC|NUMERIC_SIZE_4|READ_ONLY,"]);
+    let numeric = format!("numeric prompt=STRING_TOKEN(0),help=STRING_TOKEN(0),{words}minimum=0,maximum=0,endnumeric;");
+    framed(&numeric.repeat(random.between(340, 380)))
+}
+
+/// A numeric whose three limits and step are each at a border of some size, mostly its own.
+fn borders(random: &mut Random) -> Vec<u8> {
+    let bytes = [1, 2, 4, 8][random.below(4)];
+    let display = random.pick(&["|DISPLAY_INT_DEC", "|DISPLAY_INT_DEC", "|DISPLAY_UINT_DEC", "|DISPLAY_UINT_HEX", ""]);
+    let [minimum, maximum, step, default] = [(); 4].map(|()| border(bytes, random));
+    let settings = format!("minimum={minimum},maximum={maximum},step={step},default={default}");
+    let strings = "prompt=STRING_TOKEN(0),help=STRING_TOKEN(0)";
+    framed(&format!("numeric {strings},flags=NUMERIC_SIZE_{bytes}{display},{settings},endnumeric;"))
+}
+
+/// 0, the highest bit of a size or the number past the size, or a number next to one of them; of another size now and then.
+fn border(bytes: u32, random: &mut Random) -> u128 {
+    let bits = 8 * if random.once_in(12) { [1, 2, 4, 8][random.below(4)] } else { bytes };
+    match random.below(8) {
+        0 => 0,
+        1 => 1,
+        2..=5 => (1 << (bits - 1)) + random.below(3) as u128 - 1,
+        _ if random.once_in(8) => 1 << bits,
+        _ => (1 << bits) - 1 - random.below(2) as u128,
+    }
 }

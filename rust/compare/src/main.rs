@@ -12,7 +12,7 @@ use compare::random::Random;
 use compare::sources;
 use compare::tally::{Call, Tally};
 use library::ANSWER;
-use reference::{Position, ROW, TEXT_REFUSAL};
+use reference::{Position, ROW, TABLE_REFUSAL, TEXT_REFUSAL};
 use std::env;
 use std::process::ExitCode;
 use std::time::{Duration, Instant, SystemTime, UNIX_EPOCH};
@@ -35,7 +35,7 @@ fn seconds_and_seed() -> Option<(u64, u64)> {
 
 /// The rows that a source needs, if it passes stages 1 to 5.
 fn need(source: &[u8]) -> Option<usize> {
-    reference::read(source, 0).err().filter(|refusal| refusal.number == 6).map(|refusal| refusal.need)
+    reference::read(source, 0).err().filter(|refusal| refusal.number == TABLE_REFUSAL).map(|refusal| refusal.need)
 }
 
 /// Lengths of tables: none, odd ones, one number or one row short, exact, and more than enough.

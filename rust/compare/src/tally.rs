@@ -1,8 +1,9 @@
 //! Which answers were met, call by call, and which tokens and bytes of screens; and which should have been.
 
+use crate::numerics::{numerics, Numeric};
 use crate::strays::strays;
-use reference::{Kind, Refusal, ANSWERS_REFUSAL, BYTES_REFUSAL, LONGEST, LOST_REFUSAL, PLACELESS_REFUSALS};
-use reference::{QUICK_REFUSALS, READ_REFUSALS, TEXT_REFUSAL};
+use reference::{Kind, Refusal, ANSWERS_REFUSAL, BYTES_REFUSAL, CHOICE_REFUSAL, LONGEST, LOST_REFUSAL};
+use reference::{PLACELESS_REFUSALS, QUICK_REFUSALS, RANGE_REFUSAL, READ_REFUSALS, TEXT_REFUSAL};
 use std::collections::BTreeMap;
 use std::fmt;
 
@@ -36,31 +37,38 @@ impl fmt::Display for Call {
 impl Call {
     /// The answers that a call can give.
     fn answers(self) -> Vec<Met> {
+        let first: &[Met] = match self {
+            Call::ReadingLater => &[],
+            Call::Quick => &[Met::Accepted],
+            Call::Reading | Call::Resolving | Call::Showing => &[Met::Accepted, Met::AcceptedSigned],
+        };
+        let last: &[Met] = match self {
+            Call::Resolving => &[Met::OutputShort, Met::TextLong],
+            Call::Showing => &LAST_OF_SHOWING,
+            Call::Reading | Call::ReadingLater | Call::Quick => &[],
+        };
         let refusals = if self == Call::Quick { QUICK_REFUSALS } else { READ_REFUSALS };
-        let mut answers: Vec<Met> = refusals.iter().flat_map(|&number| Met::of_refusal(number)).collect();
-        match self {
-            Call::ReadingLater => {
-                answers.retain(|met| !PLACELESS_REFUSALS.iter().any(|&number| *met == Met::Refused(number)))
-            }
-            _ => answers.insert(0, Met::Accepted),
-        }
-        match self {
-            Call::Resolving => answers.extend([Met::OutputShort, Met::TextLong]),
-            Call::Showing => answers.extend(LAST_OF_SHOWING),
-            _ => {}
-        }
-        answers
+        let is_given = |number: &&u64| self != Call::ReadingLater || !PLACELESS_REFUSALS.contains(number);
+        let refused = refusals.iter().filter(is_given).flat_map(|&number| Met::of_refusal(number));
+        first.iter().copied().chain(refused).chain(last.iter().copied()).collect()
     }
 }
 
 /// What a call answered.
 #[derive(Clone, Copy, PartialEq, Eq, PartialOrd, Ord, Debug)]
 pub enum Met {
+    /// Any acceptance but the one below; the quick check has no other.
     Accepted,
+    /// There is a numeric that the unsigned order would refuse.
+    AcceptedSigned,
     /// Any refusal but those below.
     Refused(u64),
+    /// The number is one of a numeric and over its size alone.
+    OverSize,
     /// What is referred to is a rule of another form, and not nowhere.
     OtherForm,
+    /// The unsigned order would not refuse this maximum or default.
+    SignedOrder,
     /// The text is longer than the lent output.
     OutputShort,
     /// The text is longer than any may be, so that no output would do.
@@ -79,19 +87,32 @@ impl Met {
     /// All that is met with a refusal of reading.
     fn of_refusal(number: u64) -> Vec<Met> {
         match number {
+            RANGE_REFUSAL => vec![Met::Refused(number), Met::OverSize],
             LOST_REFUSAL => vec![Met::Refused(number), Met::OtherForm],
+            CHOICE_REFUSAL => vec![Met::Refused(number), Met::SignedOrder],
             _ => vec![Met::Refused(number)],
         }
     }
 
-    /// What an answer is; the source tells why a reference finds nothing, the need of a text why it is refused.
+    /// What a refusal of reading is; the source tells why it is refused.
+    fn refused(number: u64, place: usize, source: &[u8]) -> Met {
+        let some = |property: &dyn Fn(&Numeric) -> bool| numerics(source).iter().any(property);
+        match number {
+            RANGE_REFUSAL if some(&|numeric| numeric.is_over_size(place)) => Met::OverSize,
+            LOST_REFUSAL if strays(source).contains(&place) => Met::OtherForm,
+            CHOICE_REFUSAL if some(&|numeric| numeric.is_signed_fault(place)) => Met::SignedOrder,
+            _ => Met::Refused(number),
+        }
+    }
+
+    /// What an answer is; the need of a text tells why it is refused.
     pub fn of<T>(answer: Result<T, &Refusal>, source: &[u8]) -> Met {
         match answer {
+            Ok(_) if numerics(source).iter().any(Numeric::is_signed_alone) => Met::AcceptedSigned,
             Ok(_) => Met::Accepted,
-            Err(Refusal { number: LOST_REFUSAL, place, .. }) if strays(source).contains(place) => Met::OtherForm,
             Err(Refusal { number: TEXT_REFUSAL, need, .. }) if *need > LONGEST => Met::TextLong,
             Err(Refusal { number: TEXT_REFUSAL, .. }) => Met::OutputShort,
-            Err(refusal) => Met::Refused(refusal.number),
+            Err(refusal) => Met::refused(refusal.number, refusal.place, source),
         }
     }
 
@@ -110,11 +131,11 @@ impl Met {
         }
     }
 
-    /// The same by the number alone, 0 for acceptance, where a text has no part in it.
-    pub fn of_number(number: u64) -> Met {
-        match number {
+    /// The same of the quick check, by its one number.
+    pub fn of_quick(told: u64, source: &[u8]) -> Met {
+        match told {
             0 => Met::Accepted,
-            _ => Met::Refused(number),
+            _ => Met::refused(told >> 32, told as u32 as usize, source),
         }
     }
 }
@@ -123,8 +144,11 @@ impl fmt::Display for Met {
     fn fmt(&self, f: &mut fmt::Formatter) -> fmt::Result {
         match self {
             Met::Accepted => f.pad("accepted"),
+            Met::AcceptedSigned => f.pad("accepted by signed order"),
             Met::Refused(number) => f.pad(&format!("refusal {number}")),
+            Met::OverSize => f.pad(&format!("refusal {RANGE_REFUSAL}, over its size")),
             Met::OtherForm => f.pad(&format!("refusal {LOST_REFUSAL}, another form")),
+            Met::SignedOrder => f.pad(&format!("refusal {CHOICE_REFUSAL}, signed order")),
             Met::OutputShort => f.pad(&format!("refusal {TEXT_REFUSAL}, output short")),
             Met::TextLong => f.pad(&format!("refusal {TEXT_REFUSAL}, over {LONGEST} bytes")),
             Met::AnswerOdd => f.pad(&format!("refusal {ANSWERS_REFUSAL}, no value")),

@@ -10,10 +10,11 @@ use std::ops::Range;
 
 const LIST: &str = concat!(env!("CARGO_MANIFEST_DIR"), "/../../crates/wordlist/src/list.rt");
 
-/// `VFR_TOKEN_RESERVED`, `VFR_TOKEN_NAME` and `VFR_TOKEN_BAD` of the header.
+/// `VFR_TOKEN_RESERVED`, `VFR_TOKEN_NAME`, `VFR_TOKEN_DECIMAL` and `VFR_TOKEN_BAD` of the header.
 const RESERVED: u64 = 22;
-const NAME: u64 = 72;
-const BAD: u64 = 75;
+const NAME: u64 = 79;
+const DECIMAL: u64 = 81;
+const BAD: u64 = 82;
 
 /// To how many bytes the list fills a word up with blanks.
 const FILLED: usize = 16;
@@ -39,10 +40,11 @@ fn listed() -> Vec<Vec<u8>> {
     words
 }
 
-/// The class that the list gives a run of word bytes. One that begins with a digit is bad: here a letter follows in it.
+/// The class that the list gives a run of word bytes. One of digits alone is a number; another that begins with a digit is
+/// bad, as none here begins with `0x`.
 fn class(words: &[Vec<u8>], run: &[u8]) -> u64 {
     if run[0].is_ascii_digit() {
-        return BAD;
+        return if run.iter().all(u8::is_ascii_digit) { DECIMAL } else { BAD };
     }
     words.iter().position(|word| word == run).map_or(NAME, |place| RESERVED + place as u64)
 }

@@ -37,7 +37,7 @@ extern "C" {
     );
 }
 
-/// Stages 1 to 5: the refusal's number times 2^32 plus its place, or 0.
+/// Stages 1 to 5, with 16 before 5: the refusal's number times 2^32 plus its place, or 0.
 pub fn quick_check(source: &[u8]) -> u64 {
     // The pointer and length are those of one slice; the function reads it and keeps nothing.
     unsafe { vfr_quick_check(source.as_ptr(), source.len()) }

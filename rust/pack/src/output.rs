@@ -1,14 +1,12 @@
 //! What the programs that run specimens and cases of reading print if all agree.
 
 use crate::cases::Case;
-use reference::{QUICK_REFUSALS, READ_REFUSALS};
+use reference::{QUICK_REFUSALS, TABLE_REFUSAL};
 use std::collections::BTreeMap;
 use std::fmt::Write;
 
 /// The most rows that the programs lend; a source that needs as many is not run again at its need.
 const MOST_ROWS: usize = 2_048;
-
-const TABLE_SHORT: u64 = 6;
 
 /// The lines of the groups, and what all of them count together.
 #[derive(Default)]
@@ -38,7 +36,7 @@ impl Output {
         *self.met.entry(number).or_default() += 1;
         if (1..MOST_ROWS).contains(&case.need()) {
             self.one_row_short += 1;
-            self.just_enough += usize::from(number != TABLE_SHORT);
+            self.just_enough += usize::from(number != TABLE_REFUSAL);
         }
         self.no_table += usize::from(QUICK_REFUSALS.contains(&number));
     }
@@ -48,10 +46,8 @@ impl Output {
         line(&mut text, "again, one row short", self.one_row_short);
         line(&mut text, "again, rows just enough", self.just_enough);
         line(&mut text, "again, no table", self.no_table);
-        for number in READ_REFUSALS {
-            if let Some(count) = self.met.get(number) {
-                writeln!(text, "refusal {number} met by {count}").expect("a string takes all");
-            }
+        for (number, count) in self.met.iter().filter(|(number, _)| **number != 0) {
+            writeln!(text, "refusal {number} met by {count}").expect("a string takes all");
         }
         line(&mut text, "total", self.cases + self.one_row_short + self.just_enough + self.no_table);
         text

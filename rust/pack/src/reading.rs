@@ -8,16 +8,18 @@
 //! - cells: each number of the expected rows: how many bytes it has (0 to 8), then these bytes. The rest is 0.
 
 use crate::cases::{Case, Told};
-use reference::{Kind, Lexer, ROW};
+use reference::{Kind, Lexer, CHOICE_REFUSAL, QUICK_REFUSALS, ROW, TABLE_REFUSAL};
 use std::collections::BTreeMap;
 
 const SHORTEST_RUN: usize = 64;
 
-/// The refusal of a table that is too short. Later ones are the whole answer, whatever table is lent that is large enough.
-const TABLE_SHORT: u64 = 6;
-
 /// A name and the cases under it.
 pub type Group = (String, Vec<Case>);
+
+/// Whether a refusal comes after the rows are counted, so that it is the whole answer with every table that is large enough.
+fn is_late(number: u64) -> bool {
+    number > TABLE_REFUSAL && !QUICK_REFUSALS.contains(&number)
+}
 
 /// The groups of the cases of reading by name; then the cases of resolving that are refused after their rows are counted,
 /// by refusal.
@@ -27,7 +29,7 @@ pub fn groups(reading: Vec<(String, Case)>, resolving: &[Case]) -> Vec<Group> {
     let mut late: BTreeMap<(u64, String), Vec<Case>> = BTreeMap::new();
     for case in resolving {
         let told = case.told();
-        if told.number > TABLE_SHORT {
+        if is_late(told.number) {
             let Case { number, rows, ref source } = *case;
             let name = refusal_name(source, &told);
             late.entry((told.number, name)).or_default().push(Case { number, rows, source: source.clone() });
@@ -39,7 +41,7 @@ pub fn groups(reading: Vec<(String, Case)>, resolving: &[Case]) -> Vec<Group> {
 /// The name of a refusal's group; of refusal 12 its four faults are told apart.
 fn refusal_name(source: &[u8], told: &Told) -> String {
     match told.number {
-        12 => format!("refusal 12, {}", choice_fault(source, told.place)),
+        CHOICE_REFUSAL => format!("refusal {CHOICE_REFUSAL}, {}", choice_fault(source, told.place)),
         number => format!("refusal {number}"),
     }
 }

@@ -1,4 +1,4 @@
-//! Document 01, section "Tokens".
+//! Document 01, section "Tokens", with the words of document 02's W-204.
 
 /// What a token is to the grammar. The order is that of the classes' numbers.
 #[derive(Clone, Copy, PartialEq, Eq, Debug)]
@@ -9,7 +9,8 @@ pub enum Kind {
     Equal, NotEqual, Less, LessEqual, Greater, GreaterEqual, ShiftLeft, ShiftRight,
     Plus, Minus, Star, Slash, Percent,
     // Reserved words, in byte order.
-    And, DefaultFlag, False, Interactive, Not, One, Ones, Or, ReadOnly, ResetRequired, StringToken, True,
+    And, DefaultFlag, DisplayIntDec, DisplayUintDec, DisplayUintHex, False, Interactive, Not, NumericSize1,
+    NumericSize2, NumericSize4, NumericSize8, One, Ones, Or, ReadOnly, ResetRequired, StringToken, True,
     Undefined, Zero, Checkbox, Default, Disableif, Endcheckbox, Endform, Endformset, Endif, Endnumeric,
     Endoneof, Endrule, Flags, Form, Formid, Formset, Goto, Grayoutif, Guid, Help, Label, Maximum,
     Minimum, Name, Numeric, Oneof, Option, Prompt, Questionid, Questionref, Rule, Ruleref, Step,
@@ -138,9 +139,16 @@ fn reserved(word: &[u8]) -> Option<Kind> {
     Some(match word {
         b"AND" => Kind::And,
         b"DEFAULT" => Kind::DefaultFlag,
+        b"DISPLAY_INT_DEC" => Kind::DisplayIntDec,
+        b"DISPLAY_UINT_DEC" => Kind::DisplayUintDec,
+        b"DISPLAY_UINT_HEX" => Kind::DisplayUintHex,
         b"FALSE" => Kind::False,
         b"INTERACTIVE" => Kind::Interactive,
         b"NOT" => Kind::Not,
+        b"NUMERIC_SIZE_1" => Kind::NumericSize1,
+        b"NUMERIC_SIZE_2" => Kind::NumericSize2,
+        b"NUMERIC_SIZE_4" => Kind::NumericSize4,
+        b"NUMERIC_SIZE_8" => Kind::NumericSize8,
         b"ONE" => Kind::One,
         b"ONES" => Kind::Ones,
         b"OR" => Kind::Or,

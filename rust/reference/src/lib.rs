@@ -1,9 +1,10 @@
 //! A plain reader, resolver, quick check and screen for VFR sources, written from document 01 ("VFR sources to rows and
-//! resolved text", with the readings of docs/DECISIONS.md) and document 02's W-201 to W-203, and not from the library.
+//! resolved text", with the readings of docs/DECISIONS.md) and document 02's W-201 to W-204, and not from the library.
 //! The library is compared with it.
 
 #![forbid(unsafe_code)]
 
+mod format;
 mod lexer;
 mod parser;
 mod position;
@@ -23,14 +24,29 @@ pub use walk::{Placed, Walk};
 /// Document 01's longest source and longest resolved text.
 pub const LONGEST: usize = 65_536;
 
-/// The refusals that the quick check gives.
-pub const QUICK_REFUSALS: &[u64] = &[1, 2, 3, 4, 5];
+/// The refusals that the quick check gives, in the order of checking.
+pub const QUICK_REFUSALS: &[u64] = &[1, 2, 3, 4, SECOND_WORD_REFUSAL, RANGE_REFUSAL];
 
-/// The refusals that reading gives.
-pub const READ_REFUSALS: &[u64] = &[1, 2, 3, 4, 5, 6, 7, 8, 9, 10, LOST_REFUSAL, 12, CIRCLE_REFUSAL];
+/// The refusals that reading gives, in the order of checking.
+#[rustfmt::skip]
+pub const READ_REFUSALS: &[u64] = &[
+    1, 2, 3, 4, SECOND_WORD_REFUSAL, RANGE_REFUSAL, TABLE_REFUSAL, 7, 8, 9, 10, LOST_REFUSAL, CHOICE_REFUSAL, CIRCLE_REFUSAL,
+];
+
+/// The refusal of a second size or display in one numeric.
+pub const SECOND_WORD_REFUSAL: u64 = 16;
+
+/// The refusal of a number outside its range, or over the size of its numeric.
+pub const RANGE_REFUSAL: u64 = 5;
+
+/// The refusal of a table that is too short.
+pub const TABLE_REFUSAL: u64 = 6;
 
 /// The refusal of a reference that finds nothing, or a rule of another form alone.
 pub const LOST_REFUSAL: u64 = 11;
+
+/// The refusal of limits, defaults and options that do not go together.
+pub const CHOICE_REFUSAL: u64 = 12;
 
 /// The refusal of a rule that reaches itself through references.
 pub const CIRCLE_REFUSAL: u64 = 14;
@@ -43,7 +59,7 @@ pub const ANSWERS_REFUSAL: u64 = 15;
 pub const BYTES_REFUSAL: u64 = 30;
 
 /// The refusals whose place is always 0 or not in the source, so that they have no line and column.
-pub const PLACELESS_REFUSALS: &[u64] = &[1, 6, TEXT_REFUSAL, ANSWERS_REFUSAL, BYTES_REFUSAL];
+pub const PLACELESS_REFUSALS: &[u64] = &[1, TABLE_REFUSAL, TEXT_REFUSAL, ANSWERS_REFUSAL, BYTES_REFUSAL];
 
 /// A refusal's number and place, the place's line and column, and the need that 6 (rows) and 13 (bytes) tell.
 #[derive(Clone, Copy, PartialEq, Eq, Debug)]
@@ -73,6 +89,14 @@ impl Refusal {
     }
 }
 
+/// The refusal of the first of these stages that has a fault, at its place.
+fn first_fault<const STAGES: usize>(stages: [(u64, Option<usize>); STAGES]) -> Result<(), Refusal> {
+    match stages.into_iter().find_map(|(number, place)| Some((number, place?))) {
+        Some((number, place)) => Err(Refusal::new(number, place)),
+        None => Ok(()),
+    }
+}
+
 /// What an accepted source holds: its rows, and how many question numbers are free.
 #[derive(Clone, PartialEq, Eq, Debug)]
 pub struct Reading {
@@ -99,7 +123,8 @@ fn check_length(source: &[u8]) -> Result<(), Refusal> {
     Ok(())
 }
 
-/// Stages 1 to 5 as one number: the refusal's number times 2^32 plus its place, or 0. Line and column have no part in it.
+/// Stages 1 to 5, with 16 before 5, as one number: the refusal's number times 2^32 plus its place, or 0. Line and column
+/// have no part in it.
 pub fn quick_check(source: &[u8]) -> u64 {
     match check_length(source).and_then(|()| parser::parse(source, &mut Unheard)) {
         Ok(()) => 0,
@@ -112,13 +137,13 @@ pub fn read(source: &[u8], rows_lent: usize) -> Result<Reading, Refusal> {
     read_in_order(source, rows_lent).map_err(|refusal| refusal.located(source))
 }
 
-/// Stages 1 to 12 and 14, without line and column of a refusal.
+/// Stages 1 to 12, 14 and 16, without line and column of a refusal.
 fn read_in_order(source: &[u8], rows_lent: usize) -> Result<Reading, Refusal> {
     check_length(source)?;
     let mut record = record::Record::new();
     parser::parse(source, &mut record)?;
     if record.rows.len() > rows_lent {
-        return Err(Refusal::short(6, record.rows.len()));
+        return Err(Refusal::short(TABLE_REFUSAL, record.rows.len()));
     }
     record.check()?;
     let free = record.finish();

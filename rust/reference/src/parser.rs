@@ -1,8 +1,10 @@
-//! Document 01, section "Grammar": recursive descent over the tokens, with the refusals of stages 2 to 5.
+//! Document 01, section "Grammar": recursive descent over the tokens, with the refusals of stages 2 to 5 and, before 5, of
+//! document 02's 16.
 
+use crate::format::{Display, Format};
 use crate::lexer::{value, Kind, Lexer, Token};
 use crate::row::{code, column, flag, level, row, Row};
-use crate::Refusal;
+use crate::{first_fault, Refusal, RANGE_REFUSAL, SECOND_WORD_REFUSAL};
 use std::ops::RangeInclusive;
 
 const OPEN_CONDITIONS: usize = 16;
@@ -30,7 +32,7 @@ pub trait Events<'a> {
     fn rule(&mut self, _row: usize, _place: usize, _name: &'a [u8], _name_place: usize) {}
     fn reference(&mut self, _target: Target<'a>, _row: usize, _place: usize) {}
     /// A numeric's limits: values with their places.
-    fn limits(&mut self, _minimum: u64, _maximum: At<u64>, _default: Option<At<u64>>) {}
+    fn limits(&mut self, _format: Format, _minimum: u64, _maximum: At<u64>, _default: Option<At<u64>>) {}
     fn oneof(&mut self) {}
     fn option(&mut self, _value: At<u64>, _default: Option<usize>) {}
 }
@@ -61,6 +63,53 @@ impl Head<'_> {
     }
 }
 
+/// A word of FL.
+enum FlagWord {
+    Flag(u64),
+    Size(u32),
+    Display(Display),
+}
+
+impl FlagWord {
+    fn of(kind: Kind) -> Option<Self> {
+        Some(match kind {
+            Kind::ReadOnly => FlagWord::Flag(flag::READ_ONLY),
+            Kind::Interactive => FlagWord::Flag(flag::INTERACTIVE),
+            Kind::ResetRequired => FlagWord::Flag(flag::RESET_REQUIRED),
+            Kind::NumericSize1 => FlagWord::Size(1),
+            Kind::NumericSize2 => FlagWord::Size(2),
+            Kind::NumericSize4 => FlagWord::Size(4),
+            Kind::NumericSize8 => FlagWord::Size(8),
+            Kind::DisplayIntDec => FlagWord::Display(Display::IntDec),
+            Kind::DisplayUintDec => FlagWord::Display(Display::UintDec),
+            Kind::DisplayUintHex => FlagWord::Display(Display::UintHex),
+            _ => return None,
+        })
+    }
+}
+
+/// What FL says: its flags, and the first size and the first display of a numeric's.
+#[derive(Default)]
+struct Flags {
+    bits: u64,
+    size: Option<u32>,
+    display: Option<Display>,
+}
+
+impl Flags {
+    fn format(&self) -> Format {
+        let Format { size, display } = Format::ABSENT;
+        Format { size: self.size.unwrap_or(size), display: self.display.unwrap_or(display) }
+    }
+}
+
+/// Whose FL is read: sizes and displays stand in that of a numeric alone.
+#[derive(Clone, Copy, PartialEq, Eq)]
+enum Question {
+    Numeric,
+    Other,
+}
+
 type Parsed<T> = Result<T, Refusal>;
 
 struct Parser<'a, 'e, E> {
@@ -68,6 +117,8 @@ struct Parser<'a, 'e, E> {
     lexer: Lexer<'a>,
     /// The next token.
     token: Token,
+    /// The first second size or display of a numeric.
+    second_word: Option<usize>,
     /// The first number outside its range.
     out_of_range: Option<usize>,
     /// Grouping parentheses and `NOT`s that are unfinished.
@@ -76,18 +127,22 @@ struct Parser<'a, 'e, E> {
     events: &'e mut E,
 }
 
-/// Stages 2 to 5 over a source; what it holds is told to the events.
+/// Stages 2 to 5 over a source, with 16 between 4 and 5; what it holds is told to the events.
 pub fn parse<'a, E: Events<'a>>(source: &'a [u8], events: &mut E) -> Result<(), Refusal> {
     let mut lexer = Lexer::new(source);
     let token = lexer.next_token();
-    let mut parser = Parser { source, lexer, token, out_of_range: None, open_groups: 0, open_conditions: 0, events };
-    match parser.formset() {
-        Err(refusal) => Err(parser.bad_token().unwrap_or(refusal)),
-        Ok(()) => match parser.out_of_range {
-            Some(place) => Err(Refusal::new(5, place)),
-            None => Ok(()),
-        },
-    }
+    let mut parser = Parser {
+        source,
+        lexer,
+        token,
+        second_word: None,
+        out_of_range: None,
+        open_groups: 0,
+        open_conditions: 0,
+        events,
+    };
+    parser.formset().map_err(|refusal| parser.bad_token().unwrap_or(refusal))?;
+    first_fault([(SECOND_WORD_REFUSAL, parser.second_word), (RANGE_REFUSAL, parser.out_of_range)])
 }
 
 impl<'a, E: Events<'a>> Parser<'a, '_, E> {
@@ -323,7 +378,7 @@ impl<'a, E: Events<'a>> Parser<'a, '_, E> {
         cells[column::A] = target.value;
         if self.maybe(Kind::Comma) {
             self.all(&[Kind::Flags, Kind::Equals])?;
-            cells[column::FLAGS] = self.flag_list()?;
+            cells[column::FLAGS] = self.flag_list(Question::Other)?.bits;
         }
         self.one(Kind::Semicolon)?;
         let row = self.question(cells, &head);
@@ -335,7 +390,7 @@ impl<'a, E: Events<'a>> Parser<'a, '_, E> {
         let place = self.advance().start;
         let head = self.head_and_comma()?;
         let mut cells = head.row(code::CHECKBOX, parent, place);
-        cells[column::FLAGS] = self.flags()?;
+        cells[column::FLAGS] = self.flags(Question::Other)?.bits;
         if self.maybe(Kind::Default) {
             self.one(Kind::Equals)?;
             cells[column::FLAGS] |= flag::WRITTEN_DEFAULT;
@@ -356,12 +411,15 @@ impl<'a, E: Events<'a>> Parser<'a, '_, E> {
         let place = self.advance().start;
         let head = self.head_and_comma()?;
         let mut cells = head.row(code::NUMERIC, parent, place);
-        cells[column::FLAGS] = self.flags()?;
-        let Some(minimum) = self.setting(Kind::Minimum)? else { return self.unexpected() };
-        let Some(maximum) = self.setting(Kind::Maximum)? else { return self.unexpected() };
-        let step = self.setting(Kind::Step)?;
-        let default = self.setting(Kind::Default)?;
+        let flags = self.flags(Question::Numeric)?;
+        let format = flags.format();
+        let Some(minimum) = self.setting(Kind::Minimum, format)? else { return self.unexpected() };
+        let Some(maximum) = self.setting(Kind::Maximum, format)? else { return self.unexpected() };
+        let step = self.setting(Kind::Step, format)?;
+        let default = self.setting(Kind::Default, format)?;
         self.all(&[Kind::Endnumeric, Kind::Semicolon])?;
+        cells[column::FLAGS] = flags.bits;
+        cells[column::SIZE] = format.cell();
         cells[column::A] = minimum.value;
         cells[column::B] = maximum.value;
         cells[column::C] = step.map_or(0, |step| step.value);
@@ -370,17 +428,17 @@ impl<'a, E: Events<'a>> Parser<'a, '_, E> {
             cells[column::FLAGS] |= flag::WRITTEN_DEFAULT;
         }
         self.question(cells, &head);
-        self.events.limits(minimum.value, maximum, default);
+        self.events.limits(format, minimum.value, maximum, default);
         Ok(())
     }
 
-    /// A word, `=`, N and `,`; or nothing, where the word is absent.
-    fn setting(&mut self, word: Kind) -> Parsed<Option<At<u64>>> {
+    /// A word, `=`, N that fits a numeric's size and `,`; or nothing, where the word is absent.
+    fn setting(&mut self, word: Kind, format: Format) -> Parsed<Option<At<u64>>> {
         if !self.maybe(word) {
             return Ok(None);
         }
         self.one(Kind::Equals)?;
-        let number = self.number(ANY)?;
+        let number = self.number(format.range())?;
         self.one(Kind::Comma)?;
         Ok(Some(number))
     }
@@ -389,7 +447,7 @@ impl<'a, E: Events<'a>> Parser<'a, '_, E> {
         let place = self.advance().start;
         let head = self.head_and_comma()?;
         let mut cells = head.row(code::ONEOF, parent, place);
-        cells[column::FLAGS] = self.flags()?;
+        cells[column::FLAGS] = self.flags(Question::Other)?.bits;
         let oneof = self.question(cells, &head);
         self.events.oneof();
         self.option(oneof)?;
@@ -463,30 +521,41 @@ impl<'a, E: Events<'a>> Parser<'a, '_, E> {
     }
 
     /// [`flags =` FL `,`].
-    fn flags(&mut self) -> Parsed<u64> {
+    fn flags(&mut self, question: Question) -> Parsed<Flags> {
         if !self.maybe(Kind::Flags) {
-            return Ok(0);
+            return Ok(Flags::default());
         }
         self.one(Kind::Equals)?;
-        let flags = self.flag_list()?;
+        let flags = self.flag_list(question)?;
         self.one(Kind::Comma)?;
         Ok(flags)
     }
 
     /// FL.
-    fn flag_list(&mut self) -> Parsed<u64> {
-        let mut flags = 0;
+    fn flag_list(&mut self, question: Question) -> Parsed<Flags> {
+        let mut flags = Flags::default();
         loop {
-            flags |= match self.token.kind {
-                Kind::ReadOnly => flag::READ_ONLY,
-                Kind::Interactive => flag::INTERACTIVE,
-                Kind::ResetRequired => flag::RESET_REQUIRED,
+            match FlagWord::of(self.token.kind) {
+                Some(FlagWord::Flag(bit)) => flags.bits |= bit,
+                Some(FlagWord::Size(size)) if question == Question::Numeric => self.once(&mut flags.size, size),
+                Some(FlagWord::Display(display)) if question == Question::Numeric => {
+                    self.once(&mut flags.display, display)
+                }
                 _ => return self.unexpected(),
-            };
+            }
             self.advance();
             if !self.maybe(Kind::Bar) {
                 return Ok(flags);
             }
+        }
+    }
+
+    /// Keeps what the next token means; where a word of its sort was kept before, this one is a second.
+    fn once<T>(&mut self, kept: &mut Option<T>, meaning: T) {
+        if kept.is_some() {
+            self.second_word.get_or_insert(self.token.start);
+        } else {
+            *kept = Some(meaning);
         }
     }
 

@@ -1,9 +1,10 @@
 //! Rows as they come, and stages 7 to 12 and 14 over what the parser tells.
 
+use crate::format::Format;
 use crate::parser::{At, Events, Head, Target};
 use crate::row::{column, Row};
 use crate::rules::{step, Graph, Step};
-use crate::{Refusal, CIRCLE_REFUSAL, LOST_REFUSAL};
+use crate::{first_fault, Refusal, CHOICE_REFUSAL, CIRCLE_REFUSAL, LOST_REFUSAL};
 use std::collections::{HashMap, HashSet};
 use std::hash::{BuildHasherDefault, Hasher};
 
@@ -112,18 +113,14 @@ impl<'a> Record<'a> {
 
     /// Stages 7 to 12.
     pub fn check(&self) -> Result<(), Refusal> {
-        let stages = [
+        first_fault([
             (7, self.faults.form),
             (8, self.faults.number),
             (9, self.faults.name),
             (10, self.faults.rule),
             (LOST_REFUSAL, self.lost_reference()),
-            (12, self.faults.choice),
-        ];
-        match stages.into_iter().find_map(|(number, place)| Some((number, place?))) {
-            Some((number, place)) => Err(Refusal::new(number, place)),
-            None => Ok(()),
-        }
+            (CHOICE_REFUSAL, self.faults.choice),
+        ])
     }
 
     /// Stage 11. A rule serves its own form alone (document 02, W-203); forms and questions serve the form set.
@@ -169,10 +166,8 @@ impl<'a> Record<'a> {
         let components = Graph::of(&self.rows).components();
         let on_circle = |Step { from, to }: Step| components[from] == components[to];
         let in_circle = |reference: &&Reference| step(&self.rows, reference.row).is_some_and(on_circle);
-        match self.references.iter().find(in_circle) {
-            Some(reference) => Err(Refusal::new(CIRCLE_REFUSAL, reference.place)),
-            None => Ok(()),
-        }
+        let step = self.references.iter().find(in_circle);
+        first_fault([(CIRCLE_REFUSAL, step.map(|reference| reference.place))])
     }
 }
 
@@ -219,12 +214,14 @@ impl<'a> Events<'a> for Record<'a> {
         self.references.push(Reference { target, form: self.form, row, place });
     }
 
-    fn limits(&mut self, minimum: u64, maximum: At<u64>, default: Option<At<u64>>) {
-        if maximum.value < minimum {
+    /// Compares what the numbers stand for.
+    fn limits(&mut self, format: Format, minimum: u64, maximum: At<u64>, default: Option<At<u64>>) {
+        let meaning = |number| format.meaning(number);
+        if meaning(maximum.value) < meaning(minimum) {
             self.faults.choice.get_or_insert(maximum.place);
         }
         if let Some(default) = default {
-            if !(minimum..=maximum.value).contains(&default.value) {
+            if !(meaning(minimum)..=meaning(maximum.value)).contains(&meaning(default.value)) {
                 self.faults.choice.get_or_insert(default.place);
             }
         }

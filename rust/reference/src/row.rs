@@ -1,7 +1,7 @@
-//! Document 01, section "Rows": columns and codes.
+//! Document 01, section "Rows": columns and codes; the last column is that of document 02's W-204.
 
 /// How many numbers a row has.
-pub const ROW: usize = 12;
+pub const ROW: usize = 13;
 
 pub type Row = [u64; ROW];
 
@@ -19,6 +19,8 @@ pub mod column {
     pub const D: usize = 9;
     pub const NAME: usize = 10;
     pub const PLACE: usize = 11;
+    /// Of a numeric: its size times 4 plus its display.
+    pub const SIZE: usize = 12;
 }
 
 pub mod code {

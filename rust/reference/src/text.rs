@@ -1,5 +1,6 @@
 //! Document 01, section "Resolved text": the text of finished rows.
 
+use crate::format::Format;
 use crate::row::{code, column, flag, level, Row};
 
 /// The resolved text of an accepted source's rows.
@@ -144,23 +145,18 @@ impl Printer<'_> {
     }
 
     /// `flags = FL`, if there are any; answers that.
-    fn flags(&mut self, flags: u64) -> bool {
-        let names = [
-            (flag::READ_ONLY, "READ_ONLY"),
-            (flag::INTERACTIVE, "INTERACTIVE"),
-            (flag::RESET_REQUIRED, "RESET_REQUIRED"),
-        ];
-        let set: Vec<&str> = names.iter().filter(|(bit, _)| flags & bit != 0).map(|(_, name)| *name).collect();
-        if !set.is_empty() {
-            self.tokens(&["flags", "=", &set.join(" | ")]);
+    fn flags(&mut self, row: &Row) -> bool {
+        let words = flag_words(row);
+        if !words.is_empty() {
+            self.tokens(&["flags", "=", &words.join(" | ")]);
         }
-        !set.is_empty()
+        !words.is_empty()
     }
 
     fn head_and_flags(&mut self, row: &Row) {
         self.head(row);
         self.token(",");
-        if self.flags(row[column::FLAGS]) {
+        if self.flags(row) {
             self.token(",");
         }
     }
@@ -172,7 +168,7 @@ impl Printer<'_> {
         self.head(row);
         let before = self.text.len();
         self.token(",");
-        if !self.flags(row[column::FLAGS]) {
+        if !self.flags(row) {
             self.text.truncate(before);
         }
         self.end_line();
@@ -305,6 +301,15 @@ impl Printer<'_> {
             _ => self.tokens(&["ruleref", "(", &format!("R{value}"), ")"]),
         }
     }
+}
+
+/// The words of a question's FL; a numeric has its size and display always.
+fn flag_words(row: &Row) -> Vec<String> {
+    let names =
+        [(flag::READ_ONLY, "READ_ONLY"), (flag::INTERACTIVE, "INTERACTIVE"), (flag::RESET_REQUIRED, "RESET_REQUIRED")];
+    let set = names.iter().filter(|(bit, _)| row[column::FLAGS] & bit != 0).map(|(_, name)| name.to_string());
+    let format = (row[column::CODE] == code::NUMERIC).then(|| Format::of_cell(row[column::SIZE]).words());
+    set.chain(format.into_iter().flatten()).collect()
 }
 
 fn operand(work: &mut Vec<Work>, at: usize, grouped: bool) {

@@ -251,6 +251,7 @@ fn refusals_on_later_lines() {
         (10, &rules, 258, 1),
         (11, "rule A,ruleref(\n B) endrule;", 4, 2),
         (12, "numeric P,minimum=5,\n\n maximum= 4,endnumeric;", 5, 11),
+        (16, "numeric P,flags=NUMERIC_SIZE_1|\n  NUMERIC_SIZE_1,minimum=0,maximum=1,endnumeric;", 4, 3),
     ];
     for (number, items, line, column) in cases {
         let source = framed(&format!("// \u{e9}\r\n\r \n\t{items}"));
@@ -272,11 +273,12 @@ fn classes() {
     let class_of = |word: &str| Lexer::new(word.as_bytes()).next_token().kind.class();
     let signs = "{ } ( ) , ; = | & == != < <= > >= << >> + - * / %";
     assert!(signs.split(' ').map(class_of).eq(0..22));
-    let words = "AND DEFAULT FALSE INTERACTIVE NOT ONE ONES OR READ_ONLY RESET_REQUIRED STRING_TOKEN TRUE UNDEFINED ZERO \
-                 checkbox default disableif endcheckbox endform endformset endif endnumeric endoneof endrule flags form \
+    let words = "AND DEFAULT DISPLAY_INT_DEC DISPLAY_UINT_DEC DISPLAY_UINT_HEX FALSE INTERACTIVE NOT NUMERIC_SIZE_1 \
+                 NUMERIC_SIZE_2 NUMERIC_SIZE_4 NUMERIC_SIZE_8 ONE ONES OR READ_ONLY RESET_REQUIRED STRING_TOKEN TRUE \
+                 UNDEFINED ZERO checkbox default disableif endcheckbox endform endformset endif endnumeric endoneof endrule flags form \
                  formid formset goto grayoutif guid help label maximum minimum name numeric oneof option prompt questionid \
                  questionref rule ruleref step subtitle suppressif text title value";
     assert!(words.split(' ').is_sorted());
-    assert!(words.split(' ').map(class_of).eq(22..72));
-    assert!(["a", "0x1", "1", "@", ""].into_iter().map(class_of).eq(72..77));
+    assert!(words.split(' ').map(class_of).eq(22..79));
+    assert!(["a", "0x1", "1", "@", ""].into_iter().map(class_of).eq(79..84));
 }

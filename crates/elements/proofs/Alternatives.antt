@@ -7,22 +7,25 @@ use mathlib.Core.List.{List, [], _∷_}
 use mathlib.Core.Option.{none, some}
 use mathlib.Core.Logic.{_⊎_, _≢_}
 use native.Mathlib.Omega.{arith}
-use Rattle.lexemes.specs.Classes.{open-paren, close-paren, comma, «=», «STRING_TOKEN», «default», «flags», «help», «name», «prompt», «questionid», «step», NAME, BAD}
+use Rattle.lexemes.specs.Classes.{open-paren, close-paren, comma, «=», «STRING_TOKEN», NAME, BAD}
+use Rattle.lexemes.specs.Classes.{«default», «flags», «help», «name», «prompt», «questionid», «step»}
 use Rattle.ll1.specs.Trees.{Trees, Symbol, alternativeOf}
 use Rattle.ll1.specs.ParseTable.{entryOf, predict, nullable}
 use Rattle.ll1.proofs.Lookups.{find-one, find-none, member-not}
 use Rattle.grammar.specs.Rules.{<eight>, <H2>, <str>, <id>, <small>, <goto-flags>?, <flags>?}
-use Rattle.grammar.specs.Rules.{<truth-default>?, <truth>, <step>?, <number-default>?, <head>, <name>?, <questionid>?, <fl>, <numeric-flags>?, <numeric-fl>, <numeric-value>}
+use Rattle.grammar.specs.Rules.{<truth-default>?, <truth>, <step>?, <number-default>?, <head>, <name>?, <questionid>?, <fl>}
+use Rattle.grammar.specs.Rules.{<numeric-flags>?, <numeric-fl>, <numeric-value>}
 use Rattle.grammar.specs.Grammar.{rules}
 use Rattle.grammar.specs.Notation.{t, r, plain}
 use Rattle.grammar.specs.Lookahead.{lookahead}
-use Rattle.grammar.specs.Ranges.{free, rangeOf}
+use Rattle.grammar.specs.Ranges.{rangeOf, keeps, outOfRangeHere, secondsHere}
 use Rattle.elements.specs.Entries.{nodeEntries}
+use Rattle.elements.specs.Marks.{faultsHere}
 
--- a rule that keeps what its parts keep and has no range
+-- a rule that keeps what its parts keep and has no faults of its own
 pub record Plain (A : ℕ) : Type 0 where
   pub keeps-parts : (i : ℕ) (c : Trees) (es : List ℕ) → nodeEntries A i c es ≡ es
-  pub no-range : rangeOf A ≡ free
+  pub no-faults : (s : List ℕ) (i : ℕ) (c : Trees) → faultsHere s A i c ≡ []
 
 -- rule A has one alternative
 pub record Single (A : ℕ) (α : List Symbol) : Type 0 where
@@ -41,16 +44,22 @@ pub record Optional (A k : ℕ) (β : List Symbol) : Type 0 where
   pub tells : predict lookahead A k ≡ some 1
   pub alone : (j : ℕ) → j ≢ k → predict lookahead A j ≡ none
 
--- ---- rules that keep what their parts keep and have no range
+-- ---- rules that keep what their parts keep and have no faults of their own
 
-module _ (A : ℕ) (parts : (i : ℕ) (c : Trees) (es : List ℕ) → nodeEntries A i c es ≡ es) (no-range : rangeOf A ≡ free) where
-  single : {f : List ℕ} {x : Symbol} {β : List Symbol} → nullable rules A ≡ false → alternativeOf rules A 0 ≡ some (plain (x ∷ β)) → entryOf lookahead A .firsts ≡ f ∷ [] → Single A (x ∷ β)
-  single {f} n a e = record { plainly = record { keeps-parts = parts; no-range = no-range }; full = n; only = a; told = λ k. rw e (find-one f k) }
+module _ (A : ℕ) (parts : (i : ℕ) (c : Trees) (es : List ℕ) → nodeEntries A i c es ≡ es)
+    (none : (s : List ℕ) (i : ℕ) (c : Trees) → faultsHere s A i c ≡ []) where
+  single :
+      {f : List ℕ} {x : Symbol} {β : List Symbol}
+      → nullable rules A ≡ false → alternativeOf rules A 0 ≡ some (plain (x ∷ β)) → entryOf lookahead A .firsts ≡ f ∷ [] → Single A (x ∷ β)
+  single {f} n a e = record { plainly = record { keeps-parts = parts; no-faults = none }; full = n; only = a; told = λ k. rw e (find-one f k) }
 
-  optional : {k : ℕ} {β : List Symbol} → k < BAD → nullable rules A ≡ true → alternativeOf rules A 0 ≡ some (plain []) → alternativeOf rules A 1 ≡ some (plain (t k ∷ β)) → predict lookahead A k ≡ some 1 → entryOf lookahead A .firsts ≡ [] ∷ (k ∷ []) ∷ [] → Optional A k β
+  optional :
+      {k : ℕ} {β : List Symbol}
+      → k < BAD → nullable rules A ≡ true → alternativeOf rules A 0 ≡ some (plain []) → alternativeOf rules A 1 ≡ some (plain (t k ∷ β))
+      → predict lookahead A k ≡ some 1 → entryOf lookahead A .firsts ≡ [] ∷ (k ∷ []) ∷ [] → Optional A k β
   optional {k} h n a b p e =
       record {
-        plainly = record { keeps-parts = parts; no-range = no-range };
+        plainly = record { keeps-parts = parts; no-faults = none };
         known = h;
         empty = n;
         absent = a;
@@ -61,47 +70,47 @@ module _ (A : ℕ) (parts : (i : ℕ) (c : Trees) (es : List ℕ) → nodeEntrie
 
 -- STR: STRING_TOKEN ( N )
 pub in-str : Single <str> (t «STRING_TOKEN» ∷ t open-paren ∷ r <small> ∷ t close-paren ∷ [])
-unfolding rules lookahead nodeEntries rangeOf
-in-str = single <str> (λ i c es. refl) refl refl refl refl
+unfolding rules lookahead nodeEntries faultsHere secondsHere outOfRangeHere rangeOf keeps
+in-str = single <str> (λ i c es. refl) (λ s i c. refl) refl refl refl
 
 -- HEAD: [name = NAME ,] [questionid = N ,] prompt = STR , help = STR
 pub in-head : Single <head> (r <name>? ∷ r <questionid>? ∷ t «prompt» ∷ t «=» ∷ r <str> ∷ t comma ∷ t «help» ∷ t «=» ∷ r <str> ∷ [])
-unfolding rules lookahead nodeEntries rangeOf
-in-head = single <head> (λ i c es. refl) refl refl refl refl
+unfolding rules lookahead nodeEntries faultsHere secondsHere outOfRangeHere rangeOf keeps
+in-head = single <head> (λ i c es. refl) (λ s i c. refl) refl refl refl
 
 -- eight H2 with commas between
 pub in-eight : Single <eight> (r <H2> ∷ t comma ∷ r <H2> ∷ t comma ∷ r <H2> ∷ t comma ∷ r <H2> ∷ t comma ∷ r <H2> ∷ t comma ∷ r <H2> ∷ t comma ∷ r <H2> ∷ t comma ∷ r <H2> ∷ [])
-unfolding rules lookahead nodeEntries rangeOf
-in-eight = single <eight> (λ i c es. refl) refl refl refl refl
+unfolding rules lookahead nodeEntries faultsHere secondsHere outOfRangeHere rangeOf keeps
+in-eight = single <eight> (λ i c es. refl) (λ s i c. refl) refl refl refl
 
 pub maybe-name : Optional <name>? «name» (t «=» ∷ t NAME ∷ t comma ∷ [])
-unfolding rules lookahead nodeEntries rangeOf
-maybe-name = optional <name>? (λ i c es. refl) refl (omega arith) refl refl refl refl refl
+unfolding rules lookahead nodeEntries faultsHere secondsHere outOfRangeHere rangeOf keeps
+maybe-name = optional <name>? (λ i c es. refl) (λ s i c. refl) (omega arith) refl refl refl refl refl
 
 pub maybe-questionid : Optional <questionid>? «questionid» (t «=» ∷ r <id> ∷ t comma ∷ [])
-unfolding rules lookahead nodeEntries rangeOf
-maybe-questionid = optional <questionid>? (λ i c es. refl) refl (omega arith) refl refl refl refl refl
+unfolding rules lookahead nodeEntries faultsHere secondsHere outOfRangeHere rangeOf keeps
+maybe-questionid = optional <questionid>? (λ i c es. refl) (λ s i c. refl) (omega arith) refl refl refl refl refl
 
 pub maybe-goto-flags : Optional <goto-flags>? comma (t «flags» ∷ t «=» ∷ r <fl> ∷ [])
-unfolding rules lookahead nodeEntries rangeOf
-maybe-goto-flags = optional <goto-flags>? (λ i c es. refl) refl (omega arith) refl refl refl refl refl
+unfolding rules lookahead nodeEntries faultsHere secondsHere outOfRangeHere rangeOf keeps
+maybe-goto-flags = optional <goto-flags>? (λ i c es. refl) (λ s i c. refl) (omega arith) refl refl refl refl refl
 
 pub maybe-flags : Optional <flags>? «flags» (t «=» ∷ r <fl> ∷ t comma ∷ [])
-unfolding rules lookahead nodeEntries rangeOf
-maybe-flags = optional <flags>? (λ i c es. refl) refl (omega arith) refl refl refl refl refl
+unfolding rules lookahead nodeEntries faultsHere secondsHere outOfRangeHere rangeOf keeps
+maybe-flags = optional <flags>? (λ i c es. refl) (λ s i c. refl) (omega arith) refl refl refl refl refl
 
 pub maybe-numeric-flags : Optional <numeric-flags>? «flags» (t «=» ∷ r <numeric-fl> ∷ t comma ∷ [])
-unfolding rules lookahead nodeEntries rangeOf
-maybe-numeric-flags = optional <numeric-flags>? (λ i c es. refl) refl (omega arith) refl refl refl refl refl
+unfolding rules lookahead nodeEntries faultsHere secondsHere outOfRangeHere rangeOf keeps
+maybe-numeric-flags = optional <numeric-flags>? (λ i c es. refl) (λ s i c. refl) (omega arith) refl refl refl refl refl
 
 pub maybe-truth : Optional <truth-default>? «default» (t «=» ∷ r <truth> ∷ t comma ∷ [])
-unfolding rules lookahead nodeEntries rangeOf
-maybe-truth = optional <truth-default>? (λ i c es. refl) refl (omega arith) refl refl refl refl refl
+unfolding rules lookahead nodeEntries faultsHere secondsHere outOfRangeHere rangeOf keeps
+maybe-truth = optional <truth-default>? (λ i c es. refl) (λ s i c. refl) (omega arith) refl refl refl refl refl
 
 pub maybe-step : Optional <step>? «step» (t «=» ∷ r <numeric-value> ∷ t comma ∷ [])
-unfolding rules lookahead nodeEntries rangeOf
-maybe-step = optional <step>? (λ i c es. refl) refl (omega arith) refl refl refl refl refl
+unfolding rules lookahead nodeEntries faultsHere secondsHere outOfRangeHere rangeOf keeps
+maybe-step = optional <step>? (λ i c es. refl) (λ s i c. refl) (omega arith) refl refl refl refl refl
 
 pub maybe-default : Optional <number-default>? «default» (t «=» ∷ r <numeric-value> ∷ t comma ∷ [])
-unfolding rules lookahead nodeEntries rangeOf
-maybe-default = optional <number-default>? (λ i c es. refl) refl (omega arith) refl refl refl refl refl
+unfolding rules lookahead nodeEntries faultsHere secondsHere outOfRangeHere rangeOf keeps
+maybe-default = optional <number-default>? (λ i c es. refl) (λ s i c. refl) (omega arith) refl refl refl refl refl

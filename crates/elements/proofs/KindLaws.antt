@@ -15,8 +15,11 @@ use Rattle.ll1.specs.Test.{all}
 use Rattle.ll1.proofs.Basics.{either, all-member}
 use Rattle.grammar.specs.Ranges.{Range, free, keeps}
 use Rattle.grammar.specs.Parts.{when}
-use Rattle.elements.specs.Kinds.{ID, SMALL, LARGE, NUMERIC-VALUE, OPTION-FLAGS, REFERENCE, TRUTH, FLAG-LIST, NUMERIC-FLAGS, H8, H4, H2}
-use Rattle.elements.specs.Kinds.{numbers, flagClasses, isFlagList, startsOf, isKept, elementRange}
+use Rattle.rows.specs.Flags.{READ-ONLY, INTERACTIVE, RESET-REQUIRED}
+use Rattle.elements.specs.declared.flags.Words.{Words}
+use Rattle.elements.specs.Words.{bitsOf}
+use Rattle.elements.specs.Kinds.{ID, SMALL, LARGE, OPTION-FLAGS, REFERENCE, TRUTH, FLAG-LIST, NUMERIC-FLAGS, H8, H4, H2}
+use Rattle.elements.specs.Kinds.{numbers, flagClasses, numericClasses, isFlagList, startsOf, isKept, elementRange}
 
 eqb-sym : (a b : ℕ) → eqb a b ≡ eqb b a
 eqb-sym a b = by (ℕ-discrete a b)
@@ -25,15 +28,18 @@ eqb-sym a b = by (ℕ-discrete a b)
     by (yes e) = eq-eqb a b e ∙ sym (eq-eqb b a (sym e))
     by (no h) = ne-eqb a b h ∙ sym (ne-eqb b a (λ e. h (sym e)))
 
--- a class of one, two or three
-pub of-one : (k a : ℕ) → eqb k a ≡ member k (a ∷ [])
-of-one k a = rw (or-false (eqb a k)) (eqb-sym k a)
+-- the code's tests whether k is one of some classes, after those that gave b
+abbrev tests : Bool → ℕ → List ℕ → Bool
+tests b k [] = b
+tests b k (a ∷ l) = tests (b || eqb k a) k l
 
-pub of-two : (k a b : ℕ) → eqb k a || eqb k b ≡ member k (a ∷ b ∷ [])
-of-two k a b = rw (eqb-sym k a, eqb-sym k b, or-false (eqb b k))
+tests-are : (b : Bool) (k : ℕ) (l : List ℕ) → tests b k l ≡ b || member k l
+tests-are b k [] = sym (or-false b)
+tests-are b k (a ∷ l) = tests-are (b || eqb k a) k l ∙ rw (or-assoc b (eqb k a) (member k l), eqb-sym k a)
 
-pub of-three : (k a b c : ℕ) → eqb k a || eqb k b || eqb k c ≡ member k (a ∷ b ∷ c ∷ [])
-of-three k a b c = rw (eqb-sym k a, eqb-sym k b, eqb-sym k c, or-false (eqb c k)) (or-assoc (eqb a k) (eqb b k) (eqb c k))
+-- a class of one or more
+pub one-of : (k a : ℕ) (l : List ℕ) → tests (eqb k a) k l ≡ member k (a ∷ l)
+one-of k a l = tests-are (eqb k a) k l ∙ rw (eqb-sym k a)
 
 pub number-or : (k a : ℕ) → member k numbers || eqb k a ≡ member k (DECIMAL ∷ HEX ∷ a ∷ [])
 number-or k a = rw (eqb-sym k a, or-false (eqb HEX k), or-false (eqb a k)) (or-assoc (eqb DECIMAL k) (eqb HEX k) (eqb a k))
@@ -60,11 +66,11 @@ module _ (e : ℕ) where
 
   -- no number
   pub range-free :
-      (k : ℕ) → e ≢ ID → e ≢ SMALL → e ≢ LARGE → e ≢ NUMERIC-VALUE → e ≢ OPTION-FLAGS → e ≢ REFERENCE → e ≢ H8 → e ≢ H4 → e ≢ H2
+      (k : ℕ) → e ≢ ID → e ≢ SMALL → e ≢ LARGE → e ≢ OPTION-FLAGS → e ≢ REFERENCE → e ≢ H8 → e ≢ H4 → e ≢ H2
       → elementRange e k ≡ free
   unfolding elementRange
-  range-free k a b c v d f g h i =
-      rw (ne-eqb e ID a, ne-eqb e SMALL b, ne-eqb e LARGE c, ne-eqb e NUMERIC-VALUE v, ne-eqb e OPTION-FLAGS d)
+  range-free k a b c d f g h i =
+      rw (ne-eqb e ID a, ne-eqb e SMALL b, ne-eqb e LARGE c, ne-eqb e OPTION-FLAGS d)
       (rw (ne-eqb e REFERENCE f, ne-eqb e H8 g, ne-eqb e H4 h, ne-eqb e H2 i))
 
 -- a word, or a number in its range
@@ -78,6 +84,9 @@ word-or s false range p = refl
 pub when-le : (b : Bool) (n : ℕ) → when b n ≤ n
 when-le true n = omega arith
 when-le false n = omega arith
+
+pub bits-low : (w : Words) → bitsOf w < 32
+bits-low w = omega (arith, when-le (w .readonly) READ-ONLY, when-le (w .interactive) INTERACTIVE, when-le (w .reset) RESET-REQUIRED)
 
 -- ---- a sign or a reserved word keeps nothing, and is no list
 
@@ -93,7 +102,7 @@ not-list k h = rw (ne-eqb k FLAG-LIST (λ e. omega arith)) (ne-eqb k NUMERIC-FLA
 abbrev starts-by : (a b c d e f : Bool) → List ℕ
 starts-by a b c d e f =
     cond a numbers (cond b (DECIMAL ∷ HEX ∷ «DEFAULT» ∷ [])
-    (cond c (NAME ∷ numbers) (cond d («TRUE» ∷ «FALSE» ∷ []) (cond e flagClasses (cond f flagClasses (HEX ∷ []))))))
+    (cond c (NAME ∷ numbers) (cond d («TRUE» ∷ «FALSE» ∷ []) (cond e flagClasses (cond f numericClasses (HEX ∷ []))))))
 
 abbrev below : List ℕ → Bool
 below l = all (λ k. ltb k BAD) l

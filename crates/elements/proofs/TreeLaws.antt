@@ -1,12 +1,13 @@
--- What a tree of a rule keeps, and its numbers out of their range.
+-- What a tree of a rule keeps, and its faults.
 -- Assumes nothing.
 use Prim.Native.Nat.{ℕ}
 use mathlib.Core.Path.{_≡_, refl}
-use mathlib.Core.List.{List, _∷_, _++_}
+use mathlib.Core.List.{List, [], _∷_, _++_}
 use Rattle.ll1.specs.Trees.{Trees, node, Symbol, Fits, fits-leaf, fits-node}
 use Rattle.grammar.specs.Grammar.{rules}
-use Rattle.grammar.specs.Ranges.{free, rangeOf, keeps, outOfRange}
+use Rattle.grammar.specs.Ranges.{gathered}
 use Rattle.elements.specs.Entries.{nodeEntries, entries}
+use Rattle.elements.specs.Marks.{faultsHere, faults}
 
 -- a tree that is not empty keeps what its rule says
 pub entries-node : (A i : ℕ) {x : Symbol} {β : List Symbol} {c : Trees} (f : Trees) → Fits rules (x ∷ β) c → entries (node A i c f) ≡ nodeEntries A i c (entries c) ++ entries f
@@ -14,7 +15,7 @@ unfolding entries
 entries-node A i f (fits-leaf h) = refl
 entries-node A i f (fits-node e h₁ h₂) = refl
 
--- a rule without a range
-pub out-node : (s : List ℕ) (A i : ℕ) (c f : Trees) → rangeOf A ≡ free → outOfRange s (node A i c f) ≡ outOfRange s c ++ outOfRange s f
-unfolding outOfRange keeps
-out-node s A i c f e = rw (e, keeps)
+-- a tree without faults of its own
+pub faults-node : (s : List ℕ) (A i : ℕ) (c f : Trees) → faultsHere s A i c ≡ [] → faults s (node A i c f) ≡ faults s c ++ faults s f
+unfolding faults gathered
+faults-node s A i c f e = rw e

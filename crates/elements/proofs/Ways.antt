@@ -3,7 +3,7 @@
 use Prim.Native.Nat.{ℕ, _≤_, _<_}
 use mathlib.Core.Path.{_≡_, refl, ap, _∙_, subst}
 use mathlib.Core.Bool.{Bool, true, false, cond}
-use mathlib.Core.List.{List, [], _∷_, _++_}
+use mathlib.Core.List.{List, [], _∷_, _++_, map}
 use mathlib.Core.Option.{none, some}
 use mathlib.Core.Logic.{_⊎_, inl, inr}
 use native.Mathlib.Omega.{arith}
@@ -22,9 +22,9 @@ use Rattle.grammar.specs.Notation.{t, r, plain}
 use Rattle.grammar.specs.Lookahead.{lookahead}
 use Rattle.grammar.specs.Derivation.{tooDeep}
 use Rattle.grammar.specs.Reading.{verdictFrom}
-use Rattle.grammar.specs.Ranges.{Range, free, keeps, outOfRange}
+use Rattle.grammar.specs.Ranges.{Range, free, keeps, outOf, gathered}
 use Rattle.grammar.proofs.Equations.{verdict-take, verdict-miss, verdict-ends, verdict-none, verdict-ends-rule, verdict-in}
-use Rattle.elements.specs.Marks.{outOf}
+use Rattle.elements.specs.Marks.{outside, faults}
 use Rattle.elements.specs.Entries.{entries}
 use Rattle.elements.specs.Kinds.{REFERENCE, MAYBE, isFlagList, startsOf, isKept, elementRange, elementEntry, referenceEntries, elementEntries}
 
@@ -64,15 +64,19 @@ pub record Taken (x : Symbol) (k : ℕ) (es : ℕ → List ℕ) (range : Range) 
   pub below : k < BAD
   pub way : Way x k
   pub entries-are : (p : ℕ) (f : Trees) → entries (way .tree p f) ≡ es p ++ entries f
-  pub out-are : (s : List ℕ) (p : ℕ) (f : Trees) → outOfRange s (way .tree p f) ≡ outOf s range p ++ outOfRange s f
+  pub faults-are : (s : List ℕ) (p : ℕ) (f : Trees) → faults s (way .tree p f) ≡ map outside (outOf s range (p ∷ [])) ++ faults s f
 
-pub taken : {x : Symbol} {k : ℕ} {es : ℕ → List ℕ} {range : Range} → k < BAD → (w : Way x k) → ((p : ℕ) (f : Trees) → entries (w .tree p f) ≡ es p ++ entries f) → ((s : List ℕ) (p : ℕ) (f : Trees) → outOfRange s (w .tree p f) ≡ outOf s range p ++ outOfRange s f) → Taken x k es range
-taken h w e o = record { below = h; way = w; entries-are = e; out-are = o }
+pub taken :
+    {x : Symbol} {k : ℕ} {es : ℕ → List ℕ} {range : Range}
+    → k < BAD → (w : Way x k) → ((p : ℕ) (f : Trees) → entries (w .tree p f) ≡ es p ++ entries f)
+    → ((s : List ℕ) (p : ℕ) (f : Trees) → faults s (w .tree p f) ≡ map outside (outOf s range (p ∷ [])) ++ faults s f)
+    → Taken x k es range
+taken h w e o = record { below = h; way = w; entries-are = e; faults-are = o }
 
 -- ---- a sign or a reserved word
 
 pub word-taken : (k : ℕ) → k < NAME → Taken (t k) k (λ p. []) free
-unfolding entries outOfRange keeps
+unfolding entries faults gathered keeps
 word-taken k h =
     taken (omega arith) (by-token k) (λ p f. rw (ne-eqb k NAME (λ e. omega arith), ne-eqb k DECIMAL (λ e. omega arith), ne-eqb k HEX (λ e. omega arith))) (λ s p f. refl)
 
@@ -120,7 +124,7 @@ width-is e k p = either-way (eqb e REFERENCE) (λ q. rw q (either-way (eqb k NAM
 
 -- a name
 pub a-name : Kind (t NAME) NAME
-unfolding startsOf elementEntries elementEntry referenceEntries elementRange entries outOfRange keeps
+unfolding startsOf elementEntries elementEntry referenceEntries elementRange entries faults gathered keeps
 a-name =
     record {
       not-maybe = refl;

@@ -25,7 +25,7 @@ unfoldable pub nodeEntries : ℕ → ℕ → Trees → List ℕ → List ℕ
 nodeEntries A i c inner =
     -- FL: its flags; of a numeric besides 256 times its size and display
     cond (eqb A <fl>) (flags c ∷ [])
-    (cond (eqb A <numeric-fl>) (flags c + 256 * sizeAndDisplay (sizeIn c) (displayIn c) ∷ [])
+    (cond (eqb A <numeric-fl>) ((flags c + 256 * sizeAndDisplay (sizeIn c) (displayIn c)) ∷ [])
     -- TRUE or FALSE: 2 or 1
     (cond (eqb A <truth>) (cond (eqb i 0) 2 1 ∷ [])
     -- an option's flags: the mark of DEFAULT, or 0

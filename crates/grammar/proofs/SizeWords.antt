@@ -36,6 +36,11 @@ module _ (test : FlagWord → Bool) where
       by true h g = h
       by false h g = g
 
+-- a test of classes, over those of words
+pub classes-tested : (test : ℕ → Bool) (ws : List FlagWord) → all (λ w. test (w .class)) ws ≡ true → all test (classesOf ws) ≡ true
+classes-tested test [] h = refl
+classes-tested test (w ∷ ws) h = let f = both (test (w .class)) _ h in rw (f .0) (classes-tested test ws (f .1))
+
 -- ---- no second word
 
 -- one at most, of which one may stand before

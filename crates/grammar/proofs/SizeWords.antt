@@ -1,7 +1,7 @@
 -- Words that are printed: those that are set among flags, the word of a size or a display; and lists of them without a second size or display word.
 -- Assumes nothing.
 use mathlib.Core.Path.{_≡_, refl}
-use mathlib.Core.List.{List, [], _∷_, _++_, map}
+use mathlib.Core.List.{List, [], _∷_, map}
 use mathlib.Core.Bool.{Bool, true, false, cond, _&&_, _||_}
 use Prim.Native.Nat.{ℕ, _+_, _≤_}
 use native.Mathlib.Omega.{arith}
@@ -44,7 +44,9 @@ classes-tested test (w ∷ ws) h = let f = both (test (w .class)) _ h in rw (f .
 -- ---- no second word
 
 -- one at most, of which one may stand before
-one-more : (before this : Bool) (later : ℕ) → when before 1 + (when this 1 + later) ≤ 1 → (before && this ≡ false) × (when (before || this) 1 + later ≤ 1)
+one-more :
+    (before this : Bool) (later : ℕ)
+    → when before 1 + (when this 1 + later) ≤ 1 → (before && this ≡ false) × (when (before || this) 1 + later ≤ 1)
 one-more true true later h = absurd (omega arith)
 one-more true false later h = (refl, omega arith)
 one-more false true later h = (refl, omega arith)

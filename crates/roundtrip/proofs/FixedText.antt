@@ -1,10 +1,11 @@
 -- A resolver that prints one fixed text does not meet demand 2, although resolving its text again changes no byte: two sources that reading answers
--- alike differ in their rows, and one text has the rows of one source only.
+-- alike differ in their rows, and one text has the rows of one source only. Nor does one that forgets a numeric's size or display (W-204).
 -- Assumes nothing.
 use Prim.Native.Nat.{ℕ, _*_}
 use native.Mathlib.Omega.{arith}
 use mathlib.Core.Path.{_≡_, refl, sym, ap, ap₂, _∙_}
-use mathlib.Core.List.{List, []}
+use Prim.Native.String.{String}
+use mathlib.Core.List.{List, [], _++_}
 use lib.ListN.{length, getD}
 use Rattle.lexemes.specs.Lexemes.{bytes}
 use Rattle.numbers.specs.Numbers.{freeCount}
@@ -94,12 +95,77 @@ two-labelled : labelOf (besidesPlaces (rowsRead two)) ≡ 2
 unfolding rowsRead
 two-labelled = refl
 
+-- ---- one text has the rows of one source only
+
+-- a resolver meets demand 2
+abbrev Meets : (List ℕ → List ℕ) → Type 0
+Meets text = (s : List ℕ) (n m : ℕ) → resolution s n m .number ≡ 0 → ReadsAgain text s n
+
+-- a number that is told by a source's rows without their places
+module _ (told : List (List ℕ) → ℕ) where
+  told-read : (s : List ℕ) {v : ℕ} → told (besidesPlaces (rowsRead s)) ≡ v → told (besidesPlaces (rowsOf s)) ≡ v
+  told-read s e = ap (λ rows. told (besidesPlaces rows)) (rows-read s) ∙ e
+
+  -- is the same for two sources with one text
+  one-text :
+      (text : List ℕ → List ℕ) → Meets text → (s s′ : List ℕ) {v v′ : ℕ}
+      → resolvedIn n m s .answer .number ≡ 0 → told (besidesPlaces (rowsRead s)) ≡ v
+      → resolvedIn n m s′ .answer .number ≡ 0 → told (besidesPlaces (rowsRead s′)) ≡ v′ → text s ≡ text s′ → v ≡ v′
+  one-text text claim s s′ r e r′ e′ same =
+      let rows = claim s n m (resolves s r) .same-rows in
+      let rows′ = claim s′ n m (resolves s′ r′) .same-rows in
+      sym (told-read s e) ∙ ap told (sym rows ∙ ap (λ t. besidesPlaces (rowsOf t)) same ∙ rows′) ∙ told-read s′ e′
+
 -- no fixed text reads again as every source that resolves
-pub fixed-refused : (text : List ℕ) → ((s : List ℕ) (n m : ℕ) → resolution s n m .number ≡ 0 → ReadsAgain (λ s. text) s n) → ⊥
+pub fixed-refused : (text : List ℕ) → Meets (λ s. text) → ⊥
 fixed-refused text claim =
-    let as-one = claim one n m (resolves one one-resolves) .same-rows in
-    let as-two = claim two n m (resolves two two-resolves) .same-rows in
-    let label-one : labelOf (besidesPlaces (rowsOf one)) ≡ 1 = ap (λ rows. labelOf (besidesPlaces rows)) (rows-read one) ∙ one-labelled in
-    let label-two : labelOf (besidesPlaces (rowsOf two)) ≡ 2 = ap (λ rows. labelOf (besidesPlaces rows)) (rows-read two) ∙ two-labelled in
-    let alike : _≡_ {A = ℕ} 1 2 = sym label-one ∙ ap labelOf (sym as-one ∙ as-two) ∙ label-two in
+    let alike : _≡_ {A = ℕ} 1 2 = one-text labelOf (λ s. text) claim one two one-resolves one-labelled two-resolves two-labelled refl in
+    omega (arith, alike)
+
+-- ---- sizes and displays
+
+-- a numeric with these flags
+abbrev numeric : String → List ℕ
+numeric flags = framed-bytes (bytes "numeric prompt=STRING_TOKEN(5),help=STRING_TOKEN(6),flags=" ++ (bytes flags ++ bytes ",minimum=0,maximum=9,endnumeric;"))
+
+-- its column 12
+abbrev sizeOf : List (List ℕ) → ℕ
+sizeOf rows = getD (getD rows 2 []) column.SIZE 0
+
+byte-resolves : resolvedIn n m (numeric "NUMERIC_SIZE_1") .answer .number ≡ 0
+unfolding resolvedIn
+byte-resolves = refl
+
+byte-sized : sizeOf (besidesPlaces (rowsRead (numeric "NUMERIC_SIZE_1"))) ≡ 5
+unfolding rowsRead
+byte-sized = refl
+
+eight-resolves : resolvedIn n m (numeric "NUMERIC_SIZE_8") .answer .number ≡ 0
+unfolding resolvedIn
+eight-resolves = refl
+
+eight-sized : sizeOf (besidesPlaces (rowsRead (numeric "NUMERIC_SIZE_8"))) ≡ 33
+unfolding rowsRead
+eight-sized = refl
+
+signed-resolves : resolvedIn n m (numeric "DISPLAY_INT_DEC") .answer .number ≡ 0
+unfolding resolvedIn
+signed-resolves = refl
+
+signed-sized : sizeOf (besidesPlaces (rowsRead (numeric "DISPLAY_INT_DEC"))) ≡ 32
+unfolding rowsRead
+signed-sized = refl
+
+-- the text of a resolver tells sizes apart,
+pub sizes-told : (text : List ℕ → List ℕ) → Meets text → text (numeric "NUMERIC_SIZE_1") ≡ text (numeric "NUMERIC_SIZE_8") → ⊥
+sizes-told text claim same =
+    let alike : _≡_ {A = ℕ} 5 33 =
+    one-text sizeOf text claim (numeric "NUMERIC_SIZE_1") (numeric "NUMERIC_SIZE_8") byte-resolves byte-sized eight-resolves eight-sized same in
+    omega (arith, alike)
+
+-- and displays
+pub displays-told : (text : List ℕ → List ℕ) → Meets text → text (numeric "DISPLAY_INT_DEC") ≡ text (numeric "NUMERIC_SIZE_8") → ⊥
+displays-told text claim same =
+    let alike : _≡_ {A = ℕ} 32 33 =
+    one-text sizeOf text claim (numeric "DISPLAY_INT_DEC") (numeric "NUMERIC_SIZE_8") signed-resolves signed-sized eight-resolves eight-sized same in
     omega (arith, alike)

@@ -2,7 +2,6 @@
 -- Assumes nothing.
 use mathlib.Core.Path.{_≡_, refl, ap, sym, _∙_}
 use mathlib.Core.List.{List, [], _∷_, _++_, map, append-nil}
-use mathlib.Core.Option.{some}
 use mathlib.Core.Bool.{Bool, true, false}
 use Prim.Native.Nat.{ℕ, _<_}
 use native.Mathlib.Omega.{arith}
@@ -15,7 +14,7 @@ use Rattle.ll1.specs.Trees.{Token, token, Trees, nil, leaf, node, leaves, Symbo
 use Rattle.ll1.specs.ParseTable.{member}
 use Rattle.ll1.specs.Test.{all}
 use Rattle.ll1.proofs.Basics.{both, all-member}
-use Rattle.grammar.specs.Notation.{t, r, plain, one, star, choice}
+use Rattle.grammar.specs.Notation.{t, r, one, star, choice}
 use Rattle.grammar.specs.Grammar.{rules}
 use Rattle.grammar.specs.Derivation.{tooDeep}
 use Rattle.grammar.specs.Ranges.{ranges, rangeOf}

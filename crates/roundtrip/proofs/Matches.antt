@@ -25,9 +25,9 @@ use Rattle.answers.specs.Text.{hasFlag, numericList}
 use Rattle.formulas.specs.Shapes.{ruleWord, Shape, Over}
 use Rattle.formulas.specs.Formula.{Formula}
 use Rattle.roundtrip.proofs.Phrases.{cell, subtitleUnder, textUnder, labelUnder, gotoUnder, checkboxUnder, numericUnder, oneOfUnder, optionUnder, ruleUnder, formUnder, formSetUnder}
-use Rattle.roundtrip.proofs.PhraseRows.{sizeAmong, displayAmong, questionRow, gotoHolds, checkboxHolds, numericHolds, oneOfHolds, marked, subtitle-is, text-is, label-is, goto-is, checkbox-is, numeric-is, one-of-is, option-is, rule-is, form-is, highOf, lowOf, form-set-is}
+use Rattle.roundtrip.proofs.PhraseRows.{questionRow, gotoHolds, checkboxHolds, numericHolds, oneOfHolds, marked, subtitle-is, text-is, label-is, goto-is, checkbox-is, numeric-is, one-of-is, option-is, rule-is, form-is, highOf, lowOf, form-set-is}
 use Rattle.roundtrip.proofs.FlagsAgain.{again, flags-default-again, flags-again, default-again}
-use Rattle.roundtrip.proofs.NumericLists.{size-again, display-again}
+use Rattle.roundtrip.proofs.NumericLists.{sizeAmong, displayAmong, size-again, display-again}
 use Rattle.again.specs.Matches.{Settled, Match}
 use Rattle.again.proofs.Likeness.{numbered-row, draft-row}
 

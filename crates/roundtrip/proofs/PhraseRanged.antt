@@ -3,7 +3,7 @@
 use mathlib.Core.Path.{_≡_, refl, sym, subst}
 use mathlib.Core.List.{List, [], _∷_}
 use mathlib.Core.Bool.{Bool, true, false}
-use Prim.Native.Nat.{ℕ, _^_, _≤_, _<_}
+use Prim.Native.Nat.{ℕ, _^_, _<_}
 use native.Mathlib.Omega.{arith}
 use lib.Dec.{eqb}
 use Rattle.lexemes.specs.Classes as class
@@ -21,8 +21,7 @@ use Rattle.formulas.specs.Shapes.{Shape, s-nil, part}
 use Rattle.formulas.specs.Formula.{Formula}
 use Rattle.roundtrip.proofs.Phrases.{cell, say, ending, stringUnder, headUnder, rowFlags, FlagRules, flagRules, numericFlagRules, flagsUnder, flagsPart, gotoFlagsPart, present, truthDefaultUnder, numberDefaultUnder, optionFlagsUnder, stepUnder, subtitleUnder, textUnder, labelUnder, gotoUnder, checkboxUnder, numericUnder, oneOfUnder, conditionUnder, optionUnder, ruleUnder, formUnder, eightUnder, guidUnder, formSetUnder}
 use Rattle.roundtrip.proofs.FlagLists.{Listed, flags-are-listed, numeric-flags-are-listed, Known, flags-known, list-ranged, under-read, part-read}
-use Rattle.roundtrip.proofs.NumericLists.{numeric-flags-known, one-size, one-display}
-use Rattle.roundtrip.proofs.PhraseRows.{sizeAmong}
+use Rattle.roundtrip.proofs.NumericLists.{sizeAmong, numeric-flags-known, one-size, one-display}
 use Rattle.roundtrip.proofs.Ranged.{Keeps, NumbersFit, sizeNamed, OneEach, NodeKeeps, Ranged, Fine, formula-ranged}
 
 -- a number from 1 to 65,535

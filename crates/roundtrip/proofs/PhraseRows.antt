@@ -24,25 +24,18 @@ use Rattle.grammar.specs.Parts.{mark, when}
 use Rattle.grammar.specs.Flags.{FlagWord, flagWords, sizeWords, displayWords, classesOf, classes, total, flags, firstOf}
 use Rattle.grammar.proofs.FlagTotals.{PassesOver, noneOf, total-passes, first-passes}
 use Rattle.answers.specs.Text.{hasFlag, numericList}
-use Rattle.formulas.specs.Shapes.{decimal, hex, ruleWord, Shape, s-nil, s-leaf, flat, taken, read-sign, read-decimal, read-rule, read-hex, Over, over-nil, over-leaf}
+use Rattle.formulas.specs.Shapes.{decimal, hex, ruleWord, Shape, s-nil, s-leaf, taken, read-sign, read-decimal, read-rule, read-hex, Over, over-nil, over-leaf}
 use Rattle.formulas.proofs.Shapes.{over-part, over-taken, over-classes}
 use Rattle.formulas.specs.Formula.{Formula}
 use Rattle.roundtrip.proofs.Phrases.{cell, rowFlags, FlagRules, flagRules, numericFlagRules, flagsPart, present, truthDefaultUnder, numberDefaultUnder, stringUnder, headUnder, subtitleUnder, textUnder, labelUnder, gotoUnder, checkboxUnder, numericUnder, oneOfUnder, optionUnder, ruleUnder, formUnder, eightUnder, guidUnder, formSetUnder}
 use Rattle.roundtrip.proofs.FlagLists.{frame, part-read, goto-read}
-use Rattle.roundtrip.proofs.NumericLists.{numeric-total}
+use Rattle.roundtrip.proofs.NumericLists.{sizeAmong, displayAmong, numeric-total}
 
 -- ---- flags
 
 -- of words
 abbrev pub flagTotal : List FlagWord → ℕ
 flagTotal ws = total flagWords (classesOf ws)
-
--- and the size and display among them
-abbrev pub sizeAmong : List FlagWord → ℕ
-sizeAmong ws = firstOf sizeWords NO-SIZE (classesOf ws)
-
-abbrev pub displayAmong : List FlagWord → ℕ
-displayAmong ws = firstOf displayWords UINT-DEC (classesOf ws)
 
 -- the row of a question by its HEAD's number, prompt, help and name, with what else it holds
 abbrev pub questionRow : (k parent place own first second name : ℕ) → List Entry → List ℕ

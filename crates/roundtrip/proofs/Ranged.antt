@@ -51,10 +51,11 @@ Keeps (digits n) (s-leaf (rule-name m) x) = ⊥
 Keeps (digits n) (s-leaf (hex w v) x) = w ≤ n
 Keeps (digits n) (s-node A i c x) = ⊥
 
--- the numbers of a numeric fit the size that its flags name, step and default where they are written
+-- the size that a numeric's flags name
 abbrev pub sizeNamed : Shape → ℕ
 sizeNamed c = sizeIn (flat (part numeric·flags c))
 
+-- its numbers fit it, step and default where they are written
 pub record NumbersFit (c : Shape) : Type 0 where
   pub minimum : Keeps (bytes (sizeNamed c)) (part numeric·minimum c)
   pub maximum : Keeps (bytes (sizeNamed c)) (part numeric·maximum c)
@@ -65,7 +66,7 @@ pub record NumbersFit (c : Shape) : Type 0 where
 abbrev pub OneEach : Shape → Type 0
 OneEach c = (count sizeWords (classes (flat c)) ≤ 1) × (count displayWords (classes (flat c)) ≤ 1)
 
--- of a rule's number, where the node is or is not a numeric, and is or is not a numeric's FL
+-- the number of a node keeps the range of its rule; a numeric's numbers fit its size, and its FL has no second word
 abbrev pub KeepsAs : (numeric list : Bool) → Range → Shape → Type 0
 KeepsAs false false range c = Keeps range c
 KeepsAs false true range c = Keeps range c × OneEach c
@@ -84,7 +85,7 @@ Ranged (s-node A i c x) = NodeKeeps A i c × Ranged c × Ranged x
 abbrev pub NodeRanged : ℕ → ℕ → Shape → Type 0
 NodeRanged A i c = NodeKeeps A i c × Ranged c
 
--- a rule without a range, that is neither a numeric nor its FL
+-- a rule that has no range and is neither an item's nor a numeric's FL
 pub record Plain (A : ℕ) : Type 0 where
   pub range : rangeOf A ≡ free
   pub no-item : eqb A <item> ≡ false
@@ -136,7 +137,9 @@ module _ (t : List ℕ) where
       → (written part T ≡ true → keeps t range (placeAt 0 (child number (child part T))) ≡ true) → outOf t range (writtenPlace part number T) ≡ []
   written-out range part number T h = by (written part T) h
     where
-      by : (b : Bool) → (b ≡ true → keeps t range (placeAt 0 (child number (child part T))) ≡ true) → outOf t range (cond b (placeAt 0 (child number (child part T)) ∷ []) []) ≡ []
+      by :
+          (b : Bool) → (b ≡ true → keeps t range (placeAt 0 (child number (child part T))) ≡ true)
+          → outOf t range (cond b (placeAt 0 (child number (child part T)) ∷ []) []) ≡ []
       by true h = rw (h refl)
       by false h = refl
 

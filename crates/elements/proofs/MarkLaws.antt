@@ -47,6 +47,10 @@ first-if false p l = refl
 
 -- ---- faults one after another
 
+pub noting-none : (n : Noted) → noting n [] ≡ n
+unfolding noting
+noting-none n = refl
+
 pub noting-append : (n : Noted) (k l : List Fault) → noting n (k ++ l) ≡ noting (noting n k) l
 unfolding noting
 noting-append n [] l = refl

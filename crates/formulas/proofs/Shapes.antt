@@ -1,11 +1,13 @@
--- A text that reads as a shape says has a tree over the shape, whose leaves are the text's tokens; and the parts of such a tree.
+-- A text that reads as a shape says has a tree over the shape, whose leaves are the text's tokens; and the parts and classes of such a tree.
 -- Assumes nothing.
-use mathlib.Core.Path.{_≡_, refl, ap, sym, _∙_}
-use mathlib.Core.List.{List, [], _∷_, _++_, append-assoc, append-nil}
+use mathlib.Core.Path.{_≡_, refl, ap, ap₂, sym, _∙_}
+use mathlib.Core.List.{List, [], _∷_, _++_, map-append, append-assoc, append-nil}
 use Prim.Native.Nat.{ℕ, zero, suc}
 use Rattle.ll1.specs.Trees.{Token, token, Trees, nil, leaf, node, leaves}
 use Rattle.grammar.specs.Parts.{child, chosen}
-use Rattle.formulas.specs.Shapes.{Lexed, AllValid, none-valid, more-valid, Shape, s-nil, s-leaf, s-node, lexed, part, taken, Reads, reads-none, reads-more, Over, over-nil, over-leaf, over-node}
+use Rattle.grammar.specs.Flags.{classOf, classes}
+use Rattle.formulas.specs.Shapes.{Lexed, AllValid, none-valid, more-valid, Shape, s-nil, s-leaf, s-node, flat, lexed, part, taken, tokenOf}
+use Rattle.formulas.specs.Shapes.{Read, read-sign, read-decimal, read-rule, read-hex, Reads, reads-none, reads-more, Over, over-nil, over-leaf, over-node}
 
 pub valid-append : {ls ms : List Lexed} → AllValid ls → AllValid ms → AllValid (ls ++ ms)
 valid-append none-valid n = n
@@ -65,3 +67,18 @@ over-taken zero (over-leaf r o) = refl
 over-taken (suc n) (over-leaf r o) = over-taken n o
 over-taken zero (over-node o₁ o₂) = refl
 over-taken (suc n) (over-node o₁ o₂) = over-taken n o₂
+
+-- ---- and its tokens have the classes of the shape's words
+
+read-class : {t : List ℕ} {k p : ℕ} {l : Lexed} → Read t k p l → k ≡ classOf (tokenOf l)
+read-class read-sign = refl
+read-class (read-decimal e) = refl
+read-class (read-rule e w) = refl
+read-class (read-hex e d) = refl
+
+pub over-classes : {t : List ℕ} {T : Trees} {x : Shape} → Over t T x → classes T ≡ classes (flat x)
+over-classes over-nil = refl
+over-classes (over-leaf h o) = ap₂ _∷_ (read-class h) (over-classes o)
+over-classes (over-node {c = c} {f = f} {d = d} {x = x} o₁ o₂) =
+    map-append classOf (leaves c) (leaves f) ∙ ap₂ _++_ (over-classes o₁) (over-classes o₂)
+    ∙ sym (map-append classOf (leaves (flat d)) (leaves (flat x)))

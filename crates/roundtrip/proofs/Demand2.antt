@@ -145,7 +145,7 @@ module _ (s : List ℕ) (n m : ℕ) (r : Resolved s n m) where
   short′ = omega (arith, ap length text-is, r .text-fits)
 
   sound′ : Sound t tree′
-  sound′ = sound-again s tree (r .sound) (r .short) t tree′ short′ (the-trip .derives) (the-trip .depths) (the-trip .kept-ranges) (the-trip .rows)
+  sound′ = sound-again s tree (r .sound) (r .short) t tree′ short′ (the-trip .derives) (the-trip .depths) (the-trip .no-second) (the-trip .kept-ranges) (the-trip .rows)
 
   finished′ : finished t (drafts t tree′) ≡ map (final t) (drafts t tree′)
   finished′ = finished-again s tree (r .sound) (r .short) t (the-trip .rows)

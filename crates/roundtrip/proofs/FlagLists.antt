@@ -1,36 +1,35 @@
--- A list of flag words as a shape: its words, its fit, its ranges and the flags that it says, each by one induction for the rules of any FL.
+-- A list of flag words as a shape: its words, its fit, its ranges and what is read of its classes, each by one induction for the rules of any FL.
 -- Assumes nothing.
-use mathlib.Core.Path.{_≡_, refl, ap, ap₂, sym, _∙_}
-use mathlib.Core.List.{List, [], _∷_, _++_, map, map-append, append-nil}
+use mathlib.Core.Path.{_≡_, refl, ap, sym, _∙_}
+use mathlib.Core.List.{List, [], _∷_, _++_, map, append-nil}
 use mathlib.Core.Option.{some}
-use mathlib.Core.Bool.{Bool, true, false, cond, not, _||_, or-assoc}
-use Prim.Native.Nat.{ℕ, _+_, _<_}
+use mathlib.Core.Bool.{Bool, true, false}
+use Prim.Native.Nat.{ℕ, _<_}
 use native.Mathlib.Omega.{arith}
-use lib.Dec.{eqb, ltb}
+use lib.Dec.{ltb}
 use lib.ListN.{getD, getElem?}
-use borrow.Author.Tests.{eqb-true, ltb-true}
+use borrow.Author.Tests.{ltb-true}
 use Rattle.lexemes.specs.Lexemes.{signs, reserved, lexemes}
 use Rattle.lexemes.specs.Classes as class
 use Rattle.ll1.specs.Trees.{Token, token, Trees, nil, leaf, node, leaves, Symbol, nonterminal, Depth}
 use Rattle.ll1.specs.ParseTable.{member}
 use Rattle.ll1.specs.Test.{all}
-use Rattle.ll1.proofs.Basics.{clash, both, same, or-right, all-member}
+use Rattle.ll1.proofs.Basics.{both, all-member}
 use Rattle.grammar.specs.Notation.{t, r, plain, one, star, choice}
 use Rattle.grammar.specs.Grammar.{rules}
 use Rattle.grammar.specs.Derivation.{tooDeep}
-use Rattle.grammar.specs.Ranges.{free, ranges, rangeOf}
-use Rattle.grammar.specs.Parts.{when}
-use Rattle.grammar.specs.Flags.{FlagWord, flagWords, classOf, classes, total, flags, setIn}
+use Rattle.grammar.specs.Ranges.{ranges, rangeOf}
+use Rattle.grammar.specs.Flags.{FlagWord, flagWords, classesOf, classOf, classes}
 use Rattle.grammar.proofs.Theorems.{flags-listed}
 use Rattle.grammar.proofs.Choices.{placeIn, choice-at}
+use Rattle.grammar.proofs.FlagTotals.{foreign, noneOf, PassesOver}
+use Rattle.grammar.proofs.SizeWords.{set-tested}
 use Rattle.rows.specs.Columns as column
-use Rattle.rows.specs.Flags.{isSet}
 use Rattle.answers.specs.Text.{barred, flagList}
-use Rattle.sound.proofs.Lists.{apart}
-use Rattle.formulas.specs.Shapes.{Lexed, sign, word, tokenOf, Read, Shape, flat, lexed, read-sign, read-decimal, read-rule, read-hex, Over, over-nil, over-leaf, over-node}
+use Rattle.formulas.specs.Shapes.{Lexed, sign, word, Shape, s-nil, flat, lexed}
 use Rattle.formulas.specs.Fitted.{Fitted, f-nil, f-leaf, f-node}
-use Rattle.roundtrip.proofs.Ranged.{Ranged}
-use Rattle.roundtrip.proofs.Phrases.{classesOf, rowFlags, FlagRules, flagRules, numericFlagRules, moreFlags, flagsUnder, flagsShape}
+use Rattle.roundtrip.proofs.Ranged.{NodeKeeps, Ranged, Plain, plain-node}
+use Rattle.roundtrip.proofs.Phrases.{say, rowFlags, FlagRules, flagRules, numericFlagRules, flagShape, moreFlags, flagsUnder, flagsShape, flagsPart, gotoFlagsPart}
 
 -- ---- the rules of an FL
 
@@ -39,39 +38,44 @@ pub record Listed (R : FlagRules) : Type 0 where
   pub list : getD rules (R .list) [] ≡ one (r (R .word) ∷ r (R .more) ∷ [])
   pub more : getD rules (R .more) [] ≡ star (R .more) (t class.«|» ∷ r (R .word) ∷ [])
   pub word : getD rules (R .word) [] ≡ choice (R .classes)
-  pub unranged : (rangeOf (R .list) ≡ free) × (rangeOf (R .more) ≡ free) × (rangeOf (R .word) ≡ free)
+  pub plain-more : Plain (R .more)
+  pub plain-word : Plain (R .word)
   pub reserved : all (λ k. ltb k class.NAME) (R .classes) ≡ true
 
 pub flags-are-listed : Listed flagRules
 unfolding rules rangeOf ranges
-flags-are-listed = record { list = refl; more = refl; word = flags-listed .0; unranged = (refl, refl, refl); reserved = refl }
+flags-are-listed =
+    record {
+      list = refl;
+      more = refl;
+      word = flags-listed .0;
+      plain-more = record { range = refl; no-item = refl; no-list = refl };
+      plain-word = record { range = refl; no-item = refl; no-list = refl };
+      reserved = refl;
+    }
 
 pub numeric-flags-are-listed : Listed numericFlagRules
 unfolding rules rangeOf ranges
-numeric-flags-are-listed = record { list = refl; more = refl; word = flags-listed .1; unranged = (refl, refl, refl); reserved = refl }
+numeric-flags-are-listed =
+    record {
+      list = refl;
+      more = refl;
+      word = flags-listed .1;
+      plain-more = record { range = refl; no-item = refl; no-list = refl };
+      plain-word = record { range = refl; no-item = refl; no-list = refl };
+      reserved = refl;
+    }
 
 -- ---- words that an FL has
 
-abbrev known : FlagRules → FlagWord → Bool
+abbrev pub known : FlagRules → FlagWord → Bool
 known R w = member (w .class) (R .classes)
 
 abbrev pub Known : FlagRules → List FlagWord → Type 0
 Known R ws = all (known R) ws ≡ true
 
--- those of them that are set
-set-known : (R : FlagRules) (n : ℕ) (ws : List FlagWord) → Known R ws → Known R (setIn n ws)
-set-known R n [] h = refl
-set-known R n (w ∷ ws) h = let k = both (known R w) _ h in by (isSet (w .value) n) (k .0) (set-known R n ws (k .1))
-  where
-    by : (b : Bool) → known R w ≡ true → Known R (setIn n ws) → Known R (cond b (w ∷ setIn n ws) (setIn n ws))
-    by true k more = rw k more
-    by false k more = more
-
 pub flags-known : (row : List ℕ) → Known flagRules (rowFlags row)
-flags-known row = set-known flagRules (getD row column.FLAGS 0) flagWords refl
-
-pub numeric-flags-known : (row : List ℕ) → Known numericFlagRules (rowFlags row)
-numeric-flags-known row = set-known numericFlagRules (getD row column.FLAGS 0) flagWords refl
+flags-known row = set-tested (known flagRules) (getD row column.FLAGS 0) flagWords refl
 
 module _ (R : FlagRules) where
   -- ---- its words, with others after them
@@ -82,8 +86,9 @@ module _ (R : FlagRules) where
   more-words (w ∷ ws) ls =
       rw (append-nil (lexed (moreFlags R ws))) (ap (λ l. word (sign class.«|») ∷ word (sign (w .class)) ∷ l) (more-words ws ls))
 
-  pub list-words : (w : FlagWord) (ws : List FlagWord) (ls : List Lexed) → map word (lexed (flagsUnder R w ws) ++ ls) ≡ flagList (w ∷ ws) ++ map word ls
-  list-words w ws ls = ap (λ l. word (sign (w .class)) ∷ l) (more-words ws ls)
+  pub list-words : (ws : List FlagWord) (ls : List Lexed) → map word (lexed (flagsUnder R ws) ++ ls) ≡ flagList ws ++ map word ls
+  list-words [] ls = refl
+  list-words (w ∷ ws) ls = ap (λ l. word (sign (w .class)) ∷ l) (more-words ws ls)
 
   module _ (L : Listed R) where
     -- ---- it fits
@@ -103,7 +108,7 @@ module _ (R : FlagRules) where
 
       pub list-fits :
           (w : FlagWord) (ws : List FlagWord) {σ : List Symbol} {F : Trees} → Known R (w ∷ ws) → Fitted d σ F
-          → Fitted d (nonterminal (R .list) ∷ σ) (node (R .list) 0 (flat (flagsUnder R w ws)) F)
+          → Fitted d (nonterminal (R .list) ∷ σ) (node (R .list) 0 (flat (flagsUnder R (w ∷ ws))) F)
       list-fits w ws h g =
           let k = both (known R w) _ h in
           f-node (ap (λ l. getElem? l 0) (L .list)) (word-fits w (k .0) (more-fits ws (k .1))) g
@@ -113,61 +118,68 @@ module _ (R : FlagRules) where
     word-valid : (w : FlagWord) → known R w ≡ true → w .class < class.NAME
     word-valid w h = ltb-true (w .class) class.NAME (all-member (λ k. ltb k class.NAME) (R .classes) (w .class) (L .reserved) h)
 
+    word-ranged : (w : FlagWord) (f : Shape) → known R w ≡ true → Ranged f → Ranged (flagShape R w f)
+    word-ranged w f h = plain-node (R .word) (placeIn (R .classes) (w .class)) (say (w .class) s-nil) f (L .plain-word) (word-valid w h, tt)
+
     more-ranged : (ws : List FlagWord) → Known R ws → Ranged (moreFlags R ws)
-    more-ranged [] h = rw (L .unranged .1) (tt, tt, tt)
+    more-ranged [] h = plain-node (R .more) 0 s-nil s-nil (L .plain-more) tt tt
     more-ranged (w ∷ ws) h =
         let k = both (known R w) _ h in
-        rw (L .unranged .1, L .unranged .2) (tt, (omega arith, (tt, (word-valid w (k .0), tt), more-ranged ws (k .1))), tt)
+        plain-node (R .more) 1 (say class.«|» (flagShape R w (moreFlags R ws))) s-nil (L .plain-more)
+        (omega arith, word-ranged w (moreFlags R ws) (k .0) (more-ranged ws (k .1))) tt
 
-    pub list-ranged : (w : FlagWord) (ws : List FlagWord) (f : Shape) → Known R (w ∷ ws) → Ranged f → Ranged (flagsShape R w ws f)
-    list-ranged w ws f h g =
-        let k = both (known R w) _ h in
-        rw (L .unranged .0, L .unranged .2) (tt, (tt, (word-valid w (k .0), tt), more-ranged ws (k .1)), g)
+    pub list-ranged :
+        (ws : List FlagWord) (f : Shape) → NodeKeeps (R .list) 0 (flagsUnder R ws) → Known R ws → Ranged f → Ranged (flagsShape R ws f)
+    list-ranged [] f n h g = (n, tt, g)
+    list-ranged (w ∷ ws) f n h g = let k = both (known R w) _ h in (n, word-ranged w (moreFlags R ws) (k .0) (more-ranged ws (k .1)), g)
 
--- ---- the flags that it says
+-- ---- what is read of its classes
 
--- a total is told by the words' own classes
-pub total-same :
-    (ws : List FlagWord) (js ks : List ℕ) → ((k : ℕ) → member k (classesOf ws) ≡ true → member k js ≡ member k ks)
-    → total ws js ≡ total ws ks
-total-same [] js ks h = refl
-total-same (w ∷ ws) js ks h =
-    ap₂ (λ b n. when b (w .value) + n) (h (w .class) (rw (same (w .class))))
-    (total-same ws js ks (λ k m. h k (or-right (eqb (w .class) k) _ m)))
+-- the classes beside its words, which are none of the words vs
+abbrev pub frame : List ℕ
+frame = class.«flags» ∷ class.«=» ∷ class.«|» ∷ class.comma ∷ []
 
--- a class that no word has is not a word's
-pub no-word : (j k : ℕ) → member j (classesOf flagWords) ≡ false → member k (classesOf flagWords) ≡ true → eqb j k ≡ false
-no-word j k p q = apart (λ i. not (member i (classesOf flagWords))) j k (ap not p) (ap not q)
+framing : (vs : List FlagWord) → noneOf vs frame ≡ true → (k : ℕ) → member k frame ≡ true → foreign vs k ≡ true
+framing vs h k m = all-member (foreign vs) frame k h m
 
--- with other tokens after its own, for the class of a word
-module _ (R : FlagRules) (k : ℕ) (m : member k (classesOf flagWords) ≡ true) where
-  more-classes :
-      (ws : List FlagWord) (ts : List Token)
-      → member k (map classOf (leaves (flat (moreFlags R ws)) ++ ts)) ≡ member k (classesOf ws) || member k (map classOf ts)
-  more-classes [] ts = refl
-  more-classes (w ∷ ws) ts =
-      rw (no-word class.«|» k refl m, append-nil (leaves (flat (moreFlags R ws))))
-      (ap (λ b. eqb (w .class) k || b) (more-classes ws ts) ∙ sym (or-assoc (eqb (w .class) k) _ _))
+module _ (R : FlagRules) (vs : List FlagWord) (h : noneOf vs frame ≡ true) {X : Type 0} where
+  more-read :
+      (ws : List FlagWord) (ts : List Token) (read : List ℕ → X)
+      → PassesOver vs read → read (map classOf (leaves (flat (moreFlags R ws)) ++ ts)) ≡ read (classesOf ws ++ map classOf ts)
+  more-read [] ts read over = refl
+  more-read (w ∷ ws) ts read over =
+      rw (append-nil (leaves (flat (moreFlags R ws)))) (
+      over [] class.«|» (w .class ∷ map classOf (leaves (flat (moreFlags R ws)) ++ ts)) (framing vs h class.«|» refl)
+      ∙ more-read ws ts (λ ks. read (w .class ∷ ks)) (λ js. over (w .class ∷ js)))
 
-  pub list-classes :
-      (w : FlagWord) (ws : List FlagWord) (ts : List Token)
-      → member k (map classOf (leaves (flat (flagsUnder R w ws)) ++ ts)) ≡ member k (classesOf (w ∷ ws)) || member k (map classOf ts)
-  list-classes w ws ts = ap (λ b. eqb (w .class) k || b) (more-classes ws ts) ∙ sym (or-assoc (eqb (w .class) k) _ _)
+  list-read :
+      (ws : List FlagWord) (ts : List Token) (read : List ℕ → X)
+      → PassesOver vs read → read (map classOf (leaves (flat (flagsUnder R ws)) ++ ts)) ≡ read (classesOf ws ++ map classOf ts)
+  list-read [] ts read over = refl
+  list-read (w ∷ ws) ts read over = more-read ws ts (λ ks. read (w .class ∷ ks)) (λ js. over (w .class ∷ js))
 
--- a tree over a shape says the same
-module _ (text : List ℕ) where
-  read-class : {k p : ℕ} {l : Lexed} → Read text k p l → k ≡ classOf (tokenOf l)
-  read-class read-sign = refl
-  read-class (read-decimal e) = refl
-  read-class (read-rule e w) = refl
-  read-class (read-hex e d) = refl
+  module _ (ws : List FlagWord) (read : List ℕ → X) (over : PassesOver vs read) where
+    pub under-read : read (classes (flat (flagsUnder R ws))) ≡ read (classesOf ws)
+    under-read =
+        ap (λ ts. read (map classOf ts)) (sym (append-nil (leaves (flat (flagsUnder R ws))))) ∙ list-read ws [] read over ∙ ap read (append-nil (classesOf ws))
 
-  over-classes : {T : Trees} {x : Shape} → Over text T x → classes T ≡ classes (flat x)
-  over-classes over-nil = refl
-  over-classes (over-leaf h o) = ap₂ _∷_ (read-class h) (over-classes o)
-  over-classes (over-node {c = c} {f = f} {d = d} {x = x} o₁ o₂) =
-      map-append classOf (leaves c) (leaves f) ∙ ap₂ _++_ (over-classes o₁) (over-classes o₂)
-      ∙ sym (map-append classOf (leaves (flat d)) (leaves (flat x)))
+  -- [flags = FL ,]
+  module _ (read : List ℕ → X) (over : PassesOver vs read) where
+    pub part-read : (ws : List FlagWord) → read (classes (flat (flagsPart R ws))) ≡ read (classesOf ws)
+    part-read [] = refl
+    part-read (w ∷ ws) =
+        let ks = map classOf (leaves (flat (flagsUnder R (w ∷ ws))) ++ token class.comma 0 ∷ []) in
+        over [] class.«flags» (class.«=» ∷ ks) (framing vs h class.«flags» refl) ∙ over [] class.«=» ks (framing vs h class.«=» refl)
+        ∙ list-read (w ∷ ws) (token class.comma 0 ∷ []) read over
+        ∙ over (classesOf (w ∷ ws)) class.comma [] (framing vs h class.comma refl) ∙ ap read (append-nil (classesOf (w ∷ ws)))
 
-  pub over-flags : {T : Trees} {x : Shape} → Over text T x → flags T ≡ flags (flat x)
-  over-flags o = ap (total flagWords) (over-classes o)
+-- [, flags = FL]
+module _ (vs : List FlagWord) (h : noneOf vs frame ≡ true) {X : Type 0} (read : List ℕ → X) (over : PassesOver vs read) where
+  pub goto-read : (ws : List FlagWord) → read (classes (flat (gotoFlagsPart ws))) ≡ read (classesOf ws)
+  goto-read [] = refl
+  goto-read (w ∷ ws) =
+      let ks = map classOf (leaves (flat (flagsUnder flagRules (w ∷ ws))) ++ []) in
+      over [] class.comma (class.«flags» ∷ class.«=» ∷ ks) (framing vs h class.comma refl)
+      ∙ over [] class.«flags» (class.«=» ∷ ks) (framing vs h class.«flags» refl)
+      ∙ over [] class.«=» ks (framing vs h class.«=» refl)
+      ∙ list-read flagRules vs h (w ∷ ws) [] read over ∙ ap read (append-nil (classesOf (w ∷ ws)))

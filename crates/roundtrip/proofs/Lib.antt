@@ -1,6 +1,7 @@
 pub mod Ranged
 pub mod Phrases
 pub mod FlagLists
+pub mod NumericLists
 pub mod PhraseWords
 pub mod PhraseFits
 pub mod PhraseRows

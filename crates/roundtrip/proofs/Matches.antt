@@ -1,6 +1,6 @@
 -- The row of each statement of the text matches the statement's row in the source.
 -- Assumes nothing.
-use mathlib.Core.Path.{_≡_, refl, ap, sym, _∙_, subst}
+use mathlib.Core.Path.{_≡_, refl, ap, ap₂, sym, _∙_, subst}
 use mathlib.Core.List.{List, [], _∷_}
 use mathlib.Core.Bool.{Bool, true, false}
 use Prim.Native.Nat.{ℕ, _+_, _-_, _^_, _<_}
@@ -13,19 +13,21 @@ use Rattle.rows.specs.Codes.{member, questions, isQuestion}
 use Rattle.rows.specs.Columns as column
 use Rattle.rows.specs.Cells.{Entry, _≔_, withoutPlaces}
 use Rattle.rows.specs.Flags as flag
+use Rattle.rows.specs.Sizes.{sizeAndDisplay}
 use Rattle.ll1.specs.Trees.{Trees}
 use Rattle.ll1.proofs.Basics.{clash}
 use Rattle.grammar.specs.Source.{numberAt}
 use Rattle.grammar.specs.Parts.{child, chosen, placeAt}
 use Rattle.grammar.specs.Parts.{mark, when}
 use Rattle.answers.specs.Rows.{rowWith, value, item, option, ruleDraft, form, guidHigh, guidLow, guidBytes, formSet}
-use Rattle.grammar.specs.Flags.{classes, flags}
-use Rattle.answers.specs.Text.{hasFlag}
+use Rattle.grammar.specs.Flags.{classes, flags, sizeIn, displayIn}
+use Rattle.answers.specs.Text.{hasFlag, numericList}
 use Rattle.formulas.specs.Shapes.{ruleWord, Shape, Over}
 use Rattle.formulas.specs.Formula.{Formula}
 use Rattle.roundtrip.proofs.Phrases.{cell, subtitleUnder, textUnder, labelUnder, gotoUnder, checkboxUnder, numericUnder, oneOfUnder, optionUnder, ruleUnder, formUnder, formSetUnder}
-use Rattle.roundtrip.proofs.PhraseRows.{questionRow, gotoHolds, checkboxHolds, numericHolds, oneOfHolds, marked, subtitle-is, text-is, label-is, goto-is, checkbox-is, numeric-is, one-of-is, option-is, rule-is, form-is, highOf, lowOf, form-set-is}
+use Rattle.roundtrip.proofs.PhraseRows.{sizeAmong, displayAmong, questionRow, gotoHolds, checkboxHolds, numericHolds, oneOfHolds, marked, subtitle-is, text-is, label-is, goto-is, checkbox-is, numeric-is, one-of-is, option-is, rule-is, form-is, highOf, lowOf, form-set-is}
 use Rattle.roundtrip.proofs.FlagsAgain.{again, flags-default-again, flags-again, default-again}
+use Rattle.roundtrip.proofs.NumericLists.{size-again, display-again}
 use Rattle.again.specs.Matches.{Settled, Match}
 use Rattle.again.proofs.Likeness.{numbered-row, draft-row}
 
@@ -204,13 +206,15 @@ module _ (t : List ℕ) (look : ℕ → List ℕ) (source : ℕ → ℕ) (parent
       let de = default-again ks d in
       let fl : again x + when (flag.isSet flag.HAS-DEFAULT x) flag.HAS-DEFAULT ≡ x = λ i. flags-default-again ks d i + when (de i) flag.HAS-DEFAULT in
       let dv : when (flag.isSet flag.HAS-DEFAULT x) (when d v) ≡ when d v = ap (λ z. when z (when d v)) de ∙ when-again d v in
+      let sized : sizeAndDisplay (sizeAmong (numericList found)) (displayAmong (numericList found)) ≡ sizeAndDisplay (sizeIn (child 3 c)) (displayIn (child 3 c)) =
+      ap₂ sizeAndDisplay (size-again found ks refl) (display-again found ks refl) in
       let default-bit : hasFlag flag.HAS-DEFAULT r ≡ d = ap (λ y. flag.isSet flag.HAS-DEFAULT (cell column.FLAGS y)) e ∙ de in
       record {
         whole = refl;
         same =
             ap withoutPlaces (q .row)
             ∙ subst (λ y. withoutPlaces (asked code.NUMERIC y (numericHolds y)) ≡ withoutPlaces y) (sym e)
-            (λ j. withoutPlaces (set (set found column.FLAGS (fl j)) column.D (dv j)));
+            (λ j. withoutPlaces (set (set (set found column.FLAGS (fl j)) column.D (dv j)) column.SIZE (sized j)));
         code-same = refl;
         default = m .1 ∙ default-bit ∙ when-mark d (placeAt 0 (child 2 (child 13 c)));
         question = λ z. (q .written, ap (cell column.NAME) (q .row));

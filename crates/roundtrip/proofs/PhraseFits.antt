@@ -17,14 +17,15 @@ use Rattle.grammar.specs.Rules.{<source>, <form>*, <guid>, <str>, <form>, <item
 use Rattle.grammar.specs.Flags.{FlagWord}
 use Rattle.grammar.specs.Grammar.{rules}
 use Rattle.grammar.specs.Derivation.{tooDeep}
-use Rattle.answers.specs.Text.{hasFlag}
+use Rattle.answers.specs.Text.{hasFlag, numericList}
 use Rattle.formulas.specs.Shapes.{Shape, s-nil, flat}
 use Rattle.formulas.specs.Fitted.{Fitted, f-nil, f-leaf, f-node}
 use Rattle.formulas.proofs.Fitted.{fine}
 use Rattle.formulas.specs.Formula.{Formula, nest}
 use Rattle.formulas.proofs.Good.{good}
 use Rattle.roundtrip.proofs.Phrases.{cell, say, present, stringUnder, headUnder, rowFlags, FlagRules, flagRules, numericFlagRules, flagsPart, gotoFlagsPart, presentFlags, truthUnder, truthDefaultUnder, numberDefaultUnder, optionFlagsUnder, stepUnder, subtitleUnder, textUnder, labelUnder, gotoUnder, checkboxUnder, numericUnder, oneOfUnder, conditionUnder, optionUnder, ruleUnder, formUnder, guidUnder, formSetUnder}
-use Rattle.roundtrip.proofs.FlagLists.{Listed, flags-are-listed, numeric-flags-are-listed, Known, flags-known, numeric-flags-known, list-fits}
+use Rattle.roundtrip.proofs.FlagLists.{Listed, flags-are-listed, numeric-flags-are-listed, Known, flags-known, list-fits}
+use Rattle.roundtrip.proofs.NumericLists.{numeric-flags-known}
 
 module _ {d : Depth} (u : tooDeep d ≡ false) where
   -- ---- parts
@@ -104,7 +105,7 @@ module _ {d : Depth} (u : tooDeep d ≡ false) where
 
   pub numeric-fits : (r : List ℕ) {σ : List Symbol} {F : Trees} → Fitted d σ F → Fitted d (nonterminal <item> ∷ σ) (node <item> 5 (flat (numericUnder r)) F)
   unfolding rules
-  numeric-fits r h = f-node refl (f-leaf u (head-fits r (f-leaf u (flags-fit <numeric-flags>? numericFlagRules (rowFlags r) refl numeric-flags-are-listed (numeric-flags-known r) (f-leaf u (f-leaf u (number-fits refl (f-leaf u (f-leaf u (f-leaf u (number-fits refl (f-leaf u (step-fits (cell column.C r) (number-default-fits (hasFlag flag.HAS-DEFAULT r) (cell column.D r) (f-leaf u (f-leaf u f-nil)))))))))))))))) h
+  numeric-fits r h = f-node refl (f-leaf u (head-fits r (f-leaf u (flags-fit <numeric-flags>? numericFlagRules (numericList r) refl numeric-flags-are-listed (numeric-flags-known r) (f-leaf u (f-leaf u (number-fits refl (f-leaf u (f-leaf u (f-leaf u (number-fits refl (f-leaf u (step-fits (cell column.C r) (number-default-fits (hasFlag flag.HAS-DEFAULT r) (cell column.D r) (f-leaf u (f-leaf u f-nil)))))))))))))))) h
 
   pub one-of-fits : (r : List ℕ) (x : Shape) {σ : List Symbol} {F : Trees} → Fitted d (nonterminal <option> ∷ nonterminal <option>* ∷ t class.«endoneof» ∷ t class.semicolon ∷ []) (flat x) → Fitted d σ F → Fitted d (nonterminal <item> ∷ σ) (node <item> 6 (flat (oneOfUnder r x)) F)
   unfolding rules

@@ -2,7 +2,7 @@
 -- Assumes nothing.
 use mathlib.Core.Path.{_≡_, refl, ap, _∙_}
 use mathlib.Core.List.{List, [], _∷_}
-use mathlib.Core.Bool.{Bool, true, false, or-false}
+use mathlib.Core.Bool.{Bool, true, false}
 use Prim.Native.Nat.{ℕ, suc, _+_, _*_, _/_, _%_, _^_}
 use native.Mathlib.Omega.{arith}
 use lib.Dec.{eqb, ltb}
@@ -10,24 +10,26 @@ use lib.ListN.{drop}
 use borrow.Author.Tests.{lt-ltb}
 use Rattle.values.specs.declared.Value.the-variants.{Fits as FitsWord}
 use Rattle.values.specs.Numbers.{valueAt}
-use Rattle.lexemes.specs.Classes as class
 use Rattle.lexemes.specs.Words as words
 use Rattle.rows.specs.Codes as code
 use Rattle.rows.specs.Columns as column
 use Rattle.rows.specs.Cells.{Entry, _≔_}
 use Rattle.rows.specs.Flags as flag
-use Rattle.ll1.specs.Trees.{token, Trees}
+use Rattle.rows.specs.Sizes.{NO-SIZE, UINT-DEC, sizeAndDisplay}
+use Rattle.ll1.specs.Trees.{Trees}
 use Rattle.grammar.specs.Source.{numberAt}
 use Rattle.grammar.specs.Parts.{child, chosen, placeAt}
 use Rattle.answers.specs.Rows.{Draft, rowWith, numeralAt, value, string, writtenNumber, writtenMark, nameMark, item, option, form, guidHigh, guidLow, guidBytes, formSet}
 use Rattle.grammar.specs.Parts.{mark, when}
-use Rattle.grammar.specs.Flags.{FlagWord, flagWords, classes, total, flags}
-use Rattle.answers.specs.Text.{hasFlag}
+use Rattle.grammar.specs.Flags.{FlagWord, flagWords, sizeWords, displayWords, classesOf, classes, total, flags, firstOf}
+use Rattle.grammar.proofs.FlagTotals.{PassesOver, noneOf, total-passes, first-passes}
+use Rattle.answers.specs.Text.{hasFlag, numericList}
 use Rattle.formulas.specs.Shapes.{decimal, hex, ruleWord, Shape, s-nil, s-leaf, flat, taken, read-sign, read-decimal, read-rule, read-hex, Over, over-nil, over-leaf}
-use Rattle.formulas.proofs.Shapes.{over-part, over-taken}
+use Rattle.formulas.proofs.Shapes.{over-part, over-taken, over-classes}
 use Rattle.formulas.specs.Formula.{Formula}
-use Rattle.roundtrip.proofs.Phrases.{cell, classesOf, rowFlags, FlagRules, flagRules, numericFlagRules, flagsPart, gotoFlagsPart, present, truthDefaultUnder, numberDefaultUnder, stringUnder, headUnder, subtitleUnder, textUnder, labelUnder, gotoUnder, checkboxUnder, numericUnder, oneOfUnder, optionUnder, ruleUnder, formUnder, eightUnder, guidUnder, formSetUnder}
-use Rattle.roundtrip.proofs.FlagLists.{total-same, no-word, list-classes, over-flags}
+use Rattle.roundtrip.proofs.Phrases.{cell, rowFlags, FlagRules, flagRules, numericFlagRules, flagsPart, present, truthDefaultUnder, numberDefaultUnder, stringUnder, headUnder, subtitleUnder, textUnder, labelUnder, gotoUnder, checkboxUnder, numericUnder, oneOfUnder, optionUnder, ruleUnder, formUnder, eightUnder, guidUnder, formSetUnder}
+use Rattle.roundtrip.proofs.FlagLists.{frame, part-read, goto-read}
+use Rattle.roundtrip.proofs.NumericLists.{numeric-total}
 
 -- ---- flags
 
@@ -35,17 +37,12 @@ use Rattle.roundtrip.proofs.FlagLists.{total-same, no-word, list-classe
 abbrev pub flagTotal : List FlagWord → ℕ
 flagTotal ws = total flagWords (classesOf ws)
 
-flags-in : (R : FlagRules) (ws : List FlagWord) → flags (flat (flagsPart R ws)) ≡ flagTotal ws
-flags-in R [] = refl
-flags-in R (w ∷ ws) = total-same flagWords (classes (flat (flagsPart R (w ∷ ws)))) (classesOf (w ∷ ws)) (λ k m.
-    rw (no-word class.«flags» k refl m, no-word class.«=» k refl m)
-    (list-classes R k m w ws (token class.comma 0 ∷ []) ∙ rw (no-word class.comma k refl m) (or-false _)))
+-- and the size and display among them
+abbrev pub sizeAmong : List FlagWord → ℕ
+sizeAmong ws = firstOf sizeWords NO-SIZE (classesOf ws)
 
-goto-flags-in : (ws : List FlagWord) → flags (flat (gotoFlagsPart ws)) ≡ flagTotal ws
-goto-flags-in [] = refl
-goto-flags-in (w ∷ ws) = total-same flagWords (classes (flat (gotoFlagsPart (w ∷ ws)))) (classesOf (w ∷ ws)) (λ k m.
-    rw (no-word class.comma k refl m, no-word class.«flags» k refl m, no-word class.«=» k refl m)
-    (list-classes flagRules k m w ws [] ∙ or-false _))
+abbrev pub displayAmong : List FlagWord → ℕ
+displayAmong ws = firstOf displayWords UINT-DEC (classesOf ws)
 
 -- the row of a question by its HEAD's number, prompt, help and name, with what else it holds
 abbrev pub questionRow : (k parent place own first second name : ℕ) → List Entry → List ℕ
@@ -69,6 +66,7 @@ numericHolds r =
     ∷ column.B ≔ cell column.B r
     ∷ column.C ≔ cell column.C r
     ∷ column.D ≔ when (hasFlag flag.HAS-DEFAULT r) (cell column.D r)
+    ∷ column.SIZE ≔ sizeAndDisplay (sizeAmong (numericList r)) (displayAmong (numericList r))
     ∷ []
 
 abbrev pub oneOfHolds : List ℕ → List Entry
@@ -86,6 +84,14 @@ module _ (t : List ℕ) where
   value-of p h = rw h
 
   -- ---- parts
+
+  -- what is read of the classes of FL is told by its words
+  said : {X : Type 0} (R : FlagRules) (ws vs : List FlagWord) (read : List ℕ → X) → PassesOver vs read → noneOf vs frame ≡ true
+      → {T : Trees} → Over t T (flagsPart R ws) → read (classes T) ≡ read (classesOf ws)
+  said R ws vs read over h o = ap read (over-classes o) ∙ part-read R vs h read over ws
+
+  flags-said : (R : FlagRules) (ws : List FlagWord) {T : Trees} → Over t T (flagsPart R ws) → flags T ≡ flagTotal ws
+  flags-said R ws o = said R ws flagWords (total flagWords) (total-passes flagWords) refl o
 
   number-is : {v : ℕ} {T : Trees} → Over t T (s-leaf (decimal v) s-nil) → N (placeAt 0 T) ≡ v
   number-is (over-leaf {p = p} (read-decimal h) over-nil) = value-of p h
@@ -162,13 +168,13 @@ module _ (t : List ℕ) where
   goto-is r parent {T} o =
       let h = head-is r (over-part 3 o) in
       let g = number-is {v = cell column.A r} (over-part 1 o) in
-      let fl = over-flags t (over-part 4 o) ∙ goto-flags-in (rowFlags r) in
+      let fl = ap (total flagWords) (over-classes (over-part 4 o)) ∙ goto-read flagWords refl (total flagWords) (total-passes flagWords) (rowFlags r) in
       record { row = λ i. questionRow code.GOTO parent (placeAt 0 T) (h .own i) (h .first i) (h .second i) (h .unnamed i) (column.FLAGS ≔ fl i ∷ column.A ≔ g i ∷ []); written = h .written }
 
   pub checkbox-is : (r : List ℕ) (parent : ℕ) {T : Trees} → Over t T (checkboxUnder r) → Question (item N parent 4 T) code.CHECKBOX parent (placeAt 0 T) r (checkboxHolds r)
   checkbox-is r parent {T} o =
       let h = head-is r (over-part 1 o) in
-      let fl = over-flags t (over-part 3 o) ∙ flags-in flagRules (rowFlags r) in
+      let fl = flags-said flagRules (rowFlags r) (over-part 3 o) in
       let de = ap (λ k. eqb k 1) (over-taken 4 o) ∙ present-is (hasFlag flag.HAS-DEFAULT r) in
       let dv = (λ i. when (de i) (when (eqb (over-taken 2 (over-part 4 o) i) 0) 1)) ∙ truth-is (hasFlag flag.HAS-DEFAULT r) (eqb (cell column.D r) 1) in
       record {
@@ -180,7 +186,9 @@ module _ (t : List ℕ) where
       → Question (item N parent 5 T) code.NUMERIC parent (placeAt 0 T) r (numericHolds r) × (ltb 0 (item N parent 5 T .defaultAt) ≡ hasFlag flag.HAS-DEFAULT r)
   numeric-is r parent {T} o =
       let h = head-is r (over-part 1 o) in
-      let fl = over-flags t (over-part 3 o) ∙ flags-in numericFlagRules (rowFlags r) in
+      let fl = flags-said numericFlagRules (numericList r) (over-part 3 o) ∙ numeric-total r in
+      let hz = said numericFlagRules (numericList r) sizeWords (firstOf sizeWords NO-SIZE) (first-passes sizeWords NO-SIZE) refl (over-part 3 o) in
+      let hy = said numericFlagRules (numericList r) displayWords (firstOf displayWords UINT-DEC) (first-passes displayWords UINT-DEC) refl (over-part 3 o) in
       let ha = number-is {v = cell column.A r} (over-part 6 o) in
       let hb = number-is {v = cell column.B r} (over-part 10 o) in
       let hs = number-is {v = cell column.C r} (over-part 2 (over-part 12 o)) in
@@ -188,7 +196,7 @@ module _ (t : List ℕ) where
       let dv = ap (λ z. when z (value N 2 (child 13 T))) de ∙ default-is (hasFlag flag.HAS-DEFAULT r) (cell column.D r) (over-part 13 o) in
       let hc : when (eqb (chosen 12 T) 1) (value N 2 (child 12 T)) ≡ cell column.C r = λ i. when (eqb (over-taken 12 o i) 1) (hs i) in (
         record {
-          row = λ i. questionRow code.NUMERIC parent (placeAt 0 T) (h .own i) (h .first i) (h .second i) (h .unnamed i) (column.FLAGS ≔ (fl i + when (de i) flag.HAS-DEFAULT) ∷ column.A ≔ ha i ∷ column.B ≔ hb i ∷ column.C ≔ hc i ∷ column.D ≔ dv i ∷ []);
+          row = λ i. questionRow code.NUMERIC parent (placeAt 0 T) (h .own i) (h .first i) (h .second i) (h .unnamed i) (column.FLAGS ≔ (fl i + when (de i) flag.HAS-DEFAULT) ∷ column.A ≔ ha i ∷ column.B ≔ hb i ∷ column.C ≔ hc i ∷ column.D ≔ dv i ∷ column.SIZE ≔ sizeAndDisplay (hz i) (hy i) ∷ []);
           written = h .written;
         },
         ap (λ z. ltb 0 (when z (mark (numeralAt N 2 (child 13 T))))) de ∙ marked-when (hasFlag flag.HAS-DEFAULT r) (numeralAt N 2 (child 13 T)),
@@ -197,7 +205,7 @@ module _ (t : List ℕ) where
   pub one-of-is : (r : List ℕ) (x : Shape) (parent : ℕ) {T : Trees} → Over t T (oneOfUnder r x) → Question (item N parent 6 T) code.ONE-OF parent (placeAt 0 T) r (oneOfHolds r)
   one-of-is r x parent {T} o =
       let h = head-is r (over-part 1 o) in
-      let fl = over-flags t (over-part 3 o) ∙ flags-in flagRules (rowFlags r) in
+      let fl = flags-said flagRules (rowFlags r) (over-part 3 o) in
       record { row = λ i. questionRow code.ONE-OF parent (placeAt 0 T) (h .own i) (h .first i) (h .second i) (h .unnamed i) (column.FLAGS ≔ fl i ∷ []); written = h .written }
 
   -- ---- the other statements

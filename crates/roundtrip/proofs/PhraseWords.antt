@@ -10,7 +10,7 @@ use Rattle.lexemes.specs.Lexemes.{signs, reserved, lexemes}
 use Rattle.lexemes.specs.Classes as class
 use Rattle.rows.specs.Columns as column
 use Rattle.rows.specs.Flags as flag
-use Rattle.answers.specs.Text.{Word, words, decimalDigits, decimal, ruleName, string, head, flagList, hasFlag, framed, flags, subtitle, text, label, goto, checkbox, numeric, oneOf, option, form, formSet}
+use Rattle.answers.specs.Text.{Word, words, decimalDigits, decimal, ruleName, string, head, flagList, hasFlag, framed, flags, numericList, subtitle, text, label, goto, checkbox, numeric, oneOf, option, form, formSet}
 use Rattle.grammar.specs.Flags.{FlagWord}
 use Rattle.formulas.specs.Shapes.{Lexed, sign, word, Shape, s-nil, lexed, spelling}
 use Rattle.formulas.specs.Formula.{Formula}
@@ -26,14 +26,14 @@ flags-words : (R : FlagRules) (ws : List FlagWord) (ls : List Lexed) → map wor
 unfolding lexemes signs reserved
 flags-words R [] ls = refl
 flags-words R (w ∷ ws) ls = ap (λ l. words "flags =" ++ l) (
-    ap (map word) (append-assoc (lexed (flagsUnder R w ws)) (sign class.comma ∷ []) ls) ∙ list-words R w ws (sign class.comma ∷ ls)
+    ap (map word) (append-assoc (lexed (flagsUnder R (w ∷ ws))) (sign class.comma ∷ []) ls) ∙ list-words R (w ∷ ws) (sign class.comma ∷ ls)
     ∙ sym (append-assoc (flagList (w ∷ ws)) (words ",") (map word ls)))
 
 goto-flags-words : (ws : List FlagWord) (ls : List Lexed) → map word (lexed (gotoFlagsPart ws) ++ ls) ≡ framed (words ", flags =") (flagList ws) [] ++ map word ls
 unfolding lexemes signs reserved
 goto-flags-words [] ls = refl
 goto-flags-words (w ∷ ws) ls = ap (λ l. words ", flags =" ++ l) (
-    ap (map word) (append-assoc (lexed (flagsUnder flagRules w ws)) [] ls) ∙ list-words flagRules w ws ls
+    ap (map word) (append-assoc (lexed (flagsUnder flagRules (w ∷ ws))) [] ls) ∙ list-words flagRules (w ∷ ws) ls
     ∙ sym (append-assoc (flagList (w ∷ ws)) [] (map word ls)))
 
 -- ---- what follows FL, after other words
@@ -52,17 +52,24 @@ truth-after [] true false = refl
 truth-after [] false v = refl
 truth-after (w ∷ ws) d v = ap (λ l. w ∷ l) (truth-after ws d v)
 
--- a numeric's numbers
+-- a numeric's numbers, after a comma
 abbrev numbersAfter : List Word → Bool → List ℕ → List Word
 numbersAfter ws d r =
-    ws ++ words "minimum =" ++ decimal (cell column.A r) ++ words ", maximum =" ++ decimal (cell column.B r)
+    ws ++ words ", minimum =" ++ decimal (cell column.A r) ++ words ", maximum =" ++ decimal (cell column.B r)
     ++ words ", step =" ++ decimal (cell column.C r) ++ words "," ++ defaultWords d (decimal (cell column.D r)) ++ words "endnumeric ;"
 
-numbers-after : (ws : List Word) (d : Bool) (r : List ℕ) → ws ++ spelling (numbersShape d r) ≡ numbersAfter ws d r
+numbers-after : (ws : List Word) (d : Bool) (r : List ℕ) → ws ++ words "," ++ spelling (numbersShape d r) ≡ numbersAfter ws d r
 unfolding lexemes signs reserved
 numbers-after [] true r = refl
 numbers-after [] false r = refl
 numbers-after (w ∷ ws) d r = ap (λ l. w ∷ l) (numbers-after ws d r)
+
+-- words that are never absent
+framed-some :
+    (before after : List Word) (ws : List FlagWord) (v : FlagWord) (vs : List FlagWord)
+    → framed before (flagList (ws ++ (v ∷ vs))) after ≡ before ++ flagList (ws ++ (v ∷ vs)) ++ after
+framed-some before after [] v vs = refl
+framed-some before after (w ∷ ws) v vs = refl
 
 -- ---- items
 
@@ -95,7 +102,9 @@ unfolding lexemes signs reserved
 numeric-words r =
     let d = hasFlag flag.HAS-DEFAULT r in
     ap (λ l. words "numeric" ++ head r ++ words "," ++ l) (
-    flags-words numericFlagRules (rowFlags r) (lexed (numbersShape d r)) ∙ numbers-after (flags (words "flags =") (words ",") r) d r)
+    flags-words numericFlagRules (numericList r) (lexed (numbersShape d r))
+    ∙ ap (λ l. l ++ spelling (numbersShape d r)) (framed-some (words "flags =") (words ",") (rowFlags r) _ _)
+    ∙ numbers-after (words "flags =" ++ flagList (numericList r)) d r)
 
 pub one-of-words : (r : List ℕ) (x : Shape) → spelling (oneOfUnder r x) ≡ oneOf r ++ spelling x
 unfolding lexemes signs reserved

@@ -1,6 +1,6 @@
 -- The shape of each statement of a resolved text, from the cells of its row.
 -- Assumes nothing.
-use mathlib.Core.List.{List, [], _∷_, map}
+use mathlib.Core.List.{List, [], _∷_}
 use mathlib.Core.Bool.{Bool, true, false, not}
 use Prim.Native.Nat.{ℕ, suc, _/_, _%_, _^_}
 use lib.Dec.{eqb}
@@ -9,9 +9,9 @@ use Rattle.lexemes.specs.Classes as class
 use Rattle.rows.specs.Columns as column
 use Rattle.rows.specs.Flags as flag
 use Rattle.grammar.specs.Rules.{<guid>, <guid-end>, <eight>, <H8>, <H4>, <H2>, <str>, <id>, <small>, <large>, <zero>, <goto-flags>?, <flags>?, <truth-default>?, <truth>, <step>?, <number-default>?, <option-flags>, <head>, <name>?, <questionid>?, <fl>, <flag>*, <flag>, <numeric-flags>?, <numeric-fl>, <numeric-flag>*, <numeric-flag>, <numeric-value>}
-use Rattle.grammar.specs.Flags.{FlagWord, flagWords, setIn}
+use Rattle.grammar.specs.Flags.{FlagWord, flagWords, numericWords, classesOf, setIn}
 use Rattle.grammar.proofs.Choices.{placeIn}
-use Rattle.answers.specs.Text.{hasFlag}
+use Rattle.answers.specs.Text.{hasFlag, numericList}
 use Rattle.formulas.specs.Shapes.{sign, hex, rule-name, Shape, s-nil, s-leaf, s-node}
 use Rattle.formulas.specs.Formula.{Formula}
 use Rattle.formulas.specs.Tree.{numeralShape, tree}
@@ -45,9 +45,6 @@ headShape r f = s-node <head> 0 (headUnder r) f
 
 -- ---- FL
 
-abbrev pub classesOf : List FlagWord → List ℕ
-classesOf ws = map (λ w. w .class) ws
-
 -- the words that a row sets
 abbrev pub rowFlags : List ℕ → List FlagWord
 rowFlags r = setIn (cell column.FLAGS r) flagWords
@@ -64,7 +61,7 @@ flagRules = record { list = <fl>; more = <flag>*; word = <flag>; classes = class
 
 -- a numeric's
 abbrev pub numericFlagRules : FlagRules
-numericFlagRules = record { list = <numeric-fl>; more = <numeric-flag>*; word = <numeric-flag>; classes = classesOf flagWords }
+numericFlagRules = record { list = <numeric-fl>; more = <numeric-flag>*; word = <numeric-flag>; classes = classesOf numericWords }
 
 module _ (R : FlagRules) where
   abbrev pub flagShape : FlagWord → Shape → Shape
@@ -75,21 +72,22 @@ module _ (R : FlagRules) where
   moreFlags (w ∷ ws) = s-node (R .more) 1 (say class.«|» (flagShape w (moreFlags ws))) s-nil
 
   -- one word or more
-  abbrev pub flagsUnder : FlagWord → List FlagWord → Shape
-  flagsUnder w ws = flagShape w (moreFlags ws)
+  abbrev pub flagsUnder : List FlagWord → Shape
+  flagsUnder [] = s-nil
+  flagsUnder (w ∷ ws) = flagShape w (moreFlags ws)
 
-  abbrev pub flagsShape : FlagWord → List FlagWord → Shape → Shape
-  flagsShape w ws f = s-node (R .list) 0 (flagsUnder w ws) f
+  abbrev pub flagsShape : List FlagWord → Shape → Shape
+  flagsShape ws f = s-node (R .list) 0 (flagsUnder ws) f
 
   -- [flags = FL ,]
   abbrev pub flagsPart : List FlagWord → Shape
   flagsPart [] = s-nil
-  flagsPart (w ∷ ws) = say class.«flags» (say class.«=» (flagsShape w ws (say class.comma s-nil)))
+  flagsPart (w ∷ ws) = say class.«flags» (say class.«=» (flagsShape (w ∷ ws) (say class.comma s-nil)))
 
 -- [, flags = FL]
 abbrev pub gotoFlagsPart : List FlagWord → Shape
 gotoFlagsPart [] = s-nil
-gotoFlagsPart (w ∷ ws) = say class.comma (say class.«flags» (say class.«=» (flagsShape flagRules w ws s-nil)))
+gotoFlagsPart (w ∷ ws) = say class.comma (say class.«flags» (say class.«=» (flagsShape flagRules (w ∷ ws) s-nil)))
 
 -- the alternative of a part that may be absent: a list's, and any other's
 abbrev pub presentFlags : List FlagWord → ℕ
@@ -172,9 +170,9 @@ checkboxUnder r = say class.«checkbox» (headShape r (say class.comma (otherFla
 abbrev pub numbersShape : Bool → List ℕ → Shape
 numbersShape d r = say class.«minimum» (say class.«=» (numeralShape <numeric-value> (cell column.A r) (say class.comma (say class.«maximum» (say class.«=» (numeralShape <numeric-value> (cell column.B r) (say class.comma (stepShape (cell column.C r) (numberDefault d (cell column.D r) (ending class.«endnumeric»))))))))))
 
--- numeric HEAD , [flags = FL ,] and its numbers
+-- numeric HEAD , flags = FL , and its numbers
 abbrev pub numericUnder : List ℕ → Shape
-numericUnder r = say class.«numeric» (headShape r (say class.comma (numericFlags (rowFlags r) (numbersShape (hasFlag flag.HAS-DEFAULT r) r))))
+numericUnder r = say class.«numeric» (headShape r (say class.comma (numericFlags (numericList r) (numbersShape (hasFlag flag.HAS-DEFAULT r) r))))
 
 -- oneof HEAD , [flags = FL ,] and what follows
 abbrev pub oneOfUnder : List ℕ → Shape → Shape

@@ -16,6 +16,8 @@ use Rattle.lexemes.proofs.Lists.{either}
 use Rattle.rows.specs.Codes as code
 use Rattle.rows.specs.Codes.{member, questions, isQuestion}
 use Rattle.rows.specs.Columns as column
+use Rattle.sizes.specs.Sizes.{modulus}
+use Rattle.sizes.proofs.Signed.{modulus-some}
 use Rattle.ll1.specs.Trees.{token, Trees, nil, leaf, node, Symbol, terminal, nonterminal, Alternative, alternativeOf, Fits, fits-nil, fits-leaf, fits-node}
 use Rattle.ll1.proofs.Basics.{clash}
 use Rattle.grammar.specs.Rules.{<source>, <form>*, <form>, <item-or-rule>*, <rule>, <item>, <option>*, <item>*, <option>, <head>}
@@ -23,12 +25,14 @@ use Rattle.grammar.specs.Grammar.{rules}
 use Rattle.grammar.specs.Ranges.{ranges, rangeOf}
 use Rattle.grammar.specs.Source.{heldValue, numberAt}
 use Rattle.grammar.specs.Parts.{child, chosen, placeAt}
+use Rattle.grammar.specs.Flags.{classes, sizeIn}
 use Rattle.answers.specs.Expression.{Expression, number, constant, question-named, question-numbered, rule-named, negation, binary, expression}
 use Rattle.answers.specs.Rows.{Draft, rulesIn, draftsOf, expressionRows, item, ruleDraft}
 use Rattle.grammar.specs.Parts.{when}
 use Rattle.answers.specs.Stages.{cell, is, asks}
+use Rattle.answers.specs.Text.{numericList}
 use Rattle.sound.proofs.Lists.{All, none, more}
-use Rattle.sound.proofs.Kept.{Kept, kept-nil, kept-leaf, kept-node, Node, part, id-range, small-range, string-range}
+use Rattle.sound.proofs.Kept.{Kept, kept-nil, kept-leaf, kept-node, Node, part, id-range, small-range, string-range, sized}
 use Rattle.formulas.specs.Expressions.{ruleAt}
 use Rattle.formulas.specs.Formula.{formula}
 use Rattle.roundtrip.proofs.Expressions.{all-parts}
@@ -42,8 +46,10 @@ use Rattle.roundtrip.proofs.Phrases.{ending, conditionUnder}
 use Rattle.roundtrip.proofs.Canon.{under, canon, listed}
 use Rattle.roundtrip.proofs.CanonItems.{head-of, tail-of, rowOf}
 use Rattle.roundtrip.proofs.GuidAgain.{high-small}
-use Rattle.roundtrip.proofs.Ranged.{Ranged, Fine}
-use Rattle.roundtrip.proofs.PhraseRanged.{Id, ending-ranged, subtitle-ranged, text-ranged, label-ranged, goto-ranged, checkbox-ranged, numeric-ranged, one-of-ranged, option-ranged, form-ranged, form-set-ranged, condition-ranged, rule-ranged}
+use Rattle.roundtrip.proofs.PhraseRows.{sizeAmong}
+use Rattle.roundtrip.proofs.NumericLists.{size-again}
+use Rattle.roundtrip.proofs.Ranged.{Ranged, NodeRanged, Fine}
+use Rattle.roundtrip.proofs.PhraseRanged.{Id, ending-ranged, subtitle-ranged, text-ranged, label-ranged, goto-ranged, checkbox-ranged, numeric-ranged, numbers-fit, one-of-ranged, option-ranged, form-ranged, form-set-ranged, condition-ranged, rule-ranged}
 
 kept-fits : {s : List ℕ} {σ : List Symbol} {f : Trees} → Kept s σ f → Fits rules σ f
 kept-fits kept-nil = fits-nil
@@ -58,9 +64,10 @@ number-small s p = by (numeral (word (drop p s)))
     by : (v : ℕ) → heldValue (fitted v) < 2 ^ 64
     by v = either (ltb v (2 ^ 64)) (λ e. rw (e, fitted) (ltb-true v (2 ^ 64) e)) (λ e. rw (e, fitted) (omega arith))
 
-when-small : (b : Bool) (v : ℕ) → v < 2 ^ 64 → when b v < 2 ^ 64
-when-small true v h = h
-when-small false v h = omega arith
+-- what is 0 where it is not written
+when-below : (b : Bool) (v bound : ℕ) → 0 < bound → (b ≡ true → v < bound) → when b v < bound
+when-below true v bound z h = h refl
+when-below false v bound z h = z
 
 module _ (s : List ℕ) (look : ℕ → List ℕ) where
   abbrev source : ℕ → ℕ
@@ -87,7 +94,7 @@ module _ (s : List ℕ) (look : ℕ → List ℕ) where
   -- ---- the walk
 
   abbrev Stated : ℕ → ℕ → Trees → Type 0
-  Stated A i c = (parent at n : ℕ) → All Fit (within source look A i c parent at n) → Ranged (under look A i c (canon look c))
+  Stated A i c = (parent at n : ℕ) → All Fit (within source look A i c parent at n) → NodeRanged A i (under look A i c (canon look c))
 
   abbrev NodeGood : ℕ → ℕ → Trees → Type 0
   NodeGood A i c = states A ≡ true → Stated A i c
@@ -139,58 +146,73 @@ module _ (s : List ℕ) (look : ℕ → List ℕ) where
   unfolding rules isQuestion member questions rangeOf ranges
   subtitle-case {c} x parent at n all =
       let z = head-of all .0 in
-      subtitle-ranged (found c) (omega (arith, cell-is column.FIRST z, string-range s x 3 refl))
+      (tt, subtitle-ranged (found c) (omega (arith, cell-is column.FIRST z, string-range s x 3 refl)))
 
   text-case : {c : Trees} → Node s <item> 1 c → Stated <item> 1 c
   unfolding rules isQuestion member questions rangeOf ranges
   text-case {c} x parent at n all =
       let z = head-of all .0 in
-      text-ranged (found c) (omega (arith, cell-is column.FIRST z, string-range s x 7 refl)) (omega (arith, cell-is column.SECOND z, string-range s x 3 refl))
+      (tt, text-ranged (found c) (omega (arith, cell-is column.FIRST z, string-range s x 7 refl)) (omega (arith, cell-is column.SECOND z, string-range s x 3 refl)))
 
   label-case : {c : Trees} → Node s <item> 2 c → Stated <item> 2 c
   unfolding rules isQuestion member questions rangeOf ranges
   label-case {c} x parent at n all =
       let z = head-of all .0 in
-      label-ranged (found c) (omega (arith, cell-is column.OWN z, z .own-same refl, small-range s x 1 refl))
+      (tt, label-ranged (found c) (omega (arith, cell-is column.OWN z, z .own-same refl, small-range s x 1 refl)))
 
   goto-case : {c : Trees} → Node s <item> 3 c → Stated <item> 3 c
   unfolding rules isQuestion member questions rangeOf ranges
   goto-case {c} x parent at n all =
       let z = head-of all .0 in
       let h = part s x 3 <head> refl in
-      goto-ranged (found c) (own-id z refl)
+      (tt, goto-ranged (found c) (own-id z refl)
       (omega (arith, cell-is column.FIRST z, string-range s h 4 refl))
       (omega (arith, cell-is column.SECOND z, string-range s h 8 refl))
-      (omega (arith, cell-is column.A z, z .a-same refl, id-range s x 1 refl))
+      (omega (arith, cell-is column.A z, z .a-same refl, id-range s x 1 refl)))
 
   checkbox-case : {c : Trees} → Node s <item> 4 c → Stated <item> 4 c
   unfolding rules isQuestion member questions rangeOf ranges
   checkbox-case {c} x parent at n all =
       let z = head-of all .0 in
       let h = part s x 1 <head> refl in
-      checkbox-ranged (found c) (own-id z refl)
+      (tt, checkbox-ranged (found c) (own-id z refl)
       (omega (arith, cell-is column.FIRST z, string-range s h 4 refl))
-      (omega (arith, cell-is column.SECOND z, string-range s h 8 refl))
+      (omega (arith, cell-is column.SECOND z, string-range s h 8 refl)))
 
   numeric-case : {c : Trees} → Node s <item> 5 c → Stated <item> 5 c
   unfolding rules isQuestion member questions rangeOf ranges
   numeric-case {c} x parent at n all =
       let z = head-of all .0 in
       let h = part s x 1 <head> refl in
-      numeric-ranged (found c) (own-id z refl)
-      (omega (arith, cell-is column.FIRST z, string-range s h 4 refl))
-      (omega (arith, cell-is column.SECOND z, string-range s h 8 refl))
-      (omega (arith, cell-is column.A z, z .a-same refl, number-small s (placeAt 0 (child 6 c))))
-      (omega (arith, cell-is column.B z, number-small s (placeAt 0 (child 10 c))))
-      (omega (arith, cell-is column.C z, when-small (eqb (chosen 12 c) 1) (source (placeAt 0 (child 2 (child 12 c)))) (number-small s _)))
-      (omega (arith, cell-is column.D z, when-small (eqb (chosen 13 c) 1) (source (placeAt 0 (child 2 (child 13 c)))) (number-small s _)))
+      let n = sizeIn (child 3 c) in
+      let written-step = eqb (chosen 12 c) 1 in
+      let written-default = eqb (chosen 13 c) 1 in
+      let step = source (placeAt 0 (child 2 (child 12 c))) in
+      let default = source (placeAt 0 (child 2 (child 13 c))) in
+      let fit = sized s x in
+      let named : sizeAmong (numericList (found c)) ≡ n = size-again (found c) (classes (child 3 c)) (cell-is column.SIZE z) in
+      let below : (v w : ℕ) → v ≡ w → w < modulus n → v < modulus (sizeAmong (numericList (found c))) = λ v w e h.
+      subst (λ m. v < modulus m) (sym named) (subst (λ u. u < modulus n) (sym e) h) in (
+        (tt, numbers-fit (found c)
+        (below _ _ (cell-is column.A z ∙ z .a-same refl) (fit .minimum))
+        (below _ _ (cell-is column.B z) (fit .maximum))
+        (below _ _ (cell-is column.C z) (when-below written-step step (modulus n) (modulus-some n) (fit .step)))
+        (below _ _ (cell-is column.D z) (when-below written-default default (modulus n) (modulus-some n) (fit .default)))),
+        numeric-ranged (found c) (own-id z refl)
+        (omega (arith, cell-is column.FIRST z, string-range s h 4 refl))
+        (omega (arith, cell-is column.SECOND z, string-range s h 8 refl))
+        (omega (arith, cell-is column.A z, z .a-same refl, number-small s (placeAt 0 (child 6 c))))
+        (omega (arith, cell-is column.B z, number-small s (placeAt 0 (child 10 c))))
+        (omega (arith, cell-is column.C z, when-below written-step step (2 ^ 64) (omega arith) (λ e. number-small s (placeAt 0 (child 2 (child 12 c))))))
+        (omega (arith, cell-is column.D z, when-below written-default default (2 ^ 64) (omega arith) (λ e. number-small s (placeAt 0 (child 2 (child 13 c)))))),
+      )
 
   option-case : {c : Trees} → Node s <option> 0 c → Stated <option> 0 c
   unfolding rules isQuestion member questions rangeOf ranges
   option-case {c} x parent at n all =
       let z = head-of all .0 in
-      option-ranged (found c) (omega (arith, cell-is column.FIRST z, string-range s x 3 refl))
-      (omega (arith, cell-is column.A z, z .a-same refl, number-small s (placeAt 0 (child 7 c))))
+      (tt, option-ranged (found c) (omega (arith, cell-is column.FIRST z, string-range s x 3 refl))
+      (omega (arith, cell-is column.A z, z .a-same refl, number-small s (placeAt 0 (child 7 c)))))
 
   -- ---- those with statements or an expression under them
 
@@ -201,14 +223,16 @@ module _ (s : List ℕ) (look : ℕ → List ℕ) where
       let z = head-of all .0 in
       let h = part s x 1 <head> refl in
       let y = two-parts <option> (chosen 4 c) <option>* (chosen 5 c) (child 4 c) (child 5 c) at (at + 1) n (of-core v at (at + 1) n (tail-of all)) in
-      one-of-ranged (found c) (listed look <option> 4 c (listed look <option>* 5 c (ending class.«endoneof»))) (own-id z refl)
+      let a = node-at 4 <option> e refl refl at (at + 1) n (y .0) in
+      let b = node-at 5 <option>* e refl refl at _ _ (y .1) in
+      (tt, one-of-ranged (found c) (listed look <option> 4 c (listed look <option>* 5 c (ending class.«endoneof»))) (own-id z refl)
       (omega (arith, cell-is column.FIRST z, string-range s h 4 refl))
       (omega (arith, cell-is column.SECOND z, string-range s h 8 refl))
-      (tt, node-at 4 <option> e refl refl at (at + 1) n (y .0), (tt, node-at 5 <option>* e refl refl at _ _ (y .1), ending-ranged class.«endoneof» (omega arith)))) v x
+      (a .0, a .1, (b .0, b .1, ending-ranged class.«endoneof» (omega arith))))) v x
 
   -- suppressif, grayoutif or disableif, which is the class k, with the row D
   condition-case :
-      (k : ℕ) {c : Trees} (D : Draft) (at n : ℕ) → k < 72 → Told source look (anew (condition-symbols k) c) → Each (condition-symbols k) c
+      (k : ℕ) {c : Trees} (D : Draft) (at n : ℕ) → k < class.NAME → Told source look (anew (condition-symbols k) c) → Each (condition-symbols k) c
       → Rows ((D ∷ expressionRows source at (expression (child 1 c))) ++ draftsOf source (anew (condition-symbols k) c) at (at + suc (length (expressionRows source at (expression (child 1 c))))) n)
       → Ranged (conditionUnder k (formula look (expression (child 1 c))) (listed look <item>* 3 c (ending class.«endif»)))
   unfolding rangeOf ranges
@@ -216,8 +240,9 @@ module _ (s : List ℕ) (look : ℕ → List ℕ) where
       let E = D ∷ expressionRows source at (expression (child 1 c)) in
       let y = all-parts E (draftsOf source (anew (condition-symbols k) c) at (at + length E) n) all in
       let items = one-part <item>* (chosen 3 c) (child 3 c) at (at + length E) n (of-core v at (at + length E) n (y .1)) in
+      let a = node-at 3 <item>* e refl refl at (at + length E) n items in
       condition-ranged k (formula look (expression (child 1 c))) (listed look <item>* 3 c (ending class.«endif»)) b (fine at (expression (child 1 c)) (tail-of (y .0)))
-      (tt, node-at 3 <item>* e refl refl at (at + length E) n items, ending-ranged class.«endif» (omega arith))
+      (a .0, a .1, ending-ranged class.«endif» (omega arith))
 
   rule-case : {c : Trees} → Fits rules rule-symbols c → Stated <rule> 0 c
   unfolding isQuestion member questions rangeOf ranges
@@ -226,8 +251,8 @@ module _ (s : List ℕ) (look : ℕ → List ℕ) where
       let E = ruleDraft source parent n (anew rule-symbols c) ∷ expressionRows source at (expression (child 3 c)) in
       let y = all-parts E _ all in
       let z = head-of (y .0) in
-      rule-ranged (found c) (formula look (expression (child 3 c))) (omega (arith, cell-is column.OWN (z .0), z .0 .own-same refl, z .1 refl))
-      (fine at (expression (child 3 c)) (tail-of (y .0))))
+      (tt, rule-ranged (found c) (formula look (expression (child 3 c))) (omega (arith, cell-is column.OWN (z .0), z .0 .own-same refl, z .1 refl))
+      (fine at (expression (child 3 c)) (tail-of (y .0)))))
 
   form-case : {c : Trees} → Told source look c → Node s <form> 0 c → Fits rules form-symbols c → Each form-symbols c → Stated <form> 0 c
   unfolding rules isQuestion member questions rangeOf ranges
@@ -235,10 +260,11 @@ module _ (s : List ℕ) (look : ℕ → List ℕ) where
       by-parts (λ c. Told source look c → Node s <form> 0 c → Stated <form> 0 c) h (λ v x parent at n all.
       let z = head-of all .0 in
       let items = one-part <item-or-rule>* (chosen 9 c) (child 9 c) at (at + 1) n (of-core v at (at + 1) n (tail-of all)) in
-      form-ranged (found c) (listed look <item-or-rule>* 9 c (ending class.«endform»))
+      let a = node-at 9 <item-or-rule>* e refl refl at (at + 1) n items in
+      (tt, form-ranged (found c) (listed look <item-or-rule>* 9 c (ending class.«endform»))
       (omega (arith, cell-is column.OWN z, z .own-same refl, id-range s x 3 refl))
       (omega (arith, cell-is column.FIRST z, string-range s x 7 refl))
-      (tt, node-at 9 <item-or-rule>* e refl refl at (at + 1) n items, ending-ranged class.«endform» (omega arith))) v x
+      (a .0, a .1, ending-ranged class.«endform» (omega arith)))) v x
 
   form-set-case : {c : Trees} → Told source look c → Node s <source> 0 c → Fits rules form-set-symbols c → Each form-set-symbols c → Stated <source> 0 c
   unfolding rules isQuestion member questions rangeOf ranges
@@ -246,11 +272,13 @@ module _ (s : List ℕ) (look : ℕ → List ℕ) where
       by-parts (λ c. Told source look c → Node s <source> 0 c → Stated <source> 0 c) h (λ v x parent at n all.
       let z = head-of all .0 in
       let y = two-parts <form> (chosen 13 c) <form>* (chosen 14 c) (child 13 c) (child 14 c) at (at + 1) n (of-core v at (at + 1) n (tail-of all)) in
-      form-set-ranged (found c) (listed look <form> 13 c (listed look <form>* 14 c (ending class.«endformset»)))
+      let a = node-at 13 <form> e refl refl at (at + 1) n (y .0) in
+      let b = node-at 14 <form>* e refl refl at _ _ (y .1) in
+      (tt, form-set-ranged (found c) (listed look <form> 13 c (listed look <form>* 14 c (ending class.«endformset»)))
       (omega (arith, cell-is column.FIRST z, string-range s x 7 refl))
       (omega (arith, cell-is column.SECOND z, string-range s x 11 refl))
       (subst (λ v. v < 2 ^ 64) (sym (cell-is column.A z ∙ z .a-same refl)) (high-small source (child 3 c)))
-      (tt, node-at 13 <form> e refl refl at (at + 1) n (y .0), (tt, node-at 14 <form>* e refl refl at _ _ (y .1), ending-ranged class.«endformset» (omega arith)))) v x
+      (a .0, a .1, (b .0, b .1, ending-ranged class.«endformset» (omega arith))))) v x
 
   -- ---- every statement
 
@@ -266,35 +294,45 @@ module _ (s : List ℕ) (look : ℕ → List ℕ) where
   stated-as is-one-of x h e = one-of-case (told source look h) x h e
   stated-as {c = c} is-suppress x h e =
       by-parts (λ c. Told source look c → Stated <item> 7 c) h (λ v parent at n all.
-      condition-case class.«suppressif» (item source parent 7 (anew (condition-symbols class.«suppressif») c)) at n (omega arith) v e all) (told source look h)
+      (tt, condition-case class.«suppressif» (item source parent 7 (anew (condition-symbols class.«suppressif») c)) at n (omega arith) v e all)) (told source look h)
   stated-as {c = c} is-gray-out x h e =
       by-parts (λ c. Told source look c → Stated <item> 8 c) h (λ v parent at n all.
-      condition-case class.«grayoutif» (item source parent 8 (anew (condition-symbols class.«grayoutif») c)) at n (omega arith) v e all) (told source look h)
+      (tt, condition-case class.«grayoutif» (item source parent 8 (anew (condition-symbols class.«grayoutif») c)) at n (omega arith) v e all)) (told source look h)
   stated-as {c = c} is-disable x h e =
       by-parts (λ c. Told source look c → Stated <item> 9 c) h (λ v parent at n all.
-      condition-case class.«disableif» (item source parent 9 (anew (condition-symbols class.«disableif») c)) at n (omega arith) v e all) (told source look h)
+      (tt, condition-case class.«disableif» (item source parent 9 (anew (condition-symbols class.«disableif») c)) at n (omega arith) v e all)) (told source look h)
   stated-as is-rule x h e = rule-case h
   stated-as is-form x h e = form-case (told source look h) x h e
   stated-as is-form-set x h e = form-set-case (told source look h) x h e
-  stated-as is-no-forms x h each-nil = λ parent at n all. tt
+  stated-as is-no-forms x h each-nil = λ parent at n all. (tt, tt)
   stated-as is-more-forms x h (each-node {i = j} {c = b} q (each-node {i = k} {c = a} e each-nil)) = λ parent at n all.
       let z = two-parts <form> j <form>* k b a parent (at + 0) n all in
-      (tt, q refl parent (at + 0) n (z .0), (tt, e refl parent _ _ (z .1), tt))
-  stated-as is-no-items-or-rules x h each-nil = λ parent at n all. tt
+      let u = q refl parent (at + 0) n (z .0) in
+      let v = e refl parent _ _ (z .1) in
+      (tt, (u .0, u .1, (v .0, v .1, tt)))
+  stated-as is-no-items-or-rules x h each-nil = λ parent at n all. (tt, tt)
   stated-as is-item-first x h (each-node {i = j} {c = b} q (each-node {i = k} {c = a} e each-nil)) = λ parent at n all.
       let z = two-parts <item> j <item-or-rule>* k b a parent (at + 0) n all in
-      (tt, q refl parent (at + 0) n (z .0), (tt, e refl parent _ _ (z .1), tt))
+      let u = q refl parent (at + 0) n (z .0) in
+      let v = e refl parent _ _ (z .1) in
+      (tt, (u .0, u .1, (v .0, v .1, tt)))
   stated-as is-rule-first x h (each-node {i = j} {c = b} q (each-node {i = k} {c = a} e each-nil)) = λ parent at n all.
       let z = two-parts <rule> j <item-or-rule>* k b a parent (at + 0) n all in
-      (tt, q refl parent (at + 0) n (z .0), (tt, e refl parent _ _ (z .1), tt))
-  stated-as is-no-options x h each-nil = λ parent at n all. tt
+      let u = q refl parent (at + 0) n (z .0) in
+      let v = e refl parent _ _ (z .1) in
+      (tt, (u .0, u .1, (v .0, v .1, tt)))
+  stated-as is-no-options x h each-nil = λ parent at n all. (tt, tt)
   stated-as is-more-options x h (each-node {i = j} {c = b} q (each-node {i = k} {c = a} e each-nil)) = λ parent at n all.
       let z = two-parts <option> j <option>* k b a parent (at + 0) n all in
-      (tt, q refl parent (at + 0) n (z .0), (tt, e refl parent _ _ (z .1), tt))
-  stated-as is-no-items x h each-nil = λ parent at n all. tt
+      let u = q refl parent (at + 0) n (z .0) in
+      let v = e refl parent _ _ (z .1) in
+      (tt, (u .0, u .1, (v .0, v .1, tt)))
+  stated-as is-no-items x h each-nil = λ parent at n all. (tt, tt)
   stated-as is-more-items x h (each-node {i = j} {c = b} q (each-node {i = k} {c = a} e each-nil)) = λ parent at n all.
       let z = two-parts <item> j <item>* k b a parent (at + 0) n all in
-      (tt, q refl parent (at + 0) n (z .0), (tt, e refl parent _ _ (z .1), tt))
+      let u = q refl parent (at + 0) n (z .0) in
+      let v = e refl parent _ _ (z .1) in
+      (tt, (u .0, u .1, (v .0, v .1, tt)))
 
   stated : (A i : ℕ) (a : Alternative) (c : Trees) → alternativeOf rules A i ≡ some a → Node s A i c → Fits rules (a .symbols) c → Each (a .symbols) c → NodeGood A i c
   stated A i a c q x h e g = stated-as (stating A i a q g) x h e
@@ -303,8 +341,8 @@ module _ (s : List ℕ) (look : ℕ → List ℕ) where
   each kept-nil = each-nil
   each (kept-leaf h k) = each-leaf (each k)
   each (kept-node {A = A} {i = i} {a = a} {c = c} e h k₁ k₂) =
-      each-node (stated A i a c e (record { alternative = a; is = e; range = h; under = k₁ }) (kept-fits k₁) (each k₁)) (each k₂)
+      each-node (stated A i a c e (record { alternative = a; is = e; none-out = h; under = k₁ }) (kept-fits k₁) (each k₁)) (each k₂)
 
   -- the form set of a source
-  pub source-ranged : {i : ℕ} {c : Trees} → Node s <source> i c → (parent at n : ℕ) → Rows (within source look <source> i c parent at n) → Ranged (under look <source> i c (canon look c))
+  pub source-ranged : {i : ℕ} {c : Trees} → Node s <source> i c → (parent at n : ℕ) → Rows (within source look <source> i c parent at n) → NodeRanged <source> i (under look <source> i c (canon look c))
   source-ranged {i} {c} x = stated <source> i (x .alternative) c (x .is) x (kept-fits (x .under)) (each (x .under)) refl

@@ -10,7 +10,7 @@ use Rattle.grammar.specs.Rules.{<source>}
 use Rattle.grammar.specs.Grammar.{rules}
 use Rattle.grammar.specs.Derivation.{Derives, NowhereTooDeep}
 use Rattle.grammar.specs.Source.{sourceTokens, numberAt}
-use Rattle.grammar.specs.Ranges.{ranges, rangeOf, outOfRange}
+use Rattle.grammar.specs.Ranges.{outOfRange, secondWords}
 use Rattle.answers.specs.Rows.{Draft, draftsOf}
 use Rattle.answers.specs.Answer.{LONGEST, drafts}
 use Rattle.answers.specs.Text.{wordsOf, textOf}
@@ -28,7 +28,7 @@ use Rattle.again.specs.Matches.{Settled, Match, Pairs, no-pairs}
 use Rattle.roundtrip.proofs.Canon.{under, canon, Found, pairs-append}
 use Rattle.roundtrip.proofs.CanonSeq.{spell-node, Ok}
 use Rattle.roundtrip.proofs.CanonWalk.{source-ok}
-use Rattle.roundtrip.proofs.Ranged.{Ranged, ranged-valid, over-ranged}
+use Rattle.roundtrip.proofs.Ranged.{Ranged, ranged-valid, over-ranged, over-seconds}
 use Rattle.roundtrip.proofs.RangedWalk.{Fit, source-ranged}
 
 -- the text of a derivation whose rows are found by `look`
@@ -41,6 +41,7 @@ pub record Trip (s : List ℕ) (look : ℕ → List ℕ) (tree : Trees) : Type 0
   pub tree′ : Trees
   pub derives : Derives (sourceTokens (textFrom look tree)) tree′
   pub depths : NowhereTooDeep tree′
+  pub no-second : secondWords tree′ ≡ []
   pub kept-ranges : outOfRange (textFrom look tree) tree′ ≡ []
   -- its rows match the source's
   pub rows : Pairs (Match (textFrom look tree) look) (drafts (textFrom look tree) tree′) (drafts s tree)
@@ -69,8 +70,7 @@ module _ (s : List ℕ) (look : ℕ → List ℕ) where
     ok look′ = source-ok t look look′ source e h 0 0 0 (settled-of s fit)
 
     ranged : Ranged (canon look tree)
-    unfolding rangeOf ranges
-    ranged = (tt, source-ranged s look x 0 0 0 fit, tt)
+    ranged = let r = source-ranged s look x 0 0 0 fit in (r .0, r .1, tt)
 
     over-source : Covered t (canon look tree) (sourceTokens t)
     over-source = covered t (canon look tree) (sourceTokens t) (printed (lexed (canon look tree)) (ranged-valid (canon look tree) ranged))
@@ -87,6 +87,7 @@ module _ (s : List ℕ) (look : ℕ → List ℕ) where
               tree′ = T;
               derives = record { fits = to-fits f; reads = l };
               depths = to-allowed f;
+              no-second = over-seconds t o ranged;
               kept-ranges = over-ranged t o ranged;
               rows = match-rows T o;
               again = λ look′ g. match-words look′ T o g;
@@ -105,4 +106,4 @@ module _ (s : List ℕ) (look : ℕ → List ℕ) where
     where
       by : {tree : Trees} → Fitted (depth 0 0) (nonterminal <source> ∷ []) tree → Kept s (nonterminal <source> ∷ []) tree → All (Fit s look) (draftsOf source tree 0 0 0) → Trip s look tree
       by (f-node {i = i} {a = a} {c = c} e h f-nil) (kept-node {a = b} e′ r k kept-nil) fit =
-          source-trip i a c e h (record { alternative = b; is = e′; range = r; under = k }) (all-parts (within source look <source> i c 0 0 0) [] fit .0)
+          source-trip i a c e h (record { alternative = b; is = e′; none-out = r; under = k }) (all-parts (within source look <source> i c 0 0 0) [] fit .0)

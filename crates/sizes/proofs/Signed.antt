@@ -42,6 +42,10 @@ pub half-some : (w : ℕ) → 0 < half w
 unfolding half
 half-some w = pow-pos (8 * w - 1)
 
+pub modulus-some : (w : ℕ) → 0 < modulus w
+unfolding modulus
+modulus-some w = pow-pos (8 * w)
+
 module _ (w : ℕ) (some : 1 ≤ w) where
   pub two-halves : modulus w ≡ half w + half w
   unfolding modulus half

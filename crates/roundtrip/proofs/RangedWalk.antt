@@ -164,20 +164,24 @@ module _ (s : List ℕ) (look : ℕ → List ℕ) where
   unfolding rules isQuestion member questions rangeOf ranges
   goto-case {c} x parent at n all =
       let z = head-of all .0 in
-      let h = part s x 3 <head> refl in
-      (tt, goto-ranged (found c) (own-id z refl)
-      (omega (arith, cell-is column.FIRST z, string-range s h 4 refl))
-      (omega (arith, cell-is column.SECOND z, string-range s h 8 refl))
-      (omega (arith, cell-is column.A z, z .a-same refl, id-range s x 1 refl)))
+      let h = part s x 3 <head> refl in (
+        tt,
+        goto-ranged (found c) (own-id z refl)
+            (omega (arith, cell-is column.FIRST z, string-range s h 4 refl))
+            (omega (arith, cell-is column.SECOND z, string-range s h 8 refl))
+            (omega (arith, cell-is column.A z, z .a-same refl, id-range s x 1 refl)),
+      )
 
   checkbox-case : {c : Trees} → Node s <item> 4 c → Stated <item> 4 c
   unfolding rules isQuestion member questions rangeOf ranges
   checkbox-case {c} x parent at n all =
       let z = head-of all .0 in
-      let h = part s x 1 <head> refl in
-      (tt, checkbox-ranged (found c) (own-id z refl)
-      (omega (arith, cell-is column.FIRST z, string-range s h 4 refl))
-      (omega (arith, cell-is column.SECOND z, string-range s h 8 refl)))
+      let h = part s x 1 <head> refl in (
+        tt,
+        checkbox-ranged (found c) (own-id z refl)
+            (omega (arith, cell-is column.FIRST z, string-range s h 4 refl))
+            (omega (arith, cell-is column.SECOND z, string-range s h 8 refl)),
+      )
 
   numeric-case : {c : Trees} → Node s <item> 5 c → Stated <item> 5 c
   unfolding rules isQuestion member questions rangeOf ranges
@@ -193,26 +197,31 @@ module _ (s : List ℕ) (look : ℕ → List ℕ) where
       let named : sizeAmong (numericList (found c)) ≡ n = size-again (found c) (classes (child 3 c)) (cell-is column.SIZE z) in
       let below : (v w : ℕ) → v ≡ w → w < modulus n → v < modulus (sizeAmong (numericList (found c))) = λ v w e h.
       subst (λ m. v < modulus m) (sym named) (subst (λ u. u < modulus n) (sym e) h) in (
-        (tt, numbers-fit (found c)
-        (below _ _ (cell-is column.A z ∙ z .a-same refl) (fit .minimum))
-        (below _ _ (cell-is column.B z) (fit .maximum))
-        (below _ _ (cell-is column.C z) (when-below written-step step (modulus n) (modulus-some n) (fit .step)))
-        (below _ _ (cell-is column.D z) (when-below written-default default (modulus n) (modulus-some n) (fit .default)))),
+        (
+          tt,
+          numbers-fit (found c)
+              (below _ _ (cell-is column.A z ∙ z .a-same refl) (fit .minimum))
+              (below _ _ (cell-is column.B z) (fit .maximum))
+              (below _ _ (cell-is column.C z) (when-below written-step step (modulus n) (modulus-some n) (fit .step)))
+              (below _ _ (cell-is column.D z) (when-below written-default default (modulus n) (modulus-some n) (fit .default))),
+        ),
         numeric-ranged (found c) (own-id z refl)
-        (omega (arith, cell-is column.FIRST z, string-range s h 4 refl))
-        (omega (arith, cell-is column.SECOND z, string-range s h 8 refl))
-        (omega (arith, cell-is column.A z, z .a-same refl, number-small s (placeAt 0 (child 6 c))))
-        (omega (arith, cell-is column.B z, number-small s (placeAt 0 (child 10 c))))
-        (omega (arith, cell-is column.C z, when-below written-step step (2 ^ 64) (omega arith) (λ e. number-small s (placeAt 0 (child 2 (child 12 c))))))
-        (omega (arith, cell-is column.D z, when-below written-default default (2 ^ 64) (omega arith) (λ e. number-small s (placeAt 0 (child 2 (child 13 c)))))),
+            (omega (arith, cell-is column.FIRST z, string-range s h 4 refl))
+            (omega (arith, cell-is column.SECOND z, string-range s h 8 refl))
+            (omega (arith, cell-is column.A z, z .a-same refl, number-small s (placeAt 0 (child 6 c))))
+            (omega (arith, cell-is column.B z, number-small s (placeAt 0 (child 10 c))))
+            (omega (arith, cell-is column.C z, when-below written-step step (2 ^ 64) (omega arith) (λ e. number-small s (placeAt 0 (child 2 (child 12 c))))))
+            (omega (arith, cell-is column.D z, when-below written-default default (2 ^ 64) (omega arith) (λ e. number-small s (placeAt 0 (child 2 (child 13 c)))))),
       )
 
   option-case : {c : Trees} → Node s <option> 0 c → Stated <option> 0 c
   unfolding rules isQuestion member questions rangeOf ranges
   option-case {c} x parent at n all =
-      let z = head-of all .0 in
-      (tt, option-ranged (found c) (omega (arith, cell-is column.FIRST z, string-range s x 3 refl))
-      (omega (arith, cell-is column.A z, z .a-same refl, number-small s (placeAt 0 (child 7 c)))))
+      let z = head-of all .0 in (
+        tt,
+        option-ranged (found c) (omega (arith, cell-is column.FIRST z, string-range s x 3 refl))
+            (omega (arith, cell-is column.A z, z .a-same refl, number-small s (placeAt 0 (child 7 c)))),
+      )
 
   -- ---- those with statements or an expression under them
 
@@ -224,11 +233,13 @@ module _ (s : List ℕ) (look : ℕ → List ℕ) where
       let h = part s x 1 <head> refl in
       let y = two-parts <option> (chosen 4 c) <option>* (chosen 5 c) (child 4 c) (child 5 c) at (at + 1) n (of-core v at (at + 1) n (tail-of all)) in
       let a = node-at 4 <option> e refl refl at (at + 1) n (y .0) in
-      let b = node-at 5 <option>* e refl refl at _ _ (y .1) in
-      (tt, one-of-ranged (found c) (listed look <option> 4 c (listed look <option>* 5 c (ending class.«endoneof»))) (own-id z refl)
-      (omega (arith, cell-is column.FIRST z, string-range s h 4 refl))
-      (omega (arith, cell-is column.SECOND z, string-range s h 8 refl))
-      (a .0, a .1, (b .0, b .1, ending-ranged class.«endoneof» (omega arith))))) v x
+      let b = node-at 5 <option>* e refl refl at _ _ (y .1) in (
+        tt,
+        one-of-ranged (found c) (listed look <option> 4 c (listed look <option>* 5 c (ending class.«endoneof»))) (own-id z refl)
+            (omega (arith, cell-is column.FIRST z, string-range s h 4 refl))
+            (omega (arith, cell-is column.SECOND z, string-range s h 8 refl))
+            (a .0, a .1, (b .0, b .1, ending-ranged class.«endoneof» (omega arith))),
+      )) v x
 
   -- suppressif, grayoutif or disableif, which is the class k, with the row D
   condition-case :
@@ -250,9 +261,11 @@ module _ (s : List ℕ) (look : ℕ → List ℕ) where
       by-parts (λ c. Stated <rule> 0 c) h (λ parent at n all.
       let E = ruleDraft source parent n (anew rule-symbols c) ∷ expressionRows source at (expression (child 3 c)) in
       let y = all-parts E _ all in
-      let z = head-of (y .0) in
-      (tt, rule-ranged (found c) (formula look (expression (child 3 c))) (omega (arith, cell-is column.OWN (z .0), z .0 .own-same refl, z .1 refl))
-      (fine at (expression (child 3 c)) (tail-of (y .0)))))
+      let z = head-of (y .0) in (
+        tt,
+        rule-ranged (found c) (formula look (expression (child 3 c))) (omega (arith, cell-is column.OWN (z .0), z .0 .own-same refl, z .1 refl))
+            (fine at (expression (child 3 c)) (tail-of (y .0))),
+      ))
 
   form-case : {c : Trees} → Told source look c → Node s <form> 0 c → Fits rules form-symbols c → Each form-symbols c → Stated <form> 0 c
   unfolding rules isQuestion member questions rangeOf ranges
@@ -260,11 +273,13 @@ module _ (s : List ℕ) (look : ℕ → List ℕ) where
       by-parts (λ c. Told source look c → Node s <form> 0 c → Stated <form> 0 c) h (λ v x parent at n all.
       let z = head-of all .0 in
       let items = one-part <item-or-rule>* (chosen 9 c) (child 9 c) at (at + 1) n (of-core v at (at + 1) n (tail-of all)) in
-      let a = node-at 9 <item-or-rule>* e refl refl at (at + 1) n items in
-      (tt, form-ranged (found c) (listed look <item-or-rule>* 9 c (ending class.«endform»))
-      (omega (arith, cell-is column.OWN z, z .own-same refl, id-range s x 3 refl))
-      (omega (arith, cell-is column.FIRST z, string-range s x 7 refl))
-      (a .0, a .1, ending-ranged class.«endform» (omega arith)))) v x
+      let a = node-at 9 <item-or-rule>* e refl refl at (at + 1) n items in (
+        tt,
+        form-ranged (found c) (listed look <item-or-rule>* 9 c (ending class.«endform»))
+            (omega (arith, cell-is column.OWN z, z .own-same refl, id-range s x 3 refl))
+            (omega (arith, cell-is column.FIRST z, string-range s x 7 refl))
+            (a .0, a .1, ending-ranged class.«endform» (omega arith)),
+      )) v x
 
   form-set-case : {c : Trees} → Told source look c → Node s <source> 0 c → Fits rules form-set-symbols c → Each form-set-symbols c → Stated <source> 0 c
   unfolding rules isQuestion member questions rangeOf ranges
@@ -273,12 +288,14 @@ module _ (s : List ℕ) (look : ℕ → List ℕ) where
       let z = head-of all .0 in
       let y = two-parts <form> (chosen 13 c) <form>* (chosen 14 c) (child 13 c) (child 14 c) at (at + 1) n (of-core v at (at + 1) n (tail-of all)) in
       let a = node-at 13 <form> e refl refl at (at + 1) n (y .0) in
-      let b = node-at 14 <form>* e refl refl at _ _ (y .1) in
-      (tt, form-set-ranged (found c) (listed look <form> 13 c (listed look <form>* 14 c (ending class.«endformset»)))
-      (omega (arith, cell-is column.FIRST z, string-range s x 7 refl))
-      (omega (arith, cell-is column.SECOND z, string-range s x 11 refl))
-      (subst (λ v. v < 2 ^ 64) (sym (cell-is column.A z ∙ z .a-same refl)) (high-small source (child 3 c)))
-      (a .0, a .1, (b .0, b .1, ending-ranged class.«endformset» (omega arith))))) v x
+      let b = node-at 14 <form>* e refl refl at _ _ (y .1) in (
+        tt,
+        form-set-ranged (found c) (listed look <form> 13 c (listed look <form>* 14 c (ending class.«endformset»)))
+            (omega (arith, cell-is column.FIRST z, string-range s x 7 refl))
+            (omega (arith, cell-is column.SECOND z, string-range s x 11 refl))
+            (subst (λ v. v < 2 ^ 64) (sym (cell-is column.A z ∙ z .a-same refl)) (high-small source (child 3 c)))
+            (a .0, a .1, (b .0, b .1, ending-ranged class.«endformset» (omega arith))),
+      )) v x
 
   -- ---- every statement
 

@@ -47,11 +47,11 @@ pub record Optional (A k : ℕ) (β : List Symbol) : Type 0 where
 -- ---- rules that keep what their parts keep and have no faults of their own
 
 module _ (A : ℕ) (parts : (i : ℕ) (c : Trees) (es : List ℕ) → nodeEntries A i c es ≡ es)
-    (none : (s : List ℕ) (i : ℕ) (c : Trees) → faultsHere s A i c ≡ []) where
+    (quiet : (s : List ℕ) (i : ℕ) (c : Trees) → faultsHere s A i c ≡ []) where
   single :
       {f : List ℕ} {x : Symbol} {β : List Symbol}
       → nullable rules A ≡ false → alternativeOf rules A 0 ≡ some (plain (x ∷ β)) → entryOf lookahead A .firsts ≡ f ∷ [] → Single A (x ∷ β)
-  single {f} n a e = record { plainly = record { keeps-parts = parts; no-faults = none }; full = n; only = a; told = λ k. rw e (find-one f k) }
+  single {f} n a e = record { plainly = record { keeps-parts = parts; no-faults = quiet }; full = n; only = a; told = λ k. rw e (find-one f k) }
 
   optional :
       {k : ℕ} {β : List Symbol}
@@ -59,7 +59,7 @@ module _ (A : ℕ) (parts : (i : ℕ) (c : Trees) (es : List ℕ) → nodeEntrie
       → predict lookahead A k ≡ some 1 → entryOf lookahead A .firsts ≡ [] ∷ (k ∷ []) ∷ [] → Optional A k β
   optional {k} h n a b p e =
       record {
-        plainly = record { keeps-parts = parts; no-faults = none };
+        plainly = record { keeps-parts = parts; no-faults = quiet };
         known = h;
         empty = n;
         absent = a;

@@ -4,6 +4,7 @@ use Prim.Native.Nat.{ℕ, suc}
 use mathlib.Core.Path.{_≡_, refl, sym, ap, ap₂, _∙_}
 use mathlib.Core.Bool.{Bool, true, false, cond}
 use mathlib.Core.List.{List, [], _∷_, _++_, map, append-nil}
+use mathlib.Core.Logic.{_≢_}
 use native.Mathlib.Omega.{arith}
 use native.Mathlib.Decide.{ℕ-discrete}
 use lib.Dec.{eqb}
@@ -45,6 +46,10 @@ first-if true p l = sym (mark-stays p (firstMark l))
 first-if false p l = refl
 
 -- ---- faults one after another
+
+pub noting-none : (n : Noted) → noting n [] ≡ n
+unfolding noting
+noting-none n = refl
 
 pub noting-append : (n : Noted) (k l : List Fault) → noting n (k ++ l) ≡ noting (noting n k) l
 unfolding noting
@@ -96,6 +101,11 @@ noting-seconds n ps = noting-firsts n (map second ps) ∙ rw (seconds-second ps,
 
 pub noting-outsides : (n : Noted) (ps : List ℕ) → noting n (map outside ps) ≡ withOutside n (firstMark ps)
 noting-outsides n ps = noting-firsts n (map outside ps) ∙ rw (seconds-outside ps, outsides-outside ps, mark-or-none (n .second))
+
+-- a number that was noted stays
+pub outside-stays : (n : Noted) (ps : List ℕ) → n .outside ≢ 0 → noting n (map outside ps) ≡ n
+unfolding markOr
+outside-stays n ps h = noting-outsides n ps ∙ rw (ne-eqb (n .outside) 0 h)
 
 -- ---- faults of trees
 

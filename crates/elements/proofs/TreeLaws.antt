@@ -15,7 +15,11 @@ unfolding entries
 entries-node A i f (fits-leaf h) = refl
 entries-node A i f (fits-node e h₁ h₂) = refl
 
+-- the faults of a tree stand after those under it
+pub faults-of : (s : List ℕ) (A i : ℕ) (c f : Trees) → faults s (node A i c f) ≡ faults s c ++ (faultsHere s A i c ++ faults s f)
+unfolding faults gathered
+faults-of s A i c f = refl
+
 -- a tree without faults of its own
 pub faults-node : (s : List ℕ) (A i : ℕ) (c f : Trees) → faultsHere s A i c ≡ [] → faults s (node A i c f) ≡ faults s c ++ faults s f
-unfolding faults gathered
-faults-node s A i c f e = rw e
+faults-node s A i c f e = rw (faults-of s A i c f, e)

@@ -1,6 +1,6 @@
 // A numeric's size, and whether its numbers fit it (document 02, W-204).
 use elements::KEPT;
-use rows::sizes::UNSIGNED_8;
+use rows::displays::UNSIGNED_8;
 use values::Value;
 ghost use mathlib.Core.Path.{_≡_};
 ghost use Rattle.fields.specs.Phrases.{kept};

@@ -16,7 +16,7 @@ use Rattle.grammar.specs.Grammar.{productions, rules}
 use Rattle.grammar.specs.Lookahead.{lookahead}
 use Rattle.grammar.specs.Reading.{verdictFrom, derivation}
 use Rattle.grammar.specs.Source.{grammarTokens, sourceTokens, numberAt}
-use Rattle.grammar.specs.Ranges.{ranges, rangeOf, keeps, outOfRange}
+use Rattle.grammar.specs.Ranges.{ranges, rangeOf, keeps, gathered, outOfRangeHere, outOfRange, secondsHere, secondWords}
 use Rattle.answers.specs.Expression.{expression, and, add, multiply, equal}
 use Rattle.answers.specs.Stages.{any, formFrom, formRound, ownNumbers, withNumbers, numberedRows, ownOfFirst, withReferences, settled, finished}
 use Rattle.answers.specs.Answer.{drafts}
@@ -38,5 +38,5 @@ pub three-rules :
     ∷ f-binary equal (f-binary add (f-number 1) (f-binary multiply (f-number 2) (f-number 3))) (f-number 7)
     ∷ f-question 1
     ∷ []
-unfolding signs reserved run all same placeAmong sameWord isGap inComment gap wordClass wordToken signClass signToken tokenFrom tokenAfterGap tokensWithin tokensFrom tokens badAmong firstBad isHex valueFrom numeral valueAt digitsAt picked freeFrom fill numbered mem member questions isQuestion machine.run parser.derivation productions rules lookahead verdictFrom derivation grammarTokens sourceTokens numberAt ranges rangeOf keeps outOfRange expression any formFrom formRound ownNumbers withNumbers numberedRows ownOfFirst withReferences settled finished drafts checked rowFirstAt rulesOf
+unfolding signs reserved run all same placeAmong sameWord isGap inComment gap wordClass wordToken signClass signToken tokenFrom tokenAfterGap tokensWithin tokensFrom tokens badAmong firstBad isHex valueFrom numeral valueAt digitsAt picked freeFrom fill numbered mem member questions isQuestion machine.run parser.derivation productions rules lookahead verdictFrom derivation grammarTokens sourceTokens numberAt ranges rangeOf keeps gathered outOfRangeHere outOfRange secondsHere secondWords expression any formFrom formRound ownNumbers withNumbers numberedRows ownOfFirst withReferences settled finished drafts checked rowFirstAt rulesOf
 three-rules = refl

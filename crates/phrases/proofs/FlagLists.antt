@@ -23,42 +23,45 @@ use Rattle.grammar.specs.Notation.{t, r, plain}
 use Rattle.grammar.specs.Lookahead.{lookahead}
 use Rattle.grammar.specs.Derivation.{tooDeep}
 use Rattle.grammar.specs.Reading.{verdictFrom}
-use Rattle.grammar.specs.Ranges.{outOfRange}
-use Rattle.grammar.specs.Flags.{classOf, classes, flags}
+use Rattle.grammar.specs.Ranges.{rangeOf, keeps as keepsRange, gathered, outOfRangeHere, secondsHere}
+use Rattle.grammar.specs.Flags.{secondsIn}
+use Rattle.grammar.specs.Parts.{mark}
 use Rattle.grammar.proofs.Equations.{verdict-take, verdict-none, verdict-ends-rule, verdict-in, verdict-open}
 use Rattle.elements.specs.Entries.{nodeEntries, entries}
 use Rattle.elements.specs.Kinds.{FLAG-LIST, NUMERIC-FLAGS, MAYBE, isFlagList, startsOf}
 use Rattle.elements.specs.declared.flags.Words.{Words}
-use Rattle.elements.specs.Words.{noWords, withWord, bitsOf}
-use Rattle.elements.proofs.MarkLaws.{marked-none}
-use Rattle.elements.proofs.TreeLaws.{entries-node, out-node}
+use Rattle.elements.specs.Words.{noWords, withWord, listEntry, listSecond}
+use Rattle.elements.specs.Marks.{second, faultsHere, faults, firstMark, withSecond}
+use Rattle.elements.proofs.MarkLaws.{noting-seconds}
+use Rattle.elements.proofs.TreeLaws.{entries-node, faults-of, faults-node}
 use Rattle.elements.proofs.Ways.{either-way, width}
-use Rattle.elements.proofs.FlagWords.{joined, joined-none, joined-word, bits-joined, Word, FlagRules, question-flags, numeric-flags}
+use Rattle.elements.proofs.JoinedWords.{joined, joined-bar, question-entry, numeric-entry, question-second, numeric-second}
+use Rattle.elements.proofs.FlagWords.{Word, FlagRules, question-flags, numeric-flags}
 use Rattle.phrases.specs.Stream.{stream, resume, Within}
-use Rattle.phrases.specs.Phrase.{Reader, withEntry, withEntries, refusing, flagsFrom, takingFlags, reading}
+use Rattle.phrases.specs.Phrase.{Reader, withEntry, withEntries, ready, refusing, flagsFrom, takingFlags, reading}
 use Rattle.phrases.proofs.Streams.{stream-on, within-at}
 use Rattle.phrases.proofs.Resume.{resume-on, resume-no, refused-here, skipped-here}
 use Rattle.phrases.proofs.Pieces.{One}
 use Rattle.phrases.proofs.Taking.{Element}
 
--- the trees of the words from t on, each by rule C and those after the first by rule B
-record FlagTrees (B C : ℕ) (s : List ℕ) (x : Reader) (t : lex.Token) (w : Words) (c : Reader) : Type 0 where
+-- the trees of the words of the element e from t on, each by rule C and those after the first by rule B
+record FlagTrees (B C e : ℕ) (s : List ℕ) (x : Reader) (t : lex.Token) (w : Words) (c : Reader) : Type 0 where
   pub trees : Trees
   pub fits : Fits rules (r C ∷ r B ∷ []) trees
   pub reads : leaves trees ++ stream s (c .token) ≡ stream s t
-  pub kept : c .kept ≡ withEntry (x .kept) (bitsOf (joined w (classes trees)))
-  pub bad : c .bad ≡ x .bad
-  pub out : outOfRange s trees ≡ []
+  pub kept : c .kept ≡ withEntry (x .kept) (listEntry e (joined w (leaves trees)))
+  pub noted : c .noted ≡ withSecond (x .noted) (listSecond e (joined w (leaves trees)))
+  pub no-faults : faults s trees ≡ []
 
-record FlagsRead (B C : ℕ) (s : List ℕ) (x : Reader) (t : lex.Token) (w : Words) (c : Reader) : Type 0 where
+record FlagsRead (B C e : ℕ) (s : List ℕ) (x : Reader) (t : lex.Token) (w : Words) (c : Reader) : Type 0 where
   pub skip : c .skip ≡ 0
   pub verdict : (σ : List Due) (d : Depth) → tooDeep d ≡ false → verdictFrom (due d (r C) ∷ due d (r B) ∷ σ) (stream s t) ≡ resume s σ (c .no) (c .token)
-  pub got : c .no ≡ 0 → FlagTrees B C s x t w c
+  pub got : c .no ≡ 0 → FlagTrees B C e s x t w c
   pub within : Within s t → Within s (c .token)
 
 -- the words ws of rule A
-module _ {A B C : ℕ} {ws : List ℕ} (list : FlagRules A B C ws) (s : List ℕ) (x : Reader) (u : lex.Token) (w : Words) where
-  refused-flags : member (u .class) ws ≡ false → FlagsRead B C s x u w (refusing x u)
+module _ (e : ℕ) {A B C : ℕ} {ws : List ℕ} (list : FlagRules A B C ws) (s : List ℕ) (x : Reader) (u : lex.Token) (w : Words) where
+  refused-flags : member (u .class) ws ≡ false → FlagsRead B C e s x u w (refusing x u)
   refused-flags m =
       record {
         skip = refl;
@@ -75,6 +78,10 @@ module _ {A B C : ℕ} {ws : List ℕ} (list : FlagRules A B C ws) (s : List ℕ
   abbrev bar : lex.Token
   bar = tokenAt s (u .end)
 
+  -- with the word at u
+  abbrev words : Words
+  words = withWord w (u .class) (mark (u .start))
+
   module _ (m : member (u .class) ws ≡ true) where
     abbrev word : Word C (u .class)
     word = list .word (u .class) m
@@ -83,38 +90,33 @@ module _ {A B C : ℕ} {ws : List ℕ} (list : FlagRules A B C ws) (s : List ℕ
     past-word : (σ : List Due) (d : Depth) → tooDeep d ≡ false → verdictFrom (due d (r C) ∷ σ) (stream s u) ≡ verdictFrom σ (stream s bar)
     past-word σ d o = rw (stream-on s u (word .below)) (word .way .eats d σ (u .start) (stream s bar) o)
 
-    word-classes : (g : Trees) → classes (word .way .tree (u .start) g) ≡ u .class ∷ classes g
-    word-classes g = ap (map classOf) (word .way .leaf-is (u .start) g)
-
     -- it was the last
     last-flag :
-        bar .class ≢ «|»
-        → FlagsRead B C s x u w (record { no = 0; token = bar; bad = x .bad; skip = 0; kept = withEntry (x .kept) (bitsOf (withWord w (u .class))) })
-    unfolding outOfRange
-    last-flag e =
+        bar .class ≢ «|» → FlagsRead B C e s x u w (ready bar (withSecond (x .noted) (listSecond e words)) (withEntry (x .kept) (listEntry e words)))
+    unfolding faults gathered
+    last-flag q =
         let end = node B 0 nil nil in
+        let same : words ≡ joined w (leaves (word .way .tree (u .start) end)) = sym (ap (joined w) (word .way .leaf-is (u .start) end)) in
         record {
           skip = refl;
           verdict = λ σ d o.
-              past-word (due d (r B) ∷ σ) d o ∙ (skipped-here s bar d B σ (list .no-bar (bar .class) e) (list .may-end) ∙ sym (resume-on s σ 0 bar refl));
+              past-word (due d (r B) ∷ σ) d o ∙ (skipped-here s bar d B σ (list .no-bar (bar .class) q) (list .may-end) ∙ sym (resume-on s σ 0 bar refl));
           got = λ q.
               record {
                 trees = word .way .tree (u .start) end;
                 fits = word .way .fits (u .start) (r B ∷ []) end (fits-node (list .last) fits-nil fits-nil);
                 reads = rw (word .way .leaf-is (u .start) end) (sym (stream-on s u (word .below)));
-                kept =
-                    ap (λ (v : Words). withEntry (x .kept) (bitsOf v))
-                    (sym (ap (joined w) (word-classes end) ∙ (joined-word w (u .class) [] ∙ joined-none (withWord w (u .class)))));
-                bad = refl;
-                out = word .out s (u .start) end ∙ out-node s B 0 nil nil (list .free-rest);
+                kept = ap (λ (v : Words). withEntry (x .kept) (listEntry e v)) same;
+                noted = ap (λ (v : Words). withSecond (x .noted) (listSecond e v)) same;
+                no-faults = word .faults-are s (u .start) end ∙ faults-node s B 0 nil nil (list .no-faults s 0 nil);
               };
           within = λ h. within-at s (u .end);
         }
 
     -- others follow
-    more-flags : (c : Reader) → bar .class ≡ «|» → FlagsRead B C s x (tokenAt s (bar .end)) (withWord w (u .class)) c → FlagsRead B C s x u w c
-    unfolding outOfRange
-    more-flags c e later =
+    more-flags : (c : Reader) → bar .class ≡ «|» → FlagsRead B C e s x (tokenAt s (bar .end)) words c → FlagsRead B C e s x u w c
+    unfolding faults gathered
+    more-flags c is-bar later =
         record {
           skip = later .skip;
           verdict = λ σ d o. past-word (due d (r B) ∷ σ) d o ∙ (rw on (enters σ d o) ∙ later .verdict σ d o);
@@ -122,21 +124,24 @@ module _ {A B C : ℕ} {ws : List ℕ} (list : FlagRules A B C ws) (s : List ℕ
               let g = later .got q in
               let f = g .trees in
               let others = node B 1 (leaf (token «|» (bar .start)) f) nil in
+              let past-bar = joined-bar words (bar .start) (leaves f ++ []) ∙ ap (joined words) (append-nil (leaves f)) in
+              let same : joined words (leaves f) ≡ joined w (leaves (word .way .tree (u .start) others)) =
+              sym (ap (joined w) (word .way .leaf-is (u .start) others) ∙ past-bar) in
               record {
                 trees = word .way .tree (u .start) others;
                 fits = word .way .fits (u .start) (r B ∷ []) others (fits-node (list .another) (fits-leaf (g .fits)) fits-nil);
                 reads = rw (word .way .leaf-is (u .start) others, append-nil (leaves f), g .reads, ← on) (sym (stream-on s u (word .below)));
-                kept =
-                    let named = word-classes others ∙ ap (λ l. u .class ∷ «|» ∷ map classOf l) (append-nil (leaves f)) in
-                    g .kept ∙ ap (λ (v : Words). withEntry (x .kept) (bitsOf v)) (sym (ap (joined w) named ∙ joined-word w (u .class) («|» ∷ classes f)));
-                bad = g .bad;
-                out = word .out s (u .start) others ∙ (out-node s B 1 (leaf (token «|» (bar .start)) f) nil (list .free-rest) ∙ rw (g .out));
+                kept = g .kept ∙ ap (λ (v : Words). withEntry (x .kept) (listEntry e v)) same;
+                noted = g .noted ∙ ap (λ (v : Words). withSecond (x .noted) (listSecond e v)) same;
+                no-faults =
+                    word .faults-are s (u .start) others
+                    ∙ (faults-node s B 1 (leaf (token «|» (bar .start)) f) nil (list .no-faults s 1 (leaf (token «|» (bar .start)) f)) ∙ rw (g .no-faults));
               };
           within = λ h. later .within (within-at s (bar .end));
         }
       where
         on : stream s bar ≡ token «|» (bar .start) ∷ stream s (tokenAt s (bar .end))
-        on = stream-on s bar (rw e (omega arith)) ∙ rw e
+        on = stream-on s bar (rw is-bar (omega arith)) ∙ rw is-bar
 
         enters :
             (σ : List Due) (d : Depth) → tooDeep d ≡ false
@@ -148,16 +153,16 @@ module _ {A B C : ℕ} {ws : List ℕ} (list : FlagRules A B C ws) (s : List ℕ
 
 -- the words of the element e
 module _ (e : ℕ) {A B C : ℕ} (list : FlagRules A B C (startsOf e)) (s : List ℕ) (x : Reader) where
-  no-flags : (u : lex.Token) (w : Words) → length (stream s u) ≤ 0 → FlagsRead B C s x u w (refusing x u)
+  no-flags : (u : lex.Token) (w : Words) → length (stream s u) ≤ 0 → FlagsRead B C e s x u w (refusing x u)
   no-flags u w h =
       either-way (member (u .class) (startsOf e))
       (λ m. absurd (omega (arith, ap length (stream-on s u (list .word (u .class) m .below)))))
-      (λ m. refused-flags list s x u w m)
+      (λ m. refused-flags e list s x u w m)
 
   flags-step :
       (u : lex.Token) (w : Words) (n : ℕ) → length (stream s u) ≤ suc n
-      → ((v : lex.Token) (w′ : Words) → length (stream s v) ≤ n → FlagsRead B C s x v w′ (flagsFrom n s x e v w′))
-      → FlagsRead B C s x u w (flagsFrom (suc n) s x e u w)
+      → ((v : lex.Token) (w′ : Words) → length (stream s v) ≤ n → FlagsRead B C e s x v w′ (flagsFrom n s x e v w′))
+      → FlagsRead B C e s x u w (flagsFrom (suc n) s x e u w)
   unfolding flagsFrom
   flags-step u w n h later =
       let bar = tokenAt s (u .end) in
@@ -169,32 +174,36 @@ module _ (e : ℕ) {A B C : ℕ} (list : FlagRules A B C (startsOf e)) (s : List
       (λ q.
       let is-bar = eqb-true (bar .class) «|» q in
       let fewer = ap length (stream-on s bar (rw is-bar (omega arith))) in
-      rw q (more-flags list s x u w m _ is-bar (later (tokenAt s (bar .end)) (withWord w (u .class)) (omega arith))))
-      (λ q. rw q (last-flag list s x u w m (eqb-false (bar .class) «|» q)))))
-      (λ m. rw m (refused-flags list s x u w m))
+      rw q (more-flags e list s x u w m _ is-bar (later (tokenAt s (bar .end)) (withWord w (u .class) (mark (u .start))) (omega arith))))
+      (λ q. rw q (last-flag e list s x u w m (eqb-false (bar .class) «|» q)))))
+      (λ m. rw m (refused-flags e list s x u w m))
 
-  flags-read : (n : ℕ) (u : lex.Token) (w : Words) → length (stream s u) ≤ n → FlagsRead B C s x u w (flagsFrom n s x e u w)
+  flags-read : (n : ℕ) (u : lex.Token) (w : Words) → length (stream s u) ≤ n → FlagsRead B C e s x u w (flagsFrom n s x e u w)
   unfolding flagsFrom
   flags-read zero u w h = no-flags u w h
   flags-read (suc n) u w h = flags-step u w n h (λ v w′ h′. flags-read n v w′ h′)
 
 -- ---- the element
 
-list-element :
-    (e : ℕ) {A B C : ℕ}
-    → eqb e MAYBE ≡ false → isFlagList e ≡ true → width e ≡ 1 → ((c : Trees) (es : List ℕ) → nodeEntries A 0 c es ≡ flags c ∷ [])
-    → FlagRules A B C (startsOf e) → Element (r A) e
+-- what differs between the lists: the entry, and the faults of the tree itself, which are second words
+record ListKeeps (A e : ℕ) : Type 0 where
+  pub seconds : Trees → List ℕ
+  pub entry-is : (c : Trees) (es : List ℕ) → nodeEntries A 0 c es ≡ listEntry e (joined noWords (leaves c)) ∷ []
+  pub second-is : (c : Trees) → listSecond e (joined noWords (leaves c)) ≡ firstMark (seconds c)
+  pub faults-are : (s : List ℕ) (c : Trees) → faultsHere s A 0 c ≡ map second (seconds c)
+
+list-element : (e : ℕ) {A B C : ℕ} → eqb e MAYBE ≡ false → isFlagList e ≡ true → width e ≡ 1 → ListKeeps A e → FlagRules A B C (startsOf e) → Element (r A) e
 unfolding reading takingFlags entries withEntries
 list-element e {A} {B} {C} not-maybe is-list one keeps list s c next z =
     rw (one, not-maybe, is-list)
     (either-way (member (c .token .class) (startsOf e))
     (λ m. rw m (read (takingFlags s c e) (flags-read e list s c (length (stream s (c .token))) (c .token) noWords (omega arith))))
-    (λ m. rw m (read (refusing c (c .token)) (refused-flags list s c (c .token) noWords m))))
+    (λ m. rw m (read (refusing c (c .token)) (refused-flags e list s c (c .token) noWords m))))
   where
     told : (k : ℕ) → (predict lookahead A k ≡ some 0) ⊎ (predict lookahead A k ≡ none)
     told k = rw (list .first) (find-one (startsOf e) k)
 
-    read : (c′ : Reader) → FlagsRead B C s c (c .token) noWords c′ → One s (r A) 1 c c′
+    read : (c′ : Reader) → FlagsRead B C e s c (c .token) noWords c′ → One s (r A) 1 c c′
     read c′ m =
         record {
           skip = m .skip;
@@ -208,24 +217,42 @@ list-element e {A} {B} {C} not-maybe is-list one keeps list s c next z =
                 before = z;
                 tree = node A 0 f;
                 own = leaves f;
-                kept-own = flags f ∷ [];
-                out-own = [];
+                kept-own = listEntry e (joined noWords (leaves f)) ∷ [];
+                faults-own = map second (keeps .seconds f);
                 fits = λ α h k. fits-node (list .whole) (g .fits) k;
                 few = omega arith;
                 leaves-are = λ h. refl;
-                entries-are = λ h. entries-node A 0 h (g .fits) ∙ rw (keeps f (entries f));
-                out-are = λ h. out-node s A 0 f h (list .free-list) ∙ rw (g .out);
+                entries-are = λ h. entries-node A 0 h (g .fits) ∙ rw (keeps .entry-is f (entries f));
+                faults-are = λ h. faults-of s A 0 f h ∙ rw (g .no-faults, keeps .faults-are s f);
                 reads = g .reads;
-                kept = rw (← bits-joined (classes f)) (g .kept);
-                bad = g .bad ∙ sym (marked-none (c .bad));
+                kept = g .kept;
+                noted = g .noted ∙ rw (keeps .second-is f) (sym (noting-seconds (c .noted) (keeps .seconds f)));
               };
           within = m .within;
         }
 
 pub flag-list : Element (r <fl>) FLAG-LIST
-unfolding startsOf nodeEntries
-flag-list = list-element FLAG-LIST refl refl refl (λ c es. refl) question-flags
+unfolding startsOf nodeEntries faultsHere secondsHere outOfRangeHere rangeOf keepsRange
+flag-list = list-element FLAG-LIST refl refl refl keeps question-flags
+  where
+    keeps : ListKeeps <fl> FLAG-LIST
+    keeps =
+        record {
+          seconds = λ c. [];
+          entry-is = λ c es. ap (λ n. n ∷ []) (sym (question-entry c));
+          second-is = question-second;
+          faults-are = λ s c. refl;
+        }
 
 pub numeric-flag-list : Element (r <numeric-fl>) NUMERIC-FLAGS
-unfolding startsOf nodeEntries
-numeric-flag-list = list-element NUMERIC-FLAGS refl refl refl (λ c es. refl) numeric-flags
+unfolding startsOf nodeEntries faultsHere secondsHere outOfRangeHere rangeOf keepsRange
+numeric-flag-list = list-element NUMERIC-FLAGS refl refl refl keeps numeric-flags
+  where
+    keeps : ListKeeps <numeric-fl> NUMERIC-FLAGS
+    keeps =
+        record {
+          seconds = secondsIn;
+          entry-is = λ c es. ap (λ n. n ∷ []) (sym (numeric-entry c));
+          second-is = numeric-second;
+          faults-are = λ s c. append-nil (map second (secondsIn c));
+        }

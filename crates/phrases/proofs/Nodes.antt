@@ -15,11 +15,11 @@ use Rattle.grammar.specs.Grammar.{rules}
 use Rattle.grammar.specs.Notation.{t, r, plain}
 use Rattle.grammar.specs.Lookahead.{lookahead}
 use Rattle.grammar.specs.Reading.{verdictFrom}
-use Rattle.grammar.specs.Ranges.{outOfRange}
+use Rattle.grammar.specs.Ranges.{gathered}
 use Rattle.grammar.proofs.Equations.{verdict-in, verdict-open}
 use Rattle.elements.specs.Entries.{entries}
-use Rattle.elements.proofs.MarkLaws.{marked-none}
-use Rattle.elements.proofs.TreeLaws.{entries-node, out-node}
+use Rattle.elements.specs.Marks.{faults, noting}
+use Rattle.elements.proofs.TreeLaws.{entries-node, faults-node}
 use Rattle.elements.proofs.Alternatives.{Plain, Single, Optional}
 use Rattle.phrases.specs.Stream.{stream, resume}
 use Rattle.phrases.specs.Phrase.{Reader, ready, withEntry, withEntries}
@@ -29,7 +29,7 @@ use Rattle.phrases.proofs.Pieces.{Grew, One, Many}
 
 -- without a part that is absent
 abbrev pub without : Reader → Reader
-without c = ready (c .token) (c .bad) (withEntry (c .kept) 0)
+without c = ready (c .token) (c .noted) (withEntry (c .kept) 0)
 
 module _ (s : List ℕ) {A : ℕ} where
   -- the tree of a rule over the trees of its alternative
@@ -42,15 +42,15 @@ module _ (s : List ℕ) {A : ℕ} where
         tree = node A i f;
         own = leaves f;
         kept-own = entries f;
-        out-own = outOfRange s f;
+        faults-own = faults s f;
         fits = λ α h k. fits-node e (g .fits) k;
         few = g .few;
         leaves-are = λ h. refl;
         entries-are = λ h. entries-node A i h (g .fits) ∙ ap (λ (l : List ℕ). l ++ entries h) (p .keeps-parts i f (entries f));
-        out-are = λ h. out-node s A i f h (p .no-range);
+        faults-are = λ h. faults-node s A i f h (p .no-faults s i f);
         reads = g .reads;
         kept = g .kept;
-        bad = g .bad;
+        noted = g .noted;
       }
 
   pub one-single : {x : Symbol} {β : List Symbol} {n : ℕ} {c c₁ : Reader} → Single A (x ∷ β) → Many s (x ∷ β) n c c₁ → One s (r A) n c c₁
@@ -82,7 +82,7 @@ module _ (s : List ℕ) {A : ℕ} where
           resume-on s (due d (r A) ∷ σ) (c .no) (c .token) z ∙ (h ∙ sym (resume-on s (dueAll d (t k ∷ β) ++ σ) (c .no) (c .token) z))
 
   pub one-absent : {k : ℕ} {β : List Symbol} (c : Reader) → Optional A k β → c .no ≡ 0 → c .token .class ≢ k → One s (r A) 1 c (without c)
-  unfolding entries withEntries outOfRange
+  unfolding entries withEntries faults gathered noting
   one-absent {k} {β} c w z e =
       record {
         skip = refl;
@@ -93,15 +93,15 @@ module _ (s : List ℕ) {A : ℕ} where
               tree = node A 0 nil;
               own = [];
               kept-own = 0 ∷ [];
-              out-own = [];
+              faults-own = [];
               fits = λ α f h. fits-node (w .absent) fits-nil h;
               few = omega arith;
               leaves-are = λ f. refl;
               entries-are = λ f. refl;
-              out-are = λ f. out-node s A 0 nil f (w .plainly .no-range);
+              faults-are = λ f. faults-node s A 0 nil f (w .plainly .no-faults s 0 nil);
               reads = refl;
               kept = refl;
-              bad = sym (marked-none (c .bad));
+              noted = refl;
             };
         within = λ h. h;
       }

@@ -17,7 +17,9 @@ use Rattle.lex.specs.Tokens.{tokenAt}
 use Rattle.ll1.specs.ParseTable.{member}
 use Rattle.phrases.specs.declared.Cursor.{Cursor}
 use Rattle.elements.specs.declared.flags.Words.{Words}
+use Rattle.elements.specs.declared.noted.Noted.{Noted}
 use Rattle.elements.specs.Words.{withWord}
+use Rattle.grammar.specs.Parts.{mark}
 use Rattle.phrases.specs.Stream.{Within}
 use Rattle.elements.specs.Kinds.{MAYBE, GROUP, isFlagList, startsOf, isKept}
 use Rattle.phrases.specs.Phrase.{Kept, keptAt, withEntry, Reader, reader, ready, onward, skipping, refusing, taking, flagsFrom, takingFlags, fitting, stepOf, phraseFrom}
@@ -39,7 +41,7 @@ module _ (s : List ℕ) where
   flags-inside zero x e u w h = record { within = h }
   flags-inside (suc n) x e u w h =
       let bar = tokenAt s (u .end) in
-      let more = flags-inside n x e (tokenAt s (bar .end)) (withWord w (u .class)) (within-at s (bar .end)) in
+      let more = flags-inside n x e (tokenAt s (bar .end)) (withWord w (u .class) (mark (u .start))) (within-at s (bar .end)) in
       either-way (member (u .class) (startsOf e)) (either-way (eqb (bar .class) «|») more (record { within = within-at s (u .end) })) (record { within = h })
 
   module _ (x : Reader) (e : ℕ) (h : Within s (x .token)) where
@@ -75,10 +77,10 @@ module _ {s p : List ℕ} {x y : Reader} {k : ℕ} (w : Turns s p x k y) where
 turns-skip : {s p : List ℕ} {x : Reader} (y : Reader) {k : ℕ} (n : ℕ) → Turns s p x k (skipping y n) → Turns s p x (k + n) (skipping y 0)
 turns-skip {s} {p} y {k} n w = record { same = w .same ∙ (left-out s n (drop k p) y ∙ ap (λ (q : List ℕ). phraseFrom s q (skipping y 0)) (drop-drop n k p)); within = w .within }
 
--- the turns of the code, from the token t, the mark, and what is kept
-module _ {s p : List ℕ} {x : Reader} {k : ℕ} {t : Token} {bad : ℕ} {kept : Kept} (w : Turns s p x k (ready t bad kept)) where
+-- the turns of the code, from the token t, the faults noted, and what is kept
+module _ {s p : List ℕ} {x : Reader} {k : ℕ} {t : Token} {was : Noted} {kept : Kept} (w : Turns s p x k (ready t was kept)) where
   abbrev here : Reader
-  here = ready t bad kept
+  here = ready t was kept
 
   pub turns-all : length p ≤ k → here ≡ phraseFrom s p x
   unfolding phraseFrom
@@ -95,7 +97,7 @@ module _ {s p : List ℕ} {x : Reader} {k : ℕ} {t : Token} {bad : ℕ} {kept :
     step-tokens m = step-on s here want next refl refl ∙ reads-tokens s here want next m
 
     -- a sign or a reserved word
-    pub turns-word : {t′ : Token} → want < NAME → t .class ≡ want → t′ ≡ tokenAt s (t .end) → Turns s p x (k + 1) (ready t′ bad kept)
+    pub turns-word : {t′ : Token} → want < NAME → t .class ≡ want → t′ ≡ tokenAt s (t .end) → Turns s p x (k + 1) (ready t′ was kept)
     turns-word l q e =
         rw e (turns-more w h (sym (step-tokens (λ z. omega arith) ∙ takes-word s here want l q)) (within-at s (t .end)))
 
@@ -106,17 +108,17 @@ module _ {s p : List ℕ} {x : Reader} {k : ℕ} {t : Token} {bad : ℕ} {kept :
     pub turns-group : {n : ℕ} → want ≡ MAYBE → n ≡ next → t .class ≡ n → Turns s p x (k + 1) here
     turns-group m e q = turns-more w h (sym (step-on s here want next refl refl ∙ reads-group s here want next m (q ∙ e))) (w .within)
 
-    pub turns-absent : {n : ℕ} {kept′ : Kept} → want ≡ MAYBE → n ≡ next → t .class ≢ n → kept′ ≡ withEntry kept 0 → Turns s p x (k + (1 + GROUP)) (ready t bad kept′)
+    pub turns-absent : {n : ℕ} {kept′ : Kept} → want ≡ MAYBE → n ≡ next → t .class ≢ n → kept′ ≡ withEntry kept 0 → Turns s p x (k + (1 + GROUP)) (ready t was kept′)
     turns-absent {kept′ = kept′} m e q f =
         let left = turns-more w h (leaves-group s here want next m (λ z. q (z ∙ sym e)) f ∙ sym (step-on s here want next refl refl)) (w .within) in
-        subst (λ (j : ℕ). Turns s p x j (ready t bad kept′)) (omega arith) (turns-skip (ready t bad kept′) GROUP left)
+        subst (λ (j : ℕ). Turns s p x j (ready t was kept′)) (omega arith) (turns-skip (ready t was kept′) GROUP left)
 
     -- any other element
     module _ (c : Cursor) (l : List ℕ) (m : want ≢ MAYBE) (e : onward s (reader c l) ≡ fitting s here want) where
       turns-element : Turns s p x (k + 1) (onward s (reader c l))
       turns-element = turns-more w h (e ∙ sym (step-tokens m)) (rw e (fitting-inside s here want (w .within) .within))
 
-      pub turns-taken : {t′ : Token} → c .no ≡ 0 → t′ ≡ tokenAt s (c .token .end) → Turns s p x (k + 1) (ready t′ (c .bad) (keptAt (c .count) l))
+      pub turns-taken : {t′ : Token} → c .no ≡ 0 → t′ ≡ tokenAt s (c .token .end) → Turns s p x (k + 1) (ready t′ (c .noted) (keptAt (c .count) l))
       turns-taken z q = rw q (let v : Turns s p x (k + 1) (onward s (reader c l)) = turns-element in rw (eq-eqb (c .no) 0 z) at v)
 
       pub refused-element : c .no ≢ 0 → reader c l ≡ phraseFrom s p x

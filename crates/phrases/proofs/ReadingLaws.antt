@@ -20,7 +20,7 @@ module _ (s : List ℕ) (x : Reader) (e next : ℕ) where
   unfolding reading
   reads-group m h = rw (eq-eqb e MAYBE m, eq-eqb (x .token .class) next h)
 
-  pub leaves-group : {k : Kept} → e ≡ MAYBE → x .token .class ≢ next → k ≡ withEntry (x .kept) 0 → skipping (ready (x .token) (x .bad) k) GROUP ≡ reading s x e next
+  pub leaves-group : {k : Kept} → e ≡ MAYBE → x .token .class ≢ next → k ≡ withEntry (x .kept) 0 → skipping (ready (x .token) (x .noted) k) GROUP ≡ reading s x e next
   unfolding reading
   leaves-group m h q = rw (eq-eqb e MAYBE m, ne-eqb (x .token .class) next h, q)
 

@@ -3,7 +3,7 @@
 use Prim.Native.Nat.{ℕ, _≤_, _<_}
 use mathlib.Core.Path.{_≡_, refl, sym, _∙_, subst}
 use mathlib.Core.Bool.{cond}
-use mathlib.Core.List.{List, [], _∷_}
+use mathlib.Core.List.{List, [], _∷_, map}
 use native.Mathlib.Omega.{arith}
 use lib.Dec.{eqb}
 use lib.ListN.{length}
@@ -16,15 +16,14 @@ use Rattle.ll1.specs.ParseTable.{member}
 use Rattle.ll1.specs.Machine.{Due, due}
 use Rattle.grammar.specs.Notation.{t}
 use Rattle.grammar.specs.Reading.{verdictFrom}
-use Rattle.grammar.specs.Ranges.{Range, free, keeps}
+use Rattle.grammar.specs.Ranges.{Range, free, keeps, outOf}
 use Rattle.grammar.proofs.Equations.{verdict-miss, verdict-ends}
-use Rattle.elements.specs.Marks.{marked, outOf}
+use Rattle.elements.specs.Marks.{outside, noting}
 use Rattle.elements.specs.Kinds.{REFERENCE, MAYBE, startsOf, elementRange, elementEntries}
 use Rattle.elements.proofs.KindLaws.{starts-word, not-kept, not-list}
-use Rattle.elements.proofs.MarkLaws.{marked-none}
 use Rattle.elements.proofs.Ways.{either-way, Taken, word-taken, member-one, member-other, each, Kind, width, width-is}
 use Rattle.phrases.specs.Stream.{stream}
-use Rattle.phrases.specs.Phrase.{Reader, withEntries, refusing, taking, reading}
+use Rattle.phrases.specs.Phrase.{Reader, withEntries, ready, refusing, taking, reading}
 use Rattle.phrases.proofs.Streams.{stream-on, within-at}
 use Rattle.phrases.proofs.Resume.{resume-on, resume-no, refused-here}
 use Rattle.phrases.proofs.Pieces.{One}
@@ -34,7 +33,8 @@ use Rattle.phrases.proofs.Pieces.{One}
 module _ (s : List ℕ) (x : Symbol) (c : Reader) (z : c .no ≡ 0) where
   -- past the token
   abbrev pub past-token : List ℕ → Range → Reader
-  past-token es range = record { no = 0; token = tokenAt s (c .token .end); bad = marked (c .bad) (outOf s range (c .token .start)); skip = 0; kept = withEntries (c .kept) es }
+  past-token es range =
+      ready (tokenAt s (c .token .end)) (noting (c .noted) (map outside (outOf s range (c .token .start ∷ [])))) (withEntries (c .kept) es)
 
   pub one-taken : (n : ℕ) (es : ℕ → List ℕ) (range : Range) → length (es (c .token .start)) ≤ n → Taken x (c .token .class) es range → One s x n c (past-token (es (c .token .start)) range)
   one-taken n es range few w =
@@ -50,15 +50,15 @@ module _ (s : List ℕ) (x : Symbol) (c : Reader) (z : c .no ≡ 0) where
               tree = w .way .tree p;
               own = token (c .token .class) p ∷ [];
               kept-own = es p;
-              out-own = outOf s range p;
+              faults-own = map outside (outOf s range (p ∷ []));
               fits = w .way .fits p;
               few = few;
               leaves-are = w .way .leaf-is p;
               entries-are = w .entries-are p;
-              out-are = w .out-are s p;
+              faults-are = w .faults-are s p;
               reads = sym on;
               kept = refl;
-              bad = refl;
+              noted = refl;
             };
         within = λ h. within-at s (c .token .end);
       }
@@ -80,15 +80,14 @@ Element x e = (s : List ℕ) (c : Reader) (next : ℕ) → c .no ≡ 0 → One s
 
 -- a sign or a reserved word
 pub word : (k : ℕ) → k < NAME → Element (t k) k
-unfolding reading taking withEntries keeps
+unfolding reading taking withEntries keeps noting
 word k h s c next z =
     rw (ne-eqb k MAYBE (λ e. omega arith), starts-word k (omega arith))
     (either-way (member (c .token .class) (k ∷ []))
     (λ m.
     rw (m, not-list k h, not-kept k h)
     (let q : k ≡ c .token .class = member-one (c .token .class) k m in
-    subst (λ (b : ℕ). One s (t k) 0 c (record { no = 0; token = tokenAt s (c .token .end); bad = b; skip = 0; kept = c .kept })) (marked-none (c .bad))
-    (one-taken s (t k) c z 0 (λ p. []) free (omega arith) (subst (λ (j : ℕ). Taken (t k) j (λ p. []) free) q (word-taken k h)))))
+    one-taken s (t k) c z 0 (λ p. []) free (omega arith) (subst (λ (j : ℕ). Taken (t k) j (λ p. []) free) q (word-taken k h))))
     (λ m.
     rw m
     (one-refused s (t k) c z _ (λ d σ. verdict-ends d σ k) (λ d σ p ts. verdict-miss d σ k (c .token .class) p ts (member-other (c .token .class) k m)))))

@@ -96,7 +96,13 @@ fn read_expression(src: &[u8], token: Token, noted: Noted, phrase: u8, kept: &mu
 {
     match phrase {
         phrase::CONDITION_CLOSE => read_phrase(src, token, noted, &patterns::CONDITION_CLOSE, kept),
-        phrase::EXPRESSION_CLOSE => read_phrase(src, token, noted, &patterns::EXPRESSION_CLOSE, kept),
+        phrase::EXPRESSION_CLOSE => read_phrase(
+            src,
+            token,
+            noted,
+            &patterns::EXPRESSION_CLOSE,
+            kept,
+        ),
         phrase::NUMBER => read_phrase(src, token, noted, &patterns::NUMBER, kept),
         phrase::QUESTION_REF => read_phrase(src, token, noted, &patterns::QUESTION_REF, kept),
         phrase::RULE_REF => read_phrase(src, token, noted, &patterns::RULE_REF, kept),

@@ -60,7 +60,7 @@ fn take_token(src: &[u8], c: Cursor, kept: &mut [u64], want: u8) -> Cursor
 // The element's flag words from the cursor's token on, which is one: the cursor at the last of them, or the refusal. Their
 // entry is kept, and a numeric's second size or display word is noted.
 fn take_flags(src: &[u8], c: Cursor, kept: &mut [u64], want: u8) -> Cursor
-    requires { ⌜ (isFlagList want ≡ true) × (member (c .token .class) (startsOf want) ≡ true) ⌝ }
+    requires { ⌜ (isFlagList want ≡ true) × (member (c .token .class) (startsOf want) ≡ true) × Within (now src) (c .token) ⌝ }
     ensures { λ r. ⌜ onward (now (src .entry)) (reader r (now (kept .exit))) ≡ takingFlags (now (src .entry)) (reader c (now (kept .entry))) want ⌝ }
 {
     let mut word = c.token;
@@ -102,13 +102,7 @@ fn element_at(pattern: &[u8], k: usize) -> u8
 }
 
 // Reads a phrase from a token on. Its entries are kept from the first one on.
-pub fn read_phrase(
-    src: &[u8],
-    first: Token,
-    was: Noted,
-    pattern: &[u8],
-    kept: &mut [u64],
-) -> Cursor
+pub fn read_phrase(src: &[u8], first: Token, was: Noted, pattern: &[u8], kept: &mut [u64]) -> Cursor
     requires { ⌜ Within (now src) first ⌝ }
     ensures { λ r. ⌜ reader r (now (kept .exit)) ≡ phraseFrom (now (src .entry)) (now (pattern .entry)) (starting first was (now (kept .entry))) ⌝ }
 {

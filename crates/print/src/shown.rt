@@ -2,8 +2,8 @@
 use elements::kinds::*;
 use lexemes::classes::*;
 use rows::codes::NUMERIC;
+use rows::displays;
 use rows::flags;
-use rows::sizes;
 use spellings::numerals::put_decimal;
 use spellings::numerals::put_hex;
 use spellings::numerals::put_rule_name;
@@ -99,8 +99,8 @@ fn display_word(display: u64) -> u8
     ensures { λ r. ⌜ r ≡ displayWord display .class ⌝ }
 {
     match display {
-        sizes::INT_DEC => DISPLAY_INT_DEC,
-        sizes::UINT_HEX => DISPLAY_UINT_HEX,
+        displays::INT_DEC => DISPLAY_INT_DEC,
+        displays::UINT_HEX => DISPLAY_UINT_HEX,
         _ => DISPLAY_UINT_DEC,
     }
 }
@@ -161,8 +161,6 @@ pub fn shows(word: u8, code: u64, set: u64) -> bool
         KW_QUESTIONID => true,
         KW_STEP => true,
         KW_DEFAULT => is_set(set, flags::HAS_DEFAULT),
-        _ => {
-            (code == NUMERIC) | any_flag(set)
-        }
+        _ => { (code == NUMERIC) | any_flag(set) }
     }
 }

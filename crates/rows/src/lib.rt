@@ -2,9 +2,9 @@
 // such row or cell, reading gives 0 and writing changes nothing.
 pub mod codes;
 pub mod columns;
+pub mod displays;
 pub mod draft;
 pub mod flags;
-pub mod sizes;
 
 use columns::ROW;
 ghost use mathlib.Core.Path.{_≡_};

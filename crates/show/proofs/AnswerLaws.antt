@@ -11,7 +11,7 @@ use borrow.Author.Tests.{eq-eqb, ne-eqb, lt-ltb, le-ltb, eqb-true, eqb-false}
 use Rattle.lexemes.proofs.Lists.{either, either-less}
 use Rattle.answers.specs.Answer.{Answer, refuses}
 use Rattle.answers.specs.WholeAnswer.{readAnswer}
-use Rattle.answers.specs.Demand3.{Refuses, source-too-long, bad-token, no-text-starts-so, source-ends-early, opens-too-many, number-outside}
+use Rattle.answers.specs.Demand3.{Refuses, source-too-long, bad-token, no-text-starts-so, source-ends-early, opens-too-many, second-word, number-outside}
 use Rattle.answers.specs.Demand3.{more-rows, form-repeated, question-repeated, name-repeated, rule-over-limit, nothing-found, bad-choice, reaches-itself}
 use Rattle.answers.proofs.Answers.{Right, accepting, refusing, answer-right}
 use Rattle.show.specs.Show.{shownFor}
@@ -47,48 +47,49 @@ module _ (answers : List ℕ) (good m : ℕ) (a : Answer) where
       given : {b : Answer} → Shown b → Shown (shownFor answers good m a)
       given h = rw (shown-only h) h
 
-  -- what an answer is given for, by its number; reading's own numbers are below 15
+  -- what an answer is given for, by its number; 15 and 30 are no numbers of reading's own
   pub accepted-for : {b : Answer} → Shown b → b .number ≡ 0 → (a .number ≡ 0) × (2 * good ≡ length answers) × (a .rows ≤ m)
   accepted-for (reading-refuses z) f = absurd (z f)
   accepted-for (answer-at-fault z e) f = absurd (omega arith)
   accepted-for (fewer-bytes z e l) f = absurd (omega arith)
   accepted-for (rows-shown z e l) f = (z, e, l)
 
-  module _ (below : a .number ≤ 14) where
+  module _ (own : (a .number ≢ 15) × (a .number ≢ 30)) where
     pub fault-for : {b : Answer} → Shown b → b .number ≡ 15 → (a .number ≡ 0) × (2 * good ≢ length answers)
-    fault-for (reading-refuses z) f = absurd (omega arith)
+    fault-for (reading-refuses z) f = absurd (own .0 f)
     fault-for (answer-at-fault z e) f = (z, e)
     fault-for (fewer-bytes z e l) f = absurd (omega arith)
     fault-for (rows-shown z e l) f = absurd (omega arith)
 
     pub few-for : {b : Answer} → Shown b → b .number ≡ 30 → (a .number ≡ 0) × (2 * good ≡ length answers) × (m < a .rows)
-    few-for (reading-refuses z) f = absurd (omega arith)
+    few-for (reading-refuses z) f = absurd (own .1 f)
     few-for (answer-at-fault z e) f = absurd (omega arith)
     few-for (fewer-bytes z e l) f = (z, e, l)
     few-for (rows-shown z e l) f = absurd (omega arith)
 
 -- ---- reading's own
 
-refusal-below : {s : List ℕ} {n : ℕ} {a : Answer} → Refuses s n a → a .number ≤ 14
-refusal-below (source-too-long h) = omega arith
-refusal-below (bad-token h e) = omega arith
-refusal-below (no-text-starts-so h e w) = omega arith
-refusal-below (source-ends-early h e w) = omega arith
-refusal-below (opens-too-many h e w) = omega arith
-refusal-below (number-outside p e) = omega arith
-refusal-below (more-rows p h) = omega arith
-refusal-below (form-repeated p e) = omega arith
-refusal-below (question-repeated p e) = omega arith
-refusal-below (name-repeated p e) = omega arith
-refusal-below (rule-over-limit p e) = omega arith
-refusal-below (nothing-found p e) = omega arith
-refusal-below (bad-choice p e) = omega arith
-refusal-below (reaches-itself p e) = omega arith
+refusal-own : {s : List ℕ} {n : ℕ} {a : Answer} → Refuses s n a → (a .number ≢ 15) × (a .number ≢ 30)
+refusal-own (source-too-long h) = (λ e. omega arith, λ e. omega arith)
+refusal-own (bad-token h b) = (λ e. omega arith, λ e. omega arith)
+refusal-own (no-text-starts-so h b w) = (λ e. omega arith, λ e. omega arith)
+refusal-own (source-ends-early h b w) = (λ e. omega arith, λ e. omega arith)
+refusal-own (opens-too-many h b w) = (λ e. omega arith, λ e. omega arith)
+refusal-own (second-word p f) = (λ e. omega arith, λ e. omega arith)
+refusal-own (number-outside p f) = (λ e. omega arith, λ e. omega arith)
+refusal-own (more-rows p h) = (λ e. omega arith, λ e. omega arith)
+refusal-own (form-repeated p f) = (λ e. omega arith, λ e. omega arith)
+refusal-own (question-repeated p f) = (λ e. omega arith, λ e. omega arith)
+refusal-own (name-repeated p f) = (λ e. omega arith, λ e. omega arith)
+refusal-own (rule-over-limit p f) = (λ e. omega arith, λ e. omega arith)
+refusal-own (nothing-found p f) = (λ e. omega arith, λ e. omega arith)
+refusal-own (bad-choice p f) = (λ e. omega arith, λ e. omega arith)
+refusal-own (reaches-itself p f) = (λ e. omega arith, λ e. omega arith)
 
 -- 15 and 30 are no numbers of reading
-pub reading-below : (s : List ℕ) (n : ℕ) → readAnswer s n .number ≤ 14
-reading-below s n = below (answer-right s n)
+pub reading-own : (s : List ℕ) (n : ℕ) → (readAnswer s n .number ≢ 15) × (readAnswer s n .number ≢ 30)
+reading-own s n = own (answer-right s n)
   where
-    below : {a : Answer} → Right s n a → a .number ≤ 14
-    below (accepting p) = omega arith
-    below (refusing r) = refusal-below r
+    own : {a : Answer} → Right s n a → (a .number ≢ 15) × (a .number ≢ 30)
+    own (accepting p) = (λ e. omega arith, λ e. omega arith)
+    own (refusing r) = refusal-own r

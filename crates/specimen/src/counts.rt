@@ -9,7 +9,7 @@ use trials::tally::print_text;
 use trials::tally::sum;
 
 // The refusal numbers, and 0.
-const NUMBERS: usize = 15;
+const NUMBERS: usize = 17;
 
 // Of the group that is run, of all groups, and how many that agreed met each number.
 pub struct Counts {

@@ -32,3 +32,6 @@ pub const NUMBERS: usize = ROWS * ROW;
 
 // The number of a table that is too short.
 const SHORT: u64 = 6;
+
+// The number of a second size or display word, which is told before the rows are counted (W-204).
+const SECOND_WORD: u64 = 16;

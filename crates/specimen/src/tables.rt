@@ -1,6 +1,7 @@
 // Running a specimen, and running its source again with other tables.
 use crate::Expected;
 use crate::ROWS;
+use crate::SECOND_WORD;
 use crate::SHORT;
 use crate::Specimen;
 use crate::compare::agrees;
@@ -85,7 +86,7 @@ fn run_enough(s: Specimen, need: usize, src: &[u8], cells: &[u64]) -> Tally
 // With no table, where the refusal is one before the rows are counted.
 fn run_bare(s: Specimen, src: &[u8], cells: &[u64]) -> Tally {
     let number = s.expected.number;
-    if (number == 0) | (SHORT <= number) {
+    if (number == 0) | ((SHORT <= number) & (number != SECOND_WORD)) {
         return NONE;
     }
     run_with(s, 0, s.expected, src, cells)

@@ -17,7 +17,7 @@ use rows::columns::B;
 use rows::columns::CODE;
 use rows::columns::D;
 use rows::columns::SIZE;
-use rows::sizes::INT_DEC;
+use rows::displays::INT_DEC;
 
 // x is below y, as two numbers of the numeric in this row: in the order of its size and display.
 fn below(table: &[u64], row: usize, x: u64, y: u64) -> bool

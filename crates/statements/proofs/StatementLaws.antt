@@ -11,12 +11,14 @@ use Rattle.lexemes.specs.Classes.{«DEFAULT»}
 use Rattle.lexemes.specs.Lexemes.{lexemes, signs, reserved}
 use Rattle.rows.specs.Columns as column
 use Rattle.rows.specs.Flags as flag
+use Rattle.rows.specs.Codes as code
 use Rattle.grammar.specs.Flags.{FlagWord, flagWords, setIn}
 use Rattle.elements.specs.Kinds.{LARGE}
 use Rattle.answers.specs.Text as text
 use Rattle.rows.specs.Codes.{member, questions, isQuestion}
 use Rattle.answers.specs.Text.{Word, words, decimal, decimalDigits, head, flagList, framed, Phrase, _prints_, opening, phraseAmong}
-use Rattle.print.specs.Phrase.{setWords, optionFlags, elementWords, shownBy, filled, anyFlag, hasDefault, valueFrom, added, skipAfter, passedAfter, phraseFrom, elementIn, phraseWords}
+use Rattle.print.specs.Phrase.{setWords, numericFlags, optionFlags, elementWords, shownBy, filled, anyFlag, hasFlags, hasDefault, valueFrom}
+use Rattle.print.specs.Phrase.{added, skipAfter, passedAfter, phraseFrom, elementOf, elementIn, phraseWords}
 use Rattle.statements.specs.Statements.{conditionWords, closing, operandWords}
 use Rattle.elements.specs.Symbols as phrase
 use Rattle.statements.proofs.Sources as source
@@ -25,35 +27,39 @@ use Rattle.statements.proofs.Sources as source
 
 module _ (r : List ℕ) where
   pub form-words : phraseWords phrase.formOpenElements source.form-sources r ≡ text.form r
-  unfolding phraseWords phraseFrom added skipAfter passedAfter elementWords valueFrom lexemes signs reserved
+  unfolding phraseWords phraseFrom added skipAfter passedAfter elementOf elementWords valueFrom lexemes signs reserved
   form-words = refl
 
   pub rule-words : phraseWords phrase.ruleOpenElements source.rule-sources r ≡ text.rule r
-  unfolding phraseWords phraseFrom added skipAfter passedAfter elementWords valueFrom lexemes signs reserved
+  unfolding phraseWords phraseFrom added skipAfter passedAfter elementOf elementWords valueFrom lexemes signs reserved
   rule-words = refl
 
   pub subtitle-words : phraseWords phrase.subtitleElements source.subtitle-sources r ≡ text.subtitle r
-  unfolding phraseWords phraseFrom added skipAfter passedAfter elementWords valueFrom lexemes signs reserved
+  unfolding phraseWords phraseFrom added skipAfter passedAfter elementOf elementWords valueFrom lexemes signs reserved
   subtitle-words = refl
 
   pub text-words : phraseWords phrase.textElements source.text-sources r ≡ text.text r
-  unfolding phraseWords phraseFrom added skipAfter passedAfter elementWords valueFrom lexemes signs reserved
+  unfolding phraseWords phraseFrom added skipAfter passedAfter elementOf elementWords valueFrom lexemes signs reserved
   text-words = refl
 
   pub label-words : phraseWords phrase.labelElements source.label-sources r ≡ text.label r
-  unfolding phraseWords phraseFrom added skipAfter passedAfter elementWords valueFrom lexemes signs reserved
+  unfolding phraseWords phraseFrom added skipAfter passedAfter elementOf elementWords valueFrom lexemes signs reserved
   label-words = refl
 
-  pub question-ref-words : phraseWords phrase.questionRefElements source.operand-sources r ≡ words "questionref (" ++ decimal (getD r column.A 0) ++ words ")"
-  unfolding phraseWords phraseFrom added skipAfter passedAfter elementWords valueFrom lexemes signs reserved
+  pub question-ref-words :
+      phraseWords phrase.questionRefElements source.operand-sources r ≡ words "questionref (" ++ decimal (getD r column.A 0) ++ words ")"
+  unfolding phraseWords phraseFrom added skipAfter passedAfter elementOf elementWords valueFrom lexemes signs reserved
   question-ref-words = refl
 
-  pub rule-ref-words : phraseWords phrase.ruleRefElements source.operand-sources r ≡ words "ruleref (" ++ text.ruleName (getD r column.A 0) ++ words ")"
-  unfolding phraseWords phraseFrom added skipAfter passedAfter elementWords valueFrom lexemes signs reserved
+  pub rule-ref-words :
+      phraseWords phrase.ruleRefElements source.operand-sources r ≡ words "ruleref (" ++ text.ruleName (getD r column.A 0) ++ words ")"
+  unfolding phraseWords phraseFrom added skipAfter passedAfter elementOf elementWords valueFrom lexemes signs reserved
   rule-ref-words = refl
 
-  pub form-set-words : phraseWords phrase.formSetOpenElements source.form-set-open-sources r ++ phraseWords phrase.formSetBracedElements source.form-set-braced-sources r ≡ text.formSet r
-  unfolding phraseWords phraseFrom added skipAfter passedAfter elementWords valueFrom lexemes signs reserved
+  pub form-set-words :
+      phraseWords phrase.formSetOpenElements source.form-set-open-sources r ++ phraseWords phrase.formSetBracedElements source.form-set-braced-sources r
+      ≡ text.formSet r
+  unfolding phraseWords phraseFrom added skipAfter passedAfter elementOf elementWords valueFrom lexemes signs reserved
   form-set-words = refl
 
   option-flags : (b : Bool) → cond b (text.lexeme «DEFAULT») (decimal 0) ≡ elim b [ true ↦ words "DEFAULT" | false ↦ words "0" ]
@@ -62,13 +68,14 @@ module _ (r : List ℕ) where
   option-flags false = refl
 
   abbrev optionWith : List Word → List Word
-  optionWith f = words "option text =" ++ text.string (getD r column.FIRST 0) ++ words ", value =" ++ decimal (getD r column.A 0) ++ words ", flags =" ++ f ++ words ";"
+  optionWith f =
+      words "option text =" ++ text.string (getD r column.FIRST 0) ++ words ", value =" ++ decimal (getD r column.A 0) ++ words ", flags =" ++ f ++ words ";"
 
   pub option-words : phraseWords phrase.optionElements source.option-sources r ≡ text.option r
-  unfolding phraseWords phraseFrom added skipAfter passedAfter elementWords valueFrom lexemes signs reserved optionFlags
+  unfolding phraseWords phraseFrom added skipAfter passedAfter elementOf elementWords valueFrom lexemes signs reserved optionFlags
   option-words = ap optionWith (option-flags (flag.isSet flag.OPTION-DEFAULT (getD r column.FLAGS 0)))
 
--- ---- questions: flags where there are any, a default where it is written
+-- ---- questions: flags where there are any, a numeric's always, a default where it is written
 
 framed-list : (before after : List Word) (ws : List FlagWord) → cond (filled ws) (before ++ flagList ws ++ after) [] ≡ framed before (flagList ws) after
 framed-list before after [] = refl
@@ -82,7 +89,8 @@ part-then : (shown : Bool) (before inner after later : List Word) → partThen s
 part-then true before inner after later = simp append-assoc
 part-then false before inner after later = refl
 
-default-list : (b : Bool) (v : List Word) → cond b (words "default =" ++ v ++ words ",") [] ≡ elim b [ true ↦ words "default =" ++ v ++ words "," | false ↦ [] ]
+default-list : (b : Bool) (v : List Word)
+    → cond b (words "default =" ++ v ++ words ",") [] ≡ elim b [ true ↦ words "default =" ++ v ++ words "," | false ↦ [] ]
 default-list true v = refl
 default-list false v = refl
 
@@ -93,34 +101,43 @@ three-right x f y = sym (append-assoc x f y)
 four-right : (x f d y : List Word) → x ++ (f ++ (d ++ y)) ≡ x ++ f ++ d ++ y
 four-right x f d y = simp append-assoc
 
-eleven-right : (x f a b c d e g h i y : List Word) → x ++ (f ++ (a ++ (b ++ (c ++ (d ++ (e ++ (g ++ (h ++ (i ++ y))))))))) ≡ x ++ f ++ a ++ b ++ c ++ d ++ e ++ g ++ h ++ i ++ y
+eleven-right : (x f a b c d e g h i y : List Word)
+    → x ++ (f ++ (a ++ (b ++ (c ++ (d ++ (e ++ (g ++ (h ++ (i ++ y))))))))) ≡ x ++ f ++ a ++ b ++ c ++ d ++ e ++ g ++ h ++ i ++ y
 eleven-right x f a b c d e g h i y = simp append-assoc
 
 module _ (r : List ℕ) where
+  abbrev kind : ℕ
+  kind = getD r column.CODE 0
+
   abbrev set : ℕ
   set = getD r column.FLAGS 0
 
-  flags-are : (before after later : List Word) → partThen (anyFlag set) before (setWords set) after later ≡ text.flags before after r ++ later
+  -- the flags of a question that is no numeric
+  flags-are : (before after later : List Word) → eqb kind code.NUMERIC ≡ false
+      → partThen (hasFlags kind set) before (setWords set) after later ≡ text.flags before after r ++ later
   unfolding setWords
-  flags-are before after later =
-      part-then (anyFlag set) before (setWords set) after later ∙ ap (λ (l : List Word). l ++ later) (framed-list before after (setIn set flagWords))
+  flags-are before after later e =
+      rw e (part-then (anyFlag set) before (setWords set) after later ∙ ap (λ (l : List Word). l ++ later) (framed-list before after (setIn set flagWords)))
 
   default-is : (v later : List Word) → partThen (hasDefault set) (words "default =") v (words ",") later ≡ text.default v r ++ later
-  default-is v later = part-then (hasDefault set) (words "default =") v (words ",") later ∙ ap (λ (l : List Word). l ++ later) (default-list (hasDefault set) v)
+  default-is v later =
+      part-then (hasDefault set) (words "default =") v (words ",") later ∙ ap (λ (l : List Word). l ++ later) (default-list (hasDefault set) v)
 
   -- goto
   abbrev gotoStart : List Word
   gotoStart = words "goto" ++ decimal (getD r column.A 0) ++ words "," ++ head r
 
-  goto-shape : (f d : Bool) → phraseFrom (shownBy f d) (elementIn source.goto-sources r) phrase.gotoElements 0 0 ≡ gotoStart ++ partThen f (words ", flags =") (setWords set) [] (words ";")
-  unfolding phraseFrom added skipAfter passedAfter elementWords valueFrom lexemes signs reserved
+  goto-shape : (f d : Bool)
+      → phraseFrom (shownBy f d) (elementIn source.goto-sources r) phrase.gotoElements 0 0
+      ≡ gotoStart ++ partThen f (words ", flags =") (setWords set) [] (words ";")
+  unfolding phraseFrom added skipAfter passedAfter elementOf elementWords valueFrom lexemes signs reserved
   goto-shape true d = refl
   goto-shape false d = refl
 
-  pub goto-words : phraseWords phrase.gotoElements source.goto-sources r ≡ text.goto r
+  pub goto-words : kind ≡ code.GOTO → phraseWords phrase.gotoElements source.goto-sources r ≡ text.goto r
   unfolding phraseWords
-  goto-words =
-      goto-shape (anyFlag set) (hasDefault set) ∙ ap (_++_ gotoStart) (flags-are (words ", flags =") [] (words ";"))
+  goto-words e =
+      goto-shape (hasFlags kind set) (hasDefault set) ∙ ap (_++_ gotoStart) (flags-are (words ", flags =") [] (words ";") (rw e))
       ∙ three-right gotoStart (text.flags (words ", flags =") [] r) (words ";")
 
   -- checkbox
@@ -130,59 +147,73 @@ module _ (r : List ℕ) where
   abbrev checkboxDefault : Bool → List Word
   checkboxDefault d = partThen d (words "default =") (text.truth (getD r column.D 0)) (words ",") (words "endcheckbox ;")
 
-  checkbox-shape : (f d : Bool) → phraseFrom (shownBy f d) (elementIn source.checkbox-sources r) phrase.checkboxElements 0 0 ≡ checkboxStart ++ partThen f (words "flags =") (setWords set) (words ",") (checkboxDefault d)
-  unfolding phraseFrom added skipAfter passedAfter elementWords valueFrom lexemes signs reserved
+  checkbox-shape : (f d : Bool)
+      → phraseFrom (shownBy f d) (elementIn source.checkbox-sources r) phrase.checkboxElements 0 0
+      ≡ checkboxStart ++ partThen f (words "flags =") (setWords set) (words ",") (checkboxDefault d)
+  unfolding phraseFrom added skipAfter passedAfter elementOf elementWords valueFrom lexemes signs reserved
   checkbox-shape true true = refl
   checkbox-shape true false = refl
   checkbox-shape false true = refl
   checkbox-shape false false = refl
 
-  pub checkbox-words : phraseWords phrase.checkboxElements source.checkbox-sources r ≡ text.checkbox r
+  pub checkbox-words : kind ≡ code.CHECKBOX → phraseWords phrase.checkboxElements source.checkbox-sources r ≡ text.checkbox r
   unfolding phraseWords
-  checkbox-words =
-      checkbox-shape (anyFlag set) (hasDefault set)
-      ∙ ap (_++_ checkboxStart) (flags-are (words "flags =") (words ",") (checkboxDefault (hasDefault set)) ∙ ap (_++_ (text.flags (words "flags =") (words ",") r)) (default-is (text.truth (getD r column.D 0)) (words "endcheckbox ;")))
-      ∙ four-right checkboxStart (text.flags (words "flags =") (words ",") r) (text.default (text.truth (getD r column.D 0)) r) (words "endcheckbox ;")
+  checkbox-words e =
+      let f = text.flags (words "flags =") (words ",") r in
+      let d = text.truth (getD r column.D 0) in
+      checkbox-shape (hasFlags kind set) (hasDefault set)
+      ∙ ap (_++_ checkboxStart)
+      (flags-are (words "flags =") (words ",") (checkboxDefault (hasDefault set)) (rw e) ∙ ap (_++_ f) (default-is d (words "endcheckbox ;")))
+      ∙ four-right checkboxStart f (text.default d r) (words "endcheckbox ;")
 
   -- numeric
   abbrev numericStart : List Word
-  numericStart = words "numeric" ++ head r ++ words ","
+  numericStart = words "numeric" ++ head r ++ words ", flags ="
 
   abbrev numericDefault : Bool → List Word
   numericDefault d = partThen d (words "default =") (decimal (getD r column.D 0)) (words ",") (words "endnumeric ;")
 
   abbrev numericLimits : List Word → List Word
   numericLimits later =
-      words "minimum =" ++ (decimal (getD r column.A 0) ++ (words ", maximum =" ++ (decimal (getD r column.B 0) ++ (words ", step =" ++ (decimal (getD r column.C 0) ++ (words "," ++ later))))))
+      words ", minimum =" ++ (decimal (getD r column.A 0)
+      ++ (words ", maximum =" ++ (decimal (getD r column.B 0) ++ (words ", step =" ++ (decimal (getD r column.C 0) ++ (words "," ++ later))))))
 
-  numeric-shape : (f d : Bool) → phraseFrom (shownBy f d) (elementIn source.numeric-sources r) phrase.numericElements 0 0 ≡ numericStart ++ partThen f (words "flags =") (setWords set) (words ",") (numericLimits (numericDefault d))
-  unfolding phraseFrom added skipAfter passedAfter elementWords valueFrom lexemes signs reserved
-  numeric-shape true true = refl
-  numeric-shape true false = refl
-  numeric-shape false true = refl
-  numeric-shape false false = refl
+  abbrev numericFL : List Word
+  numericFL = numericFlags set (getD r column.SIZE 0)
 
-  pub numeric-words : phraseWords phrase.numericElements source.numeric-sources r ≡ text.numeric r
-  unfolding phraseWords
-  numeric-words =
-      numeric-shape (anyFlag set) (hasDefault set)
-      ∙ ap (_++_ numericStart) (flags-are (words "flags =") (words ",") (numericLimits (numericDefault (hasDefault set))) ∙ ap (λ (l : List Word). text.flags (words "flags =") (words ",") r ++ numericLimits l) (default-is (decimal (getD r column.D 0)) (words "endnumeric ;")))
-      ∙ eleven-right numericStart (text.flags (words "flags =") (words ",") r) (words "minimum =") (decimal (getD r column.A 0)) (words ", maximum =") (decimal (getD r column.B 0)) (words ", step =") (decimal (getD r column.C 0)) (words ",") (text.default (decimal (getD r column.D 0)) r) (words "endnumeric ;")
+  numeric-shape : (d : Bool)
+      → phraseFrom (shownBy true d) (elementIn source.numeric-sources r) phrase.numericElements 0 0
+      ≡ numericStart ++ (numericFL ++ numericLimits (numericDefault d))
+  unfolding phraseFrom added skipAfter passedAfter elementOf elementWords valueFrom lexemes signs reserved
+  numeric-shape true = refl
+  numeric-shape false = refl
+
+  pub numeric-words : kind ≡ code.NUMERIC → phraseWords phrase.numericElements source.numeric-sources r ≡ text.numeric r
+  unfolding phraseWords numericFlags
+  numeric-words e =
+      let d = decimal (getD r column.D 0) in
+      ap (λ (k : ℕ). phraseFrom (shownBy (hasFlags k set) (hasDefault set)) (elementIn source.numeric-sources r) phrase.numericElements 0 0) e
+      ∙ numeric-shape (hasDefault set)
+      ∙ ap (λ (l : List Word). numericStart ++ (numericFL ++ numericLimits l)) (default-is d (words "endnumeric ;"))
+      ∙ eleven-right numericStart numericFL (words ", minimum =") (decimal (getD r column.A 0)) (words ", maximum =") (decimal (getD r column.B 0))
+      (words ", step =") (decimal (getD r column.C 0)) (words ",") (text.default d r) (words "endnumeric ;")
 
   -- oneof
   abbrev oneOfStart : List Word
   oneOfStart = words "oneof" ++ head r ++ words ","
 
-  one-of-shape : (f d : Bool) → phraseFrom (shownBy f d) (elementIn source.one-of-sources r) phrase.oneOfOpenElements 0 0 ≡ oneOfStart ++ partThen f (words "flags =") (setWords set) (words ",") []
-  unfolding phraseFrom added skipAfter passedAfter elementWords valueFrom lexemes signs reserved
+  one-of-shape : (f d : Bool)
+      → phraseFrom (shownBy f d) (elementIn source.one-of-sources r) phrase.oneOfOpenElements 0 0
+      ≡ oneOfStart ++ partThen f (words "flags =") (setWords set) (words ",") []
+  unfolding phraseFrom added skipAfter passedAfter elementOf elementWords valueFrom lexemes signs reserved
   one-of-shape true d = refl
   one-of-shape false d = refl
 
-  pub one-of-words : phraseWords phrase.oneOfOpenElements source.one-of-sources r ≡ text.oneOf r
+  pub one-of-words : kind ≡ code.ONE-OF → phraseWords phrase.oneOfOpenElements source.one-of-sources r ≡ text.oneOf r
   unfolding phraseWords
-  one-of-words =
-      one-of-shape (anyFlag set) (hasDefault set)
-      ∙ ap (_++_ oneOfStart) (flags-are (words "flags =") (words ",") [] ∙ append-nil (text.flags (words "flags =") (words ",") r))
+  one-of-words e =
+      one-of-shape (hasFlags kind set) (hasDefault set)
+      ∙ ap (_++_ oneOfStart) (flags-are (words "flags =") (words ",") [] (rw e) ∙ append-nil (text.flags (words "flags =") (words ",") r))
 
 -- ---- by codes
 
@@ -196,15 +227,25 @@ chosen true x e = refl
 chosen false x e = e
 
 module _ (r : List ℕ) where
-  abbrev kind : ℕ
-  kind = getD r column.CODE 0
-
-  phrase-at : (l : List Phrase) → phraseAt l kind r ≡ phraseAmong l r
+  phrase-at : (l : List Phrase) → phraseAt l (kind r) r ≡ phraseAmong l r
   phrase-at [] = refl
-  phrase-at (j prints f ∷ l) = chosen (eqb kind j) (f r) (phrase-at l)
+  phrase-at (j prints f ∷ l) = chosen (eqb (kind r) j) (f r) (phrase-at l)
 
-  pub opens : (k : ℕ) → kind ≡ k → phraseAt text.statements k r ≡ opening r
+  pub opens : (k : ℕ) → kind r ≡ k → phraseAt text.statements k r ≡ opening r
   opens k e = ap (λ (j : ℕ). phraseAt text.statements j r) (sym e) ∙ phrase-at text.statements
+
+  -- questions
+  pub goto-opens : kind r ≡ code.GOTO → phraseWords phrase.gotoElements source.goto-sources r ≡ opening r
+  goto-opens e = goto-words r e ∙ opens code.GOTO e
+
+  pub checkbox-opens : kind r ≡ code.CHECKBOX → phraseWords phrase.checkboxElements source.checkbox-sources r ≡ opening r
+  checkbox-opens e = checkbox-words r e ∙ opens code.CHECKBOX e
+
+  pub numeric-opens : kind r ≡ code.NUMERIC → phraseWords phrase.numericElements source.numeric-sources r ≡ opening r
+  numeric-opens e = numeric-words r e ∙ opens code.NUMERIC e
+
+  pub one-of-opens : kind r ≡ code.ONE-OF → phraseWords phrase.oneOfOpenElements source.one-of-sources r ≡ opening r
+  one-of-opens e = one-of-words r e ∙ opens code.ONE-OF e
 
 -- ---- the ends of statements and of expressions
 
@@ -235,7 +276,15 @@ module _ (r : List ℕ) where
 
 pub no-closing : (k : ℕ) → ((((((Unit {0}) × (k ≡ 14 → ⊥)) × (k ≡ 1 → ⊥)) × (k ≡ 5 → ⊥)) × (k ≡ 10 → ⊥)) × (k ≡ 25 → ⊥)) × (k ≡ 30 → ⊥) → [] ≡ closing k
 unfolding closing
-no-closing k h = rw (ne-eqb k 14 (h .0 .0 .0 .0 .0 .1), ne-eqb k 1 (h .0 .0 .0 .0 .1), ne-eqb k 5 (h .0 .0 .0 .1), ne-eqb k 10 (h .0 .0 .1), ne-eqb k 25 (h .0 .1), ne-eqb k 30 (h .1))
+no-closing k h =
+    rw (
+      ne-eqb k 14 (h .0 .0 .0 .0 .0 .1),
+      ne-eqb k 1 (h .0 .0 .0 .0 .1),
+      ne-eqb k 5 (h .0 .0 .0 .1),
+      ne-eqb k 10 (h .0 .0 .1),
+      ne-eqb k 25 (h .0 .1),
+      ne-eqb k 30 (h .1),
+    )
 
 pub no-condition : (k : ℕ) → (((Unit {0}) × (k ≡ 10 → ⊥)) × (k ≡ 25 → ⊥)) × (k ≡ 30 → ⊥) → [] ≡ conditionWords k
 unfolding conditionWords
@@ -255,13 +304,16 @@ skips [] m k r o = refl
 skips (j prints f ∷ l) m k r o = not-chosen (eqb k j) (f r) (phraseAt (l ++ m) k r) (o .0) ∙ skips l m k r (o .1)
 
 -- a code that is no question's and none of these is a condition's, or opens nothing
-condition-at : (a b c : Bool) (x y z : List Word) → cond a x (cond b y (cond c z [])) ≡ elim a [ true ↦ x | false ↦ elim b [ true ↦ y | false ↦ elim c [ true ↦ z | false ↦ [] ] ] ]
+condition-at : (a b c : Bool) (x y z : List Word)
+    → cond a x (cond b y (cond c z [])) ≡ elim a [ true ↦ x | false ↦ elim b [ true ↦ y | false ↦ elim c [ true ↦ z | false ↦ [] ] ] ]
 condition-at true b c x y z = refl
 condition-at false true c x y z = refl
 condition-at false false true x y z = refl
 condition-at false false false x y z = refl
 
-pub opens-condition : (r : List ℕ) (k : ℕ) → kind r ≡ k → isQuestion k ≡ false → ((((((((Unit {0}) × (k ≡ 14 → ⊥)) × (k ≡ 1 → ⊥)) × (k ≡ 24 → ⊥)) × (k ≡ 2 → ⊥)) × (k ≡ 3 → ⊥)) × (k ≡ 95 → ⊥)) × (k ≡ 9 → ⊥)) → conditionWords k ≡ opening r
+pub opens-condition : (r : List ℕ) (k : ℕ) → kind r ≡ k → isQuestion k ≡ false
+    → ((((((((Unit {0}) × (k ≡ 14 → ⊥)) × (k ≡ 1 → ⊥)) × (k ≡ 24 → ⊥)) × (k ≡ 2 → ⊥)) × (k ≡ 3 → ⊥)) × (k ≡ 95 → ⊥)) × (k ≡ 9 → ⊥))
+    → conditionWords k ≡ opening r
 unfolding conditionWords isQuestion questions member
 opens-condition r k e q h =
     let q₁ = or-false (eqb k 15) _ q in
@@ -269,8 +321,19 @@ opens-condition r k e q h =
     let q₃ = or-false (eqb k 7) _ (q₂ .1) in
     let q₄ = or-false (eqb k 5) _ (q₃ .1) in
     condition-at (eqb k 10) (eqb k 25) (eqb k 30) (words "suppressif") (words "grayoutif") (words "disableif")
-    ∙ sym (skips (take 11 text.statements) (drop 11 text.statements) k r
-    (ne-eqb k 14 (h .0 .0 .0 .0 .0 .0 .1), (ne-eqb k 1 (h .0 .0 .0 .0 .0 .1), (ne-eqb k 24 (h .0 .0 .0 .0 .1), (ne-eqb k 2 (h .0 .0 .0 .1), (ne-eqb k 3 (h .0 .0 .1), (ne-eqb k 95 (h .0 .1), (q₁ .0, (q₂ .0, (q₃ .0, (q₄ .0, (ne-eqb k 9 (h .1), tt))))))))))))
+    ∙ sym (skips (take 11 text.statements) (drop 11 text.statements) k r (
+      ne-eqb k 14 (h .0 .0 .0 .0 .0 .0 .1),
+      (
+        ne-eqb k 1 (h .0 .0 .0 .0 .0 .1),
+        (
+          ne-eqb k 24 (h .0 .0 .0 .0 .1),
+          (
+            ne-eqb k 2 (h .0 .0 .0 .1),
+            (ne-eqb k 3 (h .0 .0 .1), (ne-eqb k 95 (h .0 .1), (q₁ .0, (q₂ .0, (q₃ .0, (q₄ .0, (ne-eqb k 9 (h .1), tt))))))),
+          ),
+        ),
+      ),
+    ))
     ∙ opens r k e
   where
     or-false : (a b : Bool) → a || b ≡ false → (a ≡ false) × (b ≡ false)

@@ -59,7 +59,7 @@ module _ (t : List ℕ) (found : ℕ → List ℕ) (value : ℕ → ℕ) {tree :
           is = ap textOf (source-words t found value fits held);
         }
 
-    -- and it is no longer than 8,192 bytes a row
+    -- and it is no longer than EACH-ROW bytes a row
     whole-short : ((j k : ℕ) → cellAt t j k < 2 ^ 64) → length (textOf (wordsOf found tree)) ≤ OPENING + EACH-ROW * length ds + 16
     unfolding whole
     whole-short small =

@@ -1,4 +1,4 @@
--- A text is short: no row's part of it is longer than 8,192 bytes.
+-- A text is short: no row's part of it is longer than EACH-ROW bytes.
 -- Assumes nothing.
 use Prim.Native.Nat.{ℕ, zero, suc, _+_, _-_, _*_, _/_, _%_, _^_, _≤_, _<_}
 use native.Mathlib.Omega.{arith}
@@ -7,27 +7,33 @@ use mathlib.Core.Bool.{Bool, true, false, cond}
 use mathlib.Core.List.{List, [], _∷_, _++_}
 use lib.Dec.{eqb, ltb}
 use lib.ListN.{length, getD, length-append}
+use borrow.Author.Tests.{eqb-true}
 use Rattle.lexemes.specs.Words.{same}
 use Rattle.lexemes.specs.Classes.{«DEFAULT», NAME}
 use Rattle.lexemes.proofs.Lists.{either}
 use Rattle.rows.specs.Columns as column
 use Rattle.rows.specs.Flags as flag
 use Rattle.rows.specs.Table.{cellAt}
-use Rattle.grammar.specs.Flags.{FlagWord, flagWords, setIn}
+use Rattle.rows.specs.Sizes.{sizeOf, displayOf}
+use Rattle.grammar.specs.Flags.{FlagWord, flagWords, setIn, sizeWord, displayWord}
 use Rattle.answers.specs.Expression.{Expression, constantClass, operatorClass, level}
 use Rattle.answers.specs.Text as text
-use Rattle.answers.specs.Text.{Word, words, decimal, decimalDigits, hex, hexDigits, ruleName, lexeme, barred, flagList, truth, grouped, printed, opening, textOf, Phrase, _prints_, phraseAmong, statements}
-use Rattle.print.specs.Phrase.{setWords, optionFlags, elementWords, GUID, valueFrom, added, skipAfter, passedAfter, phraseFrom, shownIn, elementIn, phraseWords}
+use Rattle.answers.specs.Text.{Word, words, decimal, decimalDigits, hex, hexDigits, ruleName, lexeme, barred, flagList, truth, grouped, printed}
+use Rattle.answers.specs.Text.{opening, textOf, Phrase, _prints_, phraseAmong, statements}
+use Rattle.print.specs.Phrase.{setWords, numericFlags, optionFlags, elementWords, GUID, valueFrom, elementOf}
+use Rattle.print.specs.Phrase.{added, skipAfter, passedAfter, phraseFrom, shownIn, elementIn, phraseWords}
 use Rattle.statements.specs.Statements.{closing, expressionEnd}
 use Rattle.spellings.specs.Spelling.{ROOM}
 use Rattle.spellings.proofs.Outputs.{text-append}
 use Rattle.spellings.proofs.DigitLaws.{digits-few}
 use Rattle.spellings.proofs.SpellingLaws.{lexeme-short}
-use Rattle.elements.specs.Kinds.{OPTION-FLAGS, TRUTH, isFlagList, H8, H4, H2, MAYBE}
+use Rattle.elements.specs.Kinds.{OPTION-FLAGS, TRUTH, FLAG-LIST, NUMERIC-FLAGS, H8, H4, H2, MAYBE}
 use Rattle.elements.specs.Symbols as phrase
 use Rattle.statements.proofs.Sources as source
-use Rattle.statements.proofs.StatementLaws.{form-words, rule-words, subtitle-words, text-words, label-words, form-set-words, option-words, goto-words, checkbox-words, numeric-words, one-of-words}
-use Rattle.laid.specs.Spans.{Spans, spans-number, spans-constant, spans-question-named, spans-question-numbered, spans-rule-named, spans-negation, spans-binary}
+use Rattle.statements.proofs.StatementLaws.{form-words, rule-words, subtitle-words, text-words, label-words, form-set-words, option-words}
+use Rattle.statements.proofs.StatementLaws.{goto-words, checkbox-words, numeric-words, one-of-words}
+use Rattle.laid.specs.Spans.{Spans, spans-number, spans-constant, spans-question-named, spans-question-numbered, spans-rule-named}
+use Rattle.laid.specs.Spans.{spans-negation, spans-binary}
 use Rattle.laid.specs.Items.{Inner, Items}
 use Rattle.laid.specs.Laid.{Inside, inside-plain, inside-expressed, Laid, laid-done, laid-item}
 use Rattle.text.specs.ItemWords.{codeAt, innerWords, itemWords}
@@ -111,6 +117,14 @@ flags-short : (set : ℕ) → size (setWords set) ≤ 26 * length flagWords
 unfolding setWords
 flags-short set = omega (arith, list-short (setIn set flagWords), set-few set flagWords)
 
+-- a numeric's size and display with them
+numeric-short : (set n : ℕ) → size (numericFlags set n) ≤ 26 * (length flagWords + 2)
+unfolding numericFlags
+numeric-short set n =
+    let set-words = setIn set flagWords in
+    let two = sizeWord (sizeOf n) ∷ displayWord (displayOf n) ∷ [] in
+    omega (arith, list-short (set-words ++ two), length-append set-words two, set-few set flagWords)
+
 truth-short : (v : ℕ) → size (truth v) ≤ 6
 unfolding textOf same
 truth-short v = either (eqb v 1) (λ e. rw (e, truth) (omega arith)) (λ e. rw (e, truth) (omega arith))
@@ -125,7 +139,7 @@ element-short e v h =
     either-short ELEMENT (eqb e NAME) _ _ (omega (arith, rule-short v h))
     (either-short ELEMENT (eqb e OPTION-FLAGS) _ _ (omega (arith, option-short v))
     (either-short ELEMENT (eqb e TRUTH) _ _ (omega (arith, truth-short v))
-    (either-short ELEMENT (isFlagList e) _ _ (omega (arith, flags-short v))
+    (either-short ELEMENT (eqb e FLAG-LIST) _ _ (omega (arith, flags-short v))
     (either-short ELEMENT (eqb e H8) _ _ (omega (arith, hex-short 8 v))
     (either-short ELEMENT (eqb e H4) _ _ (omega (arith, hex-short 4 v))
     (either-short ELEMENT (eqb e H2) _ _ (omega (arith, hex-short 2 v)) (omega (arith, decimal-short v h))))))))
@@ -158,6 +172,12 @@ value-small r h s = number-if (ltb s GUID) _ _ (h s) (among (s - GUID))
     among (suc (suc (suc (suc (suc (suc (suc (suc (suc zero))))))))) = omega arith
     among (suc (suc (suc (suc (suc (suc (suc (suc (suc (suc k)))))))))) = omega arith
 
+from-row-short : (r : List ℕ) → Small r → (e source : ℕ) → size (elementOf r e source) ≤ ELEMENT
+unfolding elementOf
+from-row-short r h e source =
+    either-short ELEMENT (eqb e NUMERIC-FLAGS) _ _ (omega (arith, numeric-short (getD r column.FLAGS 0) (getD r column.SIZE 0)))
+    (element-short e (valueFrom r source) (value-small r h source))
+
 module _ (shown : ℕ → Bool) (element : ℕ → ℕ → List Word) (each : (e k : ℕ) → size (element e k) ≤ ELEMENT) where
   phrase-short : (p : List ℕ) (skip passed : ℕ) → size (phraseFrom shown element p skip passed) ≤ ELEMENT * length p
   unfolding phraseFrom added
@@ -169,20 +189,24 @@ module _ (shown : ℕ → Bool) (element : ℕ → ℕ → List Word) (each : (e
 
 pub words-short : (p sources r : List ℕ) → Small r → size (phraseWords p sources r) ≤ ELEMENT * length p
 unfolding phraseWords
-words-short p sources r h = phrase-short (shownIn r) (elementIn sources r) (λ e k. element-short e (valueFrom r (getD sources k 0)) (value-small r h (getD sources k 0))) p 0 0
+words-short p sources r h = phrase-short (shownIn r) (elementIn sources r) (λ e k. from-row-short r h e (getD sources k 0)) p 0 0
 
 -- ---- statements
 
--- each phrase of a list is short
+-- each phrase of a list is short for a row of its code
 abbrev Shorts : List Phrase → List ℕ → Type 0
 Shorts [] r = Unit {0}
-Shorts (k prints f ∷ l) r = (size (f r) ≤ OPENING) × Shorts l r
+Shorts (k prints f ∷ l) r = (getD r column.CODE 0 ≡ k → size (f r) ≤ OPENING) × Shorts l r
 
 among-short : (l : List Phrase) (r : List ℕ) → Shorts l r → size (phraseAmong l r) ≤ OPENING
 among-short [] r h = omega (arith, size-none)
-among-short (k prints f ∷ l) r h = either (eqb (getD r column.CODE 0) k) (λ e. rw (e, phraseAmong) (h .0)) (λ e. rw (e, phraseAmong) (among-short l r (h .1)))
+among-short (k prints f ∷ l) r h =
+    either (eqb (getD r column.CODE 0) k)
+    (λ e. rw (e, phraseAmong) (h .0 (eqb-true (getD r column.CODE 0) k e)))
+    (λ e. rw (e, phraseAmong) (among-short l r (h .1)))
 
-phrase-small : (r elements sources : List ℕ) → Small r → length elements ≤ 64 → (ws : List Word) → phraseWords elements sources r ≡ ws → size ws ≤ OPENING
+phrase-small : (r elements sources : List ℕ) → Small r → length elements ≤ 64
+    → (ws : List Word) → phraseWords elements sources r ≡ ws → size ws ≤ OPENING
 phrase-small r elements sources h l ws e = omega (arith, words-short elements sources r h, ap size e)
 
 form-set-short : (r : List ℕ) → Small r → size (text.formSet r) ≤ OPENING
@@ -202,32 +226,35 @@ condition-words-short = (omega arith, omega arith, omega arith)
 pub opening-short : (r : List ℕ) → Small r → size (opening r) ≤ OPENING
 opening-short r h =
     among-short statements r (
-      form-set-short r h,
+      λ e. form-set-short r h,
       (
-        phrase-small r phrase.formOpenElements source.form-sources h (omega arith) (text.form r) (form-words r),
+        λ e. phrase-small r phrase.formOpenElements source.form-sources h (omega arith) (text.form r) (form-words r),
         (
-          phrase-small r phrase.ruleOpenElements source.rule-sources h (omega arith) (text.rule r) (rule-words r),
+          λ e. phrase-small r phrase.ruleOpenElements source.rule-sources h (omega arith) (text.rule r) (rule-words r),
           (
-            phrase-small r phrase.subtitleElements source.subtitle-sources h (omega arith) (text.subtitle r) (subtitle-words r),
+            λ e. phrase-small r phrase.subtitleElements source.subtitle-sources h (omega arith) (text.subtitle r) (subtitle-words r),
             (
-              phrase-small r phrase.textElements source.text-sources h (omega arith) (text.text r) (text-words r),
+              λ e. phrase-small r phrase.textElements source.text-sources h (omega arith) (text.text r) (text-words r),
               (
-                phrase-small r phrase.labelElements source.label-sources h (omega arith) (text.label r) (label-words r),
+                λ e. phrase-small r phrase.labelElements source.label-sources h (omega arith) (text.label r) (label-words r),
                 (
-                  phrase-small r phrase.gotoElements source.goto-sources h (omega arith) (text.goto r) (goto-words r),
+                  λ e. phrase-small r phrase.gotoElements source.goto-sources h (omega arith) (text.goto r) (goto-words r e),
                   (
-                    phrase-small r phrase.checkboxElements source.checkbox-sources h (omega arith) (text.checkbox r) (checkbox-words r),
+                    λ e. phrase-small r phrase.checkboxElements source.checkbox-sources h (omega arith) (text.checkbox r) (checkbox-words r e),
                     (
-                      phrase-small r phrase.numericElements source.numeric-sources h (omega arith) (text.numeric r) (numeric-words r),
+                      λ e. phrase-small r phrase.numericElements source.numeric-sources h (omega arith) (text.numeric r) (numeric-words r e),
                       (
-                        phrase-small r phrase.oneOfOpenElements source.one-of-sources h (omega arith) (text.oneOf r) (one-of-words r),
+                        λ e. phrase-small r phrase.oneOfOpenElements source.one-of-sources h (omega arith) (text.oneOf r) (one-of-words r e),
                         (
-                          phrase-small r phrase.optionElements source.option-sources h (omega arith) (text.option r) (option-words r),
+                          λ e. phrase-small r phrase.optionElements source.option-sources h (omega arith) (text.option r) (option-words r),
                           (
-                            omega (arith, condition-words-short .0),
+                            λ e. omega (arith, condition-words-short .0),
                             (
-                              omega (arith, condition-words-short .1),
-                              (omega (arith, condition-words-short .2), tt),
+                              λ e. omega (arith, condition-words-short .1),
+                              (
+                                λ e. omega (arith, condition-words-short .2),
+                                tt,
+                              ),
                             ),
                           ),
                         ),

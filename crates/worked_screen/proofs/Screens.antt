@@ -16,13 +16,14 @@ use Rattle.rule_steps.specs.Steps.{ruleRound, stepIn, stepsAmong, greatest}
 use Rattle.rows.specs.Codes as code
 use Rattle.rows.specs.Codes.{isQuestion}
 use Rattle.rows.specs.Columns.{ROW}
+use Rattle.sizes.specs.Sizes as sizes
 use Rattle.ll1.specs.Machine as machine
 use Rattle.ll1.specs.Parser as parser
 use Rattle.grammar.specs.Grammar.{productions, rules}
 use Rattle.grammar.specs.Lookahead.{lookahead}
 use Rattle.grammar.specs.Reading.{verdictFrom, derivation}
 use Rattle.grammar.specs.Source.{grammarTokens, sourceTokens, numberAt}
-use Rattle.grammar.specs.Ranges.{ranges, rangeOf, keeps, outOfRange}
+use Rattle.grammar.specs.Ranges.{ranges, rangeOf, keeps, gathered, outOfRangeHere, outOfRange, secondsHere, secondWords}
 use Rattle.answers.specs.Expression.{expression}
 use Rattle.answers.specs.Stages.{any, faultsAfter, repeatedForms, repeatedQuestions, repeatedNames, rulesOverLimit}
 use Rattle.answers.specs.Stages.{formFrom, formRound, unfound, below, badChoices}
@@ -55,8 +56,9 @@ unfoldable pub shownIn : (n m : ℕ) (s answers : List ℕ) → Shown
 unfolding signs reserved run all same placeAmong isGap inComment gap isHex wordClass wordToken signClass signToken tokenFrom tokenAfterGap
     tokensWithin tokensFrom tokens badAmong firstBad sameWord valueFrom numeral valueAt digitsAt picked freeFrom fill numbered mem code.member
     code.questions isQuestion machine.run parser.derivation productions rules lookahead verdictFrom derivation grammarTokens sourceTokens numberAt
-    expression ranges rangeOf keeps outOfRange any faultsAfter repeatedForms repeatedQuestions repeatedNames rulesOverLimit
-    formFrom formRound unfound below badChoices
+    expression ranges rangeOf keeps gathered outOfRangeHere outOfRange secondsHere secondWords sizes.modulus
+    sizes.fits any faultsAfter repeatedForms repeatedQuestions repeatedNames rulesOverLimit formFrom formRound unfound sizes.width sizes.half sizes.low
+    sizes.minus sizes.amount sizes.signedBelow sizes.below below badChoices
     ownNumbers withNumbers numberedRows ownOfFirst withReferences settled finished leads closure circular ruleRound stepIn stepsAmong greatest
     onCircle circularReferences checked answerOf drafts readAnswer rowsOf
     rowFirstAt applied negated found operations constants sum product divided savedFor byKind goodAnswers ownIn ownsIn itemsOf meaning ruleAt

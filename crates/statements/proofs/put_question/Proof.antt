@@ -3,7 +3,7 @@
 use mathlib.Core.Path.{sym, _∙_}
 use Rattle.rows.specs.Table.{rowAt}
 use Rattle.spellings.proofs.Outputs.{as-words}
-use Rattle.statements.proofs.StatementLaws.{goto-words, checkbox-words, numeric-words, one-of-words, opens, question-rest}
+use Rattle.statements.proofs.StatementLaws.{goto-opens, checkbox-opens, numeric-opens, one-of-opens, question-rest}
 use borrow.Author.Needs.{needs}
 use Rattle.statements.proofs.put_question.Statement.{statement}
 use Rattle.statements.proofs.put_question.Tie as tie
@@ -48,25 +48,38 @@ same-length : tie.Need-same-length
 same-length c = search needs
 
 returns : tie.Need-returns
-returns c = as-words (goto-words _ ∙ opens (rowAt (c .before .before .before .before .before .before .before .before .before .args .table .now) (c .before .before .before .before .before .before .before .before .before .args .row)) 15 (sym (c .before .before .before .before .before .before .before .before .before .pre .0) ∙ c .before .before .before .before .before .before .match .keys1)) (c .before .before .put-phrase .ensures)
+returns c =
+    let m = c .before .before .before .before .before .before in
+    let s = m .before .before .before in
+    as-words (goto-opens (rowAt (s .args .table .now) (s .args .row)) (sym (s .pre .0) ∙ m .match .keys1)) (c .before .before .put-phrase .ensures)
 
 same-length-2 : tie.Need-same-length-2
 same-length-2 c = search needs
 
 returns-2 : tie.Need-returns-2
-returns-2 c = as-words (checkbox-words _ ∙ opens (rowAt (c .before .before .before .before .before .before .before .before .before .args .table .now) (c .before .before .before .before .before .before .before .before .before .args .row)) 6 (sym (c .before .before .before .before .before .before .before .before .before .pre .0) ∙ c .before .before .before .before .before .before .match .keys2)) (c .before .before .put-phrase2 .ensures)
+returns-2 c =
+    let m = c .before .before .before .before .before .before in
+    let s = m .before .before .before in
+    as-words (checkbox-opens (rowAt (s .args .table .now) (s .args .row)) (sym (s .pre .0) ∙ m .match .keys2)) (c .before .before .put-phrase2 .ensures)
 
 same-length-3 : tie.Need-same-length-3
 same-length-3 c = search needs
 
 returns-3 : tie.Need-returns-3
-returns-3 c = as-words (numeric-words _ ∙ opens (rowAt (c .before .before .before .before .before .before .before .before .before .args .table .now) (c .before .before .before .before .before .before .before .before .before .args .row)) 7 (sym (c .before .before .before .before .before .before .before .before .before .pre .0) ∙ c .before .before .before .before .before .before .match .keys3)) (c .before .before .put-phrase3 .ensures)
+returns-3 c =
+    let m = c .before .before .before .before .before .before in
+    let s = m .before .before .before in
+    as-words (numeric-opens (rowAt (s .args .table .now) (s .args .row)) (sym (s .pre .0) ∙ m .match .keys3)) (c .before .before .put-phrase3 .ensures)
 
 same-length-4 : tie.Need-same-length-4
 same-length-4 c = search needs
 
 returns-4 : tie.Need-returns-4
-returns-4 c = as-words (one-of-words _ ∙ opens (rowAt (c .before .before .before .before .before .before .before .before .before .args .table .now) (c .before .before .before .before .before .before .before .before .before .args .row)) 5 (sym (c .before .before .before .before .before .before .before .before .before .pre .0) ∙ question-rest _ (c .before .before .before .before .before .before .before .before .before .pre .1) (c .before .before .before .before .before .before .match .rest))) (c .before .before .put-phrase4 .ensures)
+returns-4 c =
+    let m = c .before .before .before .before .before .before in
+    let s = m .before .before .before in
+    let k = question-rest _ (s .pre .1) (m .match .rest) in
+    as-words (one-of-opens (rowAt (s .args .table .now) (s .args .row)) (sym (s .pre .0) ∙ k)) (c .before .before .put-phrase4 .ensures)
 
 pub put-question-spec : {M : Type 1} → statement M
 put-question-spec =

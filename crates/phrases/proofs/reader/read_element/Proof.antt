@@ -15,7 +15,7 @@ read-element-spec =
     (λ c κs. search needs)
     (λ c κs. search needs)
     (λ c. rw (c .standing .ensures) (sym (refuses _ _ _ (sym (c .before .before .suits .ensures) ∙ not-true _ (c .before .if1 .taken)))))
-    (λ c κs. (c .before .if2 .taken, sym (c .before .before .before .suits .ensures) ∙ not-false _ (c .before .before .if1 .left)))
+    (λ c κs. (c .before .if2 .taken, sym (c .before .before .before .suits .ensures) ∙ not-false _ (c .before .before .if1 .left), c .before .before .before .before .before .before .before .pre))
     (λ c. search needs)
     (λ c. c .before .before .take-flags .ensures ∙ sym (takes-flags _ _ _ (sym (c .before .before .before .before .before .before .suits .ensures) ∙ not-false _ (c .before .before .before .before .before .if1 .left)) (c .before .before .before .before .if2 .taken)))
     (λ c κs.

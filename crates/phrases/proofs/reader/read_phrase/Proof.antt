@@ -10,10 +10,11 @@ use Rattle.phrases.proofs.reader.read_phrase.Statement.{statement}
 use Rattle.phrases.proofs.reader.read_phrase.Tie as tie
 
 abbrev Inv-loop : tie.InvT-loop
-Inv-loop src mark pattern kept₀ token₀ bad₀ count₀ k₀ kept token bad count k = Turns src pattern (ready token₀ bad₀ (keptAt count₀ kept₀)) k (ready token bad (keptAt count kept)) × (length kept ≡ length kept₀)
+Inv-loop src pattern kept₀ token₀ noted₀ count₀ k₀ kept token noted count k =
+    Turns src pattern (ready token₀ noted₀ (keptAt count₀ kept₀)) k (ready token noted (keptAt count kept)) × (length kept ≡ length kept₀)
 
 abbrev μ-loop : tie.MeasureT-loop
-μ-loop src mark pattern kept₀ token₀ bad₀ count₀ k₀ kept token bad count k = length pattern - k
+μ-loop src pattern kept₀ token₀ noted₀ count₀ k₀ kept token noted count k = length pattern - k
 
 pub read-phrase-spec : {M : Type 1} → statement M
 read-phrase-spec =
@@ -45,9 +46,16 @@ read-phrase-spec =
     (λ c. c .before .before .before .before .read-element .kept .1 .1 .0 ∙ c .before .before .before .before .before .before .before .before .before .before .before .loop .inv .1)
     (λ c. refused-element (c .before .before .before .before .before .before .before .before .before .before .before .loop .inv .0) (c .before .before .before .before .before .before .before .before .before .before .loop-test .taken) _ _ (c .before .before .before .before .before .before .before .if3 .left) (rw (c .before .before .before .before .before .before .standing2 .ensures) at (c .before .before .before .before .read-element .ensures)) (c .if5 .taken))
     (λ c κs. search needs)
-    (λ c. record { fits = omega (arith, c .before .before .before .before .before .before .before .before .before .before .before .loop-test .taken, c .before .before .before .before .before .before .before .before .before .before .before .before .before .before .before .before .good .1 .1 .1 .0 .0) })
+    (λ c.
+    let turn = c .before .before .before .before .before .before .before .before .before .before .before .before in
+    record { fits = omega (arith, turn .loop-test .taken, turn .before .before .before .before .before .good .1 .1 .1 .0 .0) })
     (λ c. search needs)
-    (λ c. (turns-taken (c .before .before .before .before .before .before .before .before .before .before .before .before .loop .inv .0) (c .before .before .before .before .before .before .before .before .before .before .before .loop-test .taken) _ _ (c .before .before .before .before .before .before .before .before .if3 .left) (rw (c .before .before .before .before .before .before .before .standing2 .ensures) at (c .before .before .before .before .before .read-element .ensures)) (c .before .if5 .left) (c .token-at2 .ensures), c .before .before .before .before .before .read-element .kept .1 .1 .0 ∙ c .before .before .before .before .before .before .before .before .before .before .before .before .loop .inv .1))
+    (λ c.
+    let call = c .before .before .before .before .before .before in
+    let turn = call .before .before .before .before .before .before in
+    let i = turn .before .loop .inv in
+    let read = rw (call .before .before .standing2 .ensures) at (call .read-element .ensures) in
+    (turns-taken (i .0) (turn .loop-test .taken) _ _ (call .before .before .before .if3 .left) read (c .before .before .if5 .left) (c .token-at2 .ensures), call .read-element .kept .1 .1 .0 ∙ i .1))
     (λ c κs. search needs)
     (λ c. search needs)
     (λ c. rw (c .standing3 .ensures) (turns-all (c .before .before .loop .inv .0) (c .before .loop-test .left))))

@@ -13,6 +13,6 @@ take-token-spec =
     (λ c κs. c .before .before .before .before .before .pre (c .before .before .if1 .taken))
     (λ c κs. search needs)
     (λ c. search needs)
-    (λ c. rw (c .standing .ensures, c .before .before .before .before .before .before .if1 .taken, ← c .before .before .before .before .before .fault .ensures, ← c .before .before .before .keep-element .ensures))
+    (λ c. rw (c .standing .ensures, c .before .before .before .before .before .before .if1 .taken, ← c .before .before .before .before .before .note-range .ensures, ← c .before .before .before .keep-element .ensures))
     (λ c κs. search needs)
     (λ c. rw (c .standing2 .ensures, c .before .if1 .left)))

@@ -15,20 +15,33 @@ byte-at-requires c κs = search needs
 cell-requires : tie.Need-cell-requires
 cell-requires c κs = search needs
 
+cell-requires-2 : tie.Need-cell-requires-2
+cell-requires-2 c κs = search needs
+
 shows-requires : tie.Need-shows-requires
 shows-requires c κs = search needs
 
 returns : tie.Need-returns
-returns c = group-in _ _ _ _ (c .before .before .before .before .before .before .before .pre .0) (c .before .before .before .before .before .before .before .pre .1) refl (c .before .before .cell .ensures) (c .before .before .before .byte-at .ensures) (c .before .shows .ensures) (c .if1 .taken) refl refl
+returns c =
+    let s = c .before in
+    let k = s .before .before in
+    let h = k .before .before .before .before .before .pre in
+    group-in _ _ _ _ (h .0) (h .1) refl (k .cell .ensures) (s .before .cell2 .ensures) (k .before .byte-at .ensures) (s .shows .ensures)
+    (c .if1 .taken) refl refl
 
-add-t9 : tie.Need-add-t9
-add-t9 c = search needs
+add-t10 : tie.Need-add-t10
+add-t10 c = search needs
 
 after-one-requires : tie.Need-after-one-requires
 after-one-requires c κs = search needs
 
 returns-2 : tie.Need-returns-2
-returns-2 c = group-out _ _ _ _ (c .before .before .before .before .before .before .before .before .pre .0) (c .before .before .before .before .before .before .before .before .pre .1) refl (c .before .before .before .cell .ensures) (c .before .before .before .before .byte-at .ensures) (c .before .before .shows .ensures) (c .before .if1 .left) refl (c .after-one .ensures)
+returns-2 c =
+    let s = c .before .before in
+    let k = s .before .before in
+    let h = k .before .before .before .before .before .pre in
+    group-out _ _ _ _ (h .0) (h .1) refl (k .cell .ensures) (s .before .cell2 .ensures) (k .before .byte-at .ensures) (s .shows .ensures)
+    (c .before .if1 .left) refl (c .after-one .ensures)
 
 pub enter-group-spec : {M : Type 1} → statement M
 enter-group-spec =
@@ -37,8 +50,9 @@ enter-group-spec =
     add-next
     byte-at-requires
     cell-requires
+    cell-requires-2
     shows-requires
     returns
-    add-t9
+    add-t10
     after-one-requires
     returns-2)

@@ -6,17 +6,14 @@ use borrow.Author.Needs.{needs}
 use Rattle.print.proofs.phrase.put_value.Statement.{statement}
 use Rattle.print.proofs.phrase.put_value.Tie as tie
 
+shared-slice-read-put-from-row : tie.Need-shared-slice-read-put-from-row
+shared-slice-read-put-from-row c = search needs
+
 byte-at-requires : tie.Need-byte-at-requires
 byte-at-requires c κs = search needs
 
-value-from-requires : tie.Need-value-from-requires
-value-from-requires c κs = search needs
-
-shared-slice-read-put-element : tie.Need-shared-slice-read-put-element
-shared-slice-read-put-element c = search needs
-
-put-element-requires : tie.Need-put-element-requires
-put-element-requires c κs = search needs
+put-from-row-requires : tie.Need-put-from-row-requires
+put-from-row-requires c κs = search needs
 
 add-t14 : tie.Need-add-t14
 add-t14 c = search needs
@@ -28,16 +25,18 @@ same-length : tie.Need-same-length
 same-length c = search needs
 
 returns : tie.Need-returns
-returns c = step-element _ _ _ _ _ _ _ (c .before .before .before .before .before .before .before .before .before .before .before .before .pre .0) (c .before .before .before .before .before .before .before .before .before .before .before .before .pre .1) (c .before .before .before .before .before .before .before .before .before .before .before .before .pre .2) (c .before .before .before .before .before .before .before .byte-at .ensures) (c .before .before .before .before .before .before .value-from .ensures) refl (c .after-one .ensures) (c .before .before .before .put-element .ensures)
+returns c =
+    let e = c .before .before .before in
+    let h = e .before .before .before .before .before .before .before .before .pre in
+    step-element _ _ _ _ _ _ _ (h .0) (h .1) (h .2) (e .before .byte-at .ensures) refl (c .after-one .ensures) (e .put-from-row .ensures)
 
 pub put-value-spec : {M : Type 1} → statement M
 put-value-spec =
     tie.close
     (tie.spec
+    shared-slice-read-put-from-row
     byte-at-requires
-    value-from-requires
-    shared-slice-read-put-element
-    put-element-requires
+    put-from-row-requires
     add-t14
     after-one-requires
     same-length

@@ -19,9 +19,6 @@ put-truth-requires c κs = search needs
 put-flags-requires : tie.Need-put-flags-requires
 put-flags-requires c κs = search needs
 
-put-flags-requires-2 : tie.Need-put-flags-requires-2
-put-flags-requires-2 c κs = search needs
-
 put-hex-requires : tie.Need-put-hex-requires
 put-hex-requires c κs = search needs
 
@@ -67,34 +64,27 @@ same-length-5 c = search needs
 
 returns-5 : tie.Need-returns-5
 unfolding elementWords
-returns-5 c = rw (c .before .before .before .before .match .keys5) (c .before .before .put-flags2 .ensures)
+returns-5 c = rw (c .before .before .before .before .match .keys5) (c .before .before .put-hex .ensures)
 
 same-length-6 : tie.Need-same-length-6
 same-length-6 c = search needs
 
 returns-6 : tie.Need-returns-6
 unfolding elementWords
-returns-6 c = rw (c .before .before .before .before .match .keys6) (c .before .before .put-hex .ensures)
+returns-6 c = rw (c .before .before .before .before .match .keys6) (c .before .before .put-hex2 .ensures)
 
 same-length-7 : tie.Need-same-length-7
 same-length-7 c = search needs
 
 returns-7 : tie.Need-returns-7
 unfolding elementWords
-returns-7 c = rw (c .before .before .before .before .match .keys7) (c .before .before .put-hex2 .ensures)
+returns-7 c = rw (c .before .before .before .before .match .keys7) (c .before .before .put-hex3 .ensures)
 
 same-length-8 : tie.Need-same-length-8
 same-length-8 c = search needs
 
 returns-8 : tie.Need-returns-8
-unfolding elementWords
-returns-8 c = rw (c .before .before .before .before .match .keys8) (c .before .before .put-hex3 .ensures)
-
-same-length-9 : tie.Need-same-length-9
-same-length-9 c = search needs
-
-returns-9 : tie.Need-returns-9
-returns-9 c = as-words (other-element _ _ (c .before .before .before .before .match .rest)) (c .before .before .put-decimal .ensures)
+returns-8 c = as-words (other-element _ _ (c .before .before .before .before .match .rest)) (c .before .before .put-decimal .ensures)
 
 pub put-element-spec : {M : Type 1} → statement M
 put-element-spec =
@@ -104,7 +94,6 @@ put-element-spec =
     put-option-flags-requires
     put-truth-requires
     put-flags-requires
-    put-flags-requires-2
     put-hex-requires
     put-hex-requires-2
     put-hex-requires-3
@@ -124,6 +113,4 @@ put-element-spec =
     same-length-7
     returns-7
     same-length-8
-    returns-8
-    same-length-9
-    returns-9)
+    returns-8)

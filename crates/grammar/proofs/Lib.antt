@@ -10,9 +10,10 @@ pub mod Equations
 pub mod Levels
 pub mod Alternatives
 pub mod Statements
--- Rules that are a choice of words, and the sum of flag words' values.
+-- Rules that are a choice of words, flag words among classes, and the words that are printed.
 pub mod Choices
 pub mod FlagTotals
+pub mod SizeWords
 -- The tokens of a source, their places, and that no derivation has a bad one.
 pub mod Totals
 pub mod SourceTokens

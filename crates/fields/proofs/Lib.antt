@@ -1,2 +1,3 @@
 pub mod LookUps
 pub mod EntryLaws
+pub mod SizeLaws

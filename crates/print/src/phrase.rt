@@ -74,23 +74,11 @@ fn enter_group(p: Progress, pattern: &[u8], table: &[u64], row: usize) -> Progre
 }
 
 // An element that is no sign and no reserved word, of the value from a source; a numeric's FL is of two columns.
-fn put_from_row(
-    out: &mut [u8],
-    at: usize,
-    want: u8,
-    source: u8,
-    table: &[u64],
-    row: usize,
-) -> usize
+fn put_from_row(out: &mut [u8], at: usize, want: u8, source: u8, table: &[u64], row: usize) -> usize
     ensures { λ r. ⌜ Prints (now (out .entry)) at (elementOf (rowAt (now (table .entry)) row) want source) (now (out .exit)) r ⌝ }
 {
     if want == NUMERIC_FLAGS {
-        return put_numeric_flags(
-            out,
-            at,
-            cell(table, row, FLAGS),
-            cell(table, row, SIZE),
-        );
+        return put_numeric_flags(out, at, cell(table, row, FLAGS), cell(table, row, SIZE));
     }
     put_element(out, at, want, value_from(table, row, source))
 }
@@ -108,7 +96,14 @@ fn put_value(
     ensures { λ r. ⌜ Stepped (now (sources .entry)) (rowAt (now (table .entry)) row) (now (pattern .entry)) (now (out .entry)) p (now (out .exit)) r ⌝ }
 {
     let k = p.next;
-    let at = put_from_row(out, p.at, pattern[k], byte_at(sources, p.passed), table, row);
+    let at = put_from_row(
+        out,
+        p.at,
+        pattern[k],
+        byte_at(sources, p.passed),
+        table,
+        row,
+    );
     Progress {
         at,
         next: k + 1,

@@ -161,8 +161,6 @@ pub fn shows(word: u8, code: u64, set: u64) -> bool
         KW_QUESTIONID => true,
         KW_STEP => true,
         KW_DEFAULT => is_set(set, flags::HAS_DEFAULT),
-        _ => {
-            (code == NUMERIC) | any_flag(set)
-        }
+        _ => { (code == NUMERIC) | any_flag(set) }
     }
 }

@@ -1,9 +1,9 @@
 -- Demands 1 and 3 of the functions `read` and `quick_check`: what their contracts say of every source and every table lent, in document 01's terms
--- with W-202's and W-203's, which are those of `answers`' `specs/Demand3`; and document 02's requests W-201 and W-203 of `read`.
+-- with W-202's to W-204's, which are those of `answers`' `specs/Demand3`; and document 02's requests W-201 and W-203 of `read`.
 -- Assumes nothing.
 use Prim.Native.Nat.{ℕ, _+_, _-_, _*_, _/_, _^_, _≤_, _<_}
 use mathlib.Core.Path.{_≡_, sym, ap, _∙_}
-use mathlib.Core.Logic.{_⊎_, _↔_, _≢_}
+use mathlib.Core.Logic.{_↔_, _≢_}
 use mathlib.Core.List.{List, []}
 use lib.ListN.{length, drop, replicate}
 use borrow.Author.Tests.{ne-eqb}
@@ -20,7 +20,7 @@ use Rattle.answers.specs.Stages.{placeOf, rowAmong, inVain, ownNumbers, finishe
 use Rattle.answers.specs.Answer as answers
 use Rattle.answers.specs.Answer.{LONGEST, refuses, drafts}
 use Rattle.answers.specs.WholeAnswer.{quickCheck, readAnswer, readTable}
-use Rattle.answers.specs.Demand3.{Sound, Passes, Refuses, questionNumbers, GetsSmallest}
+use Rattle.answers.specs.Demand3.{Sound, Early, Passes, Refuses, questionNumbers, GetsSmallest}
 use Rattle.answers.specs.Forms.{columnOf, OfItsForm, Stray}
 use Rattle.answers.proofs.Answers.{passes-grammatical}
 use Rattle.answers.proofs.Demand3 as Demand3
@@ -57,7 +57,7 @@ module _ {s : List ℕ} {n : ℕ} {r : Answer} {t′ : List ℕ} (v : Reading s 
   unfolding readTable
   refused-zeros h = v .table ∙ rw (ne-eqb (readAnswer s n .number) 0 (λ e. h (number ∙ e)))
 
-  -- a refusal is given with an answer exactly when a line of document 01's table, with W-202's 14, says so
+  -- a refusal is given with an answer exactly when a line of document 01's table, with W-202's 14 and W-204's 16, says so
   pub refused-exactly : (a : answers.Answer) → Refuses s n a ↔ ((told r ≡ readReplied s a) × (a .number ≢ 0))
   refused-exactly a =
       let e = Demand3.refuses-exactly s n a in (
@@ -133,7 +133,7 @@ module _ {s : List ℕ} {n : ℕ} {r : Answer} {t′ : List ℕ} (v : Reading s 
         × (t′ ≡ laid (finished s (drafts s tree)) n)
     accepted-rows = let f = accepted-with-room .0 accepted in (f .0, f .1, counts-exactly (f .0) (f .1), rows-exactly (f .0) (f .1))
 
--- ---- the quick check: "over stages 1 to 5 alone"
+-- ---- the quick check: "over stages 1 to 5 alone", and 16 "in the quick check too" (W-204)
 
 -- what a call of `quick_check` answers
 pub quick-checking :
@@ -142,10 +142,10 @@ pub quick-checking :
 quick-checking κs a q e p = p
 
 module _ (s : List ℕ) {q : ℕ} (v : q ≡ quickCheck s) where
-  -- "refusal number times 2^32 plus place" exactly where reading refuses with one of 1 to 5, whatever table is lent
-  pub quick-check-refuses : (k p : ℕ) → 1 ≤ k → k ≤ 5 → p < 2 ^ 32 → (q ≡ k * 2 ^ 32 + p) ↔ ((n : ℕ) → readAnswer s n ≡ refuses k p)
+  -- "refusal number times 2^32 plus place" exactly where reading refuses with one of 1 to 5 or 16, whatever table is lent
+  pub quick-check-refuses : (k p : ℕ) → Early k → p < 2 ^ 32 → (q ≡ k * 2 ^ 32 + p) ↔ ((n : ℕ) → readAnswer s n ≡ refuses k p)
   quick-check-refuses = rw v (Demand3.quick-check-refuses s)
 
   -- and 0 where it does not
-  pub quick-check-passes : (q ≡ 0) ↔ ((n : ℕ) → (readAnswer s n .number ≡ 0) ⊎ (6 ≤ readAnswer s n .number))
+  pub quick-check-passes : (q ≡ 0) ↔ ((n : ℕ) → Early (readAnswer s n .number) → ⊥)
   quick-check-passes = rw v (Demand3.quick-check-passes s)

@@ -18,7 +18,7 @@ use Rattle.answers.specs.Rows.{Draft}
 use Rattle.answers.specs.Drafts.{encoded, draftsFrom}
 use Rattle.answers.specs.Answer.{Answer, refuses, needs, answerOf, drafts}
 use Rattle.answers.specs.WholeAnswer.{Checked, refusal, derived, checked, quickCheck, readAnswer, rowsOf, readTable}
-use Rattle.answers.proofs.Checks.{Decided, stopped, passed, decided}
+use Rattle.answers.proofs.Checks.{Decided, stopped, passed, decided, early-bounds}
 use Rattle.drafts.specs.Fits.{AllFit}
 use Rattle.drafts.proofs.CodingLaws.{sound-fit, are-encoded, drafts-held}
 use Rattle.read.specs.declared.Survey.{Survey}
@@ -95,8 +95,8 @@ unfolding quickCheck
 quick-refusal s k p e = by (decided s) e ∙ sym (rw (e, quickCheck))
   where
     by : {c : Checked} → Decided s c → c ≡ refusal k p → k % 2 ^ 32 * 2 ^ 32 + p % 2 ^ 32 ≡ k * 2 ^ 32 + p
-    by (stopped j q h r) g = let i : j ≡ k = cc in let o : q ≡ p = cc in omega arith
-    by (passed g o) g′ = absurd (let z : _≡_ {A = ℕ} 0 1 = cc in omega arith)
+    by (stopped j q h b r) g = let i : j ≡ k = cc in let o : q ≡ p = cc in omega (arith, early-bounds j h)
+    by (passed g w o) g′ = absurd (let z : _≡_ {A = ℕ} 0 1 = cc in omega arith)
 
 quick-derived : (s : List ℕ) (tree : Trees) → checked s ≡ derived tree → 0 ≡ quickCheck s
 unfolding quickCheck

@@ -1,4 +1,4 @@
--- Stages 1 to 5 by a walk: what each of its ends means for the source.
+-- Stages 1 to 5 with 16 by a walk: what each of its ends means for the source.
 -- Assumes nothing.
 use Prim.Native.Nat.{ℕ, _-_, _≤_, _<_}
 use native.Mathlib.Omega.{arith}
@@ -17,13 +17,13 @@ use Rattle.ll1.specs.Verdict.{Verdict, accepted, ends-early, refused, Accepted}
 use Rattle.grammar.specs.Derivation.{tooDeep, NowhereTooDeep}
 use Rattle.grammar.specs.Grammar.{rules}
 use Rattle.grammar.specs.Reading.{verdict, derivation}
-use Rattle.grammar.specs.Ranges.{outOfRange}
+use Rattle.grammar.specs.Ranges.{outOfRange, secondWords}
 use Rattle.grammar.specs.Source.{sourceTokens}
 use Rattle.answers.specs.Answer.{LONGEST}
 use Rattle.answers.specs.WholeAnswer.{refusal, derived, checked, parsed}
 use Rattle.answers.specs.Demand3.{Grammatical}
 use Rattle.grammar.proofs.Theorems.{verdict-right, accepted-exactly, one-derivation}
-use Rattle.answers.proofs.Checks.{checked-1, checked-2, checked-parsed, checked-5, checked-derived}
+use Rattle.answers.proofs.Checks.{checked-1, checked-2, checked-parsed, checked-16, checked-5, checked-derived}
 use Rattle.sound.proofs.DraftsSound.{drafts-sound}
 use Rattle.sound.proofs.NameCount.{names-six}
 use Rattle.elements.specs.Marks.{firstMark}
@@ -35,6 +35,11 @@ use Rattle.read.specs.Surveyed.{refusing, unlessBad, Surveyed}
 -- a survey that refuses
 refuses : {s t t′ : List ℕ} (n p : ℕ) → n ≢ 0 → checked s ≡ refusal n p → t′ ≡ replicate (length t) 0 → Surveyed s (refusing n p) t t′
 refuses n p h e f = record { refused = λ z. e; zeros = λ z. (refl, f); passed = λ z. absurd (h z) }
+
+-- places whose first has no mark are none
+none-marked : (l : List ℕ) → firstMark l ≡ 0 → l ≡ []
+none-marked [] e = refl
+none-marked (p ∷ l) e = absurd (omega arith)
 
 -- 1: source over 65,536 bytes
 pub too-long : {s t t′ : List ℕ} → LONGEST < length s → t′ ≡ cleared t 0 → Surveyed s (refusing 1 0) t t′
@@ -89,35 +94,48 @@ module _ {s t t′ : List ℕ} {w : Outcome} (short : length s ≤ LONGEST) (v :
     grammatical : Grammatical s tree
     grammatical = record { short = short; derives = walked .derives; depths = shallow (accepted-exactly (sourceTokens s) .0 (walked .accepts)) }
 
-    -- 5: the first number out of its range
-    pub number-outside : {u : List ℕ} → w .bad ≢ 0 → length t′ ≡ length t → u ≡ cleared t′ 0 → Surveyed s (refusing 5 (w .bad - 1)) t u
-    number-outside {u} z k f = by (outOfRange s tree) refl
-      where
-        by : (l : List ℕ) → outOfRange s tree ≡ l → Surveyed s (refusing 5 (w .bad - 1)) t u
-        by [] e = absurd (z (walked .bad ∙ rw e))
-        by (p ∷ ps) e =
-            let place : w .bad - 1 ≡ p = rw (walked .bad, e) (omega arith) in
-            rw place (refuses 5 p (λ z. omega arith) (checked-5 s tree p ps grammatical e) (f ∙ (cleared-whole t′ ∙ rw k)))
+    -- a refusal at the first of some places, by its mark
+    at-first :
+        (n m : ℕ) (l : List ℕ) {u : List ℕ} → n ≢ 0 → m ≡ firstMark l → m ≢ 0 → ((p : ℕ) (ps : List ℕ) → l ≡ p ∷ ps → checked s ≡ refusal n p)
+        → length t′ ≡ length t → u ≡ cleared t′ 0 → Surveyed s (refusing n (m - 1)) t u
+    at-first n m [] k e h c g f = absurd (h e)
+    at-first n m (p ∷ ps) k e h c g f =
+        let place : m - 1 ≡ p = rw e (omega arith) in
+        rw place (refuses n p k (c p ps refl) (f ∙ (cleared-whole t′ ∙ rw g)))
 
-    -- no stage refuses
-    pub walk-passes : w .bad ≡ 0 → Surveyed s (record { number = 0; place = 0; rows = w .rows }) t t′
-    walk-passes z = by (outOfRange s tree) refl
-      where
-        by : (l : List ℕ) → outOfRange s tree ≡ l → Surveyed s (record { number = 0; place = 0; rows = w .rows }) t t′
-        by (p ∷ ps) e = absurd (let d : firstMark (outOfRange s tree) ≡ 0 = sym (walked .bad) ∙ z in let g : firstMark (p ∷ ps) ≡ 0 = rw e at d in omega arith)
-        by [] e =
-            record {
-              refused = λ n. absurd (n refl);
-              zeros = λ n. absurd (n refl);
-              passed = λ n. (
-                refl,
-                record {
-                  tree = tree;
-                  is = checked-derived s tree grammatical e;
-                  sound = drafts-sound s tree short (walked .derives) e;
-                  many = walked .rows;
-                  few = omega (arith, names-six s tree (walked .derives));
-                  table = walked .table;
-                },
-              );
-            }
+    -- 16: the first second size or display word
+    pub second-word :
+        {u : List ℕ} → w .noted .second ≢ 0 → length t′ ≡ length t → u ≡ cleared t′ 0 → Surveyed s (refusing 16 (w .noted .second - 1)) t u
+    second-word h =
+        at-first 16 (w .noted .second) (secondWords tree) (λ z. omega arith) (walked .second) h (λ p ps e. checked-16 s tree p ps grammatical e)
+
+    module _ (none : w .noted .second ≡ 0) where
+      no-second : secondWords tree ≡ []
+      no-second = none-marked (secondWords tree) (sym (walked .second) ∙ none)
+
+      -- 5: the first number out of its range
+      pub number-outside :
+          {u : List ℕ} → w .noted .outside ≢ 0 → length t′ ≡ length t → u ≡ cleared t′ 0 → Surveyed s (refusing 5 (w .noted .outside - 1)) t u
+      number-outside h =
+          at-first 5 (w .noted .outside) (outOfRange s tree) (λ z. omega arith) (walked .outside) h
+          (λ p ps e. checked-5 s tree p ps grammatical no-second e)
+
+      -- no stage refuses
+      pub walk-passes : w .noted .outside ≡ 0 → Surveyed s (record { number = 0; place = 0; rows = w .rows }) t t′
+      walk-passes z =
+          let in-range : outOfRange s tree ≡ [] = none-marked (outOfRange s tree) (sym (walked .outside) ∙ z) in
+          record {
+            refused = λ n. absurd (n refl);
+            zeros = λ n. absurd (n refl);
+            passed = λ n. (
+              refl,
+              record {
+                tree = tree;
+                is = checked-derived s tree grammatical no-second in-range;
+                sound = drafts-sound s tree short (walked .derives) in-range;
+                many = walked .rows;
+                few = omega (arith, names-six s tree (walked .derives));
+                table = walked .table;
+              },
+            );
+          }

@@ -1,4 +1,4 @@
--- What stages 1 to 5 find: a refusal, or the draft rows of the derivation.
+-- What stages 1 to 5 with 16 find: a refusal, or the draft rows of the derivation.
 -- Assumes nothing.
 use Prim.Native.Nat.{ℕ, _≤_}
 use mathlib.Core.Path.{_≡_}

@@ -66,7 +66,14 @@ pub fn open_form_set(src: &[u8], table: &mut [u64]) -> State
 {
     let first = lex::token_at(src, 0);
     let mut high = [0; KEPT];
-    let c = phrases::read(src, 0, first, nothing_noted(), phrase::FORM_SET_OPEN, &mut high);
+    let c = phrases::read(
+        src,
+        0,
+        first,
+        nothing_noted(),
+        phrase::FORM_SET_OPEN,
+        &mut high,
+    );
     let mut low = [0; KEPT];
     let e = guid_end(src, c, &mut low);
     let token = e.token;

@@ -1,4 +1,5 @@
--- The specimens that document 01 marks P, from bytes to answer and rows: one list, and one claim over it, by computation.
+-- The specimens that document 01 marks P, and those of document 02's W-204, from bytes to answer and rows: one list, and one claim over it, by
+-- computation.
 -- Assumes nothing.
 use mathlib.Core.Path.{_≡_, refl}
 use mathlib.Core.List.{List, [], _∷_, map}
@@ -28,7 +29,7 @@ specimens =
     ∷
     -- `010`: ten
     specimen "formset guid={0x1,0x2,0x3,{0x4,0x5,0x6,0x7,0x8,0x9,0xA,0xB}},title=STRING_TOKEN(2),help=STRING_TOKEN(3),form formid=1,title=STRING_TOKEN(4);label 010;endform;endformset;"
-    (accepts 3 65535) ((14 ∷ 0 ∷ 0 ∷ 2 ∷ 3 ∷ 0 ∷ 4295098371 ∷ 289644378304612875 ∷ 0 ∷ 0 ∷ 0 ∷ 0 ∷ []) ∷ (1 ∷ 0 ∷ 1 ∷ 4 ∷ 0 ∷ 0 ∷ 0 ∷ 0 ∷ 0 ∷ 0 ∷ 0 ∷ 104 ∷ []) ∷ (95 ∷ 1 ∷ 10 ∷ 0 ∷ 0 ∷ 0 ∷ 0 ∷ 0 ∷ 0 ∷ 0 ∷ 0 ∷ 140 ∷ []) ∷ [])
+    (accepts 3 65535) ((14 ∷ 0 ∷ 0 ∷ 2 ∷ 3 ∷ 0 ∷ 4295098371 ∷ 289644378304612875 ∷ 0 ∷ 0 ∷ 0 ∷ 0 ∷ 0 ∷ []) ∷ (1 ∷ 0 ∷ 1 ∷ 4 ∷ 0 ∷ 0 ∷ 0 ∷ 0 ∷ 0 ∷ 0 ∷ 0 ∷ 104 ∷ 0 ∷ []) ∷ (95 ∷ 1 ∷ 10 ∷ 0 ∷ 0 ∷ 0 ∷ 0 ∷ 0 ∷ 0 ∷ 0 ∷ 0 ∷ 140 ∷ 0 ∷ []) ∷ [])
     ∷
     -- `0X10`: 2
     specimen "formset guid={0x1,0x2,0x3,{0x4,0x5,0x6,0x7,0x8,0x9,0xA,0xB}},title=STRING_TOKEN(2),help=STRING_TOKEN(3),form formid=1,title=STRING_TOKEN(4);label 0X10;endform;endformset;"
@@ -36,7 +37,7 @@ specimens =
     ∷
     -- form number 65,535 kept
     specimen "formset guid={0x1,0x2,0x3,{0x4,0x5,0x6,0x7,0x8,0x9,0xA,0xB}},title=STRING_TOKEN(2),help=STRING_TOKEN(3),form formid=65535,title=STRING_TOKEN(4);endform;endformset;"
-    (accepts 2 65535) ((14 ∷ 0 ∷ 0 ∷ 2 ∷ 3 ∷ 0 ∷ 4295098371 ∷ 289644378304612875 ∷ 0 ∷ 0 ∷ 0 ∷ 0 ∷ []) ∷ (1 ∷ 0 ∷ 65535 ∷ 4 ∷ 0 ∷ 0 ∷ 0 ∷ 0 ∷ 0 ∷ 0 ∷ 0 ∷ 104 ∷ []) ∷ [])
+    (accepts 2 65535) ((14 ∷ 0 ∷ 0 ∷ 2 ∷ 3 ∷ 0 ∷ 4295098371 ∷ 289644378304612875 ∷ 0 ∷ 0 ∷ 0 ∷ 0 ∷ 0 ∷ []) ∷ (1 ∷ 0 ∷ 65535 ∷ 4 ∷ 0 ∷ 0 ∷ 0 ∷ 0 ∷ 0 ∷ 0 ∷ 0 ∷ 104 ∷ 0 ∷ []) ∷ [])
     ∷
     -- 65,536: 5
     specimen "formset guid={0x1,0x2,0x3,{0x4,0x5,0x6,0x7,0x8,0x9,0xA,0xB}},title=STRING_TOKEN(2),help=STRING_TOKEN(3),form formid=65536,title=STRING_TOKEN(4);endform;endformset;"
@@ -48,7 +49,7 @@ specimens =
     ∷
     -- 18446744073709551615 as maximum kept
     specimen "formset guid={0x1,0x2,0x3,{0x4,0x5,0x6,0x7,0x8,0x9,0xA,0xB}},title=STRING_TOKEN(2),help=STRING_TOKEN(3),form formid=1,title=STRING_TOKEN(4);numeric prompt=STRING_TOKEN(0),help=STRING_TOKEN(0),minimum=0,maximum=18446744073709551615,endnumeric;endform;endformset;"
-    (accepts 3 65534) ((14 ∷ 0 ∷ 0 ∷ 2 ∷ 3 ∷ 0 ∷ 4295098371 ∷ 289644378304612875 ∷ 0 ∷ 0 ∷ 0 ∷ 0 ∷ []) ∷ (1 ∷ 0 ∷ 1 ∷ 4 ∷ 0 ∷ 0 ∷ 0 ∷ 0 ∷ 0 ∷ 0 ∷ 0 ∷ 104 ∷ []) ∷ (7 ∷ 1 ∷ 1 ∷ 0 ∷ 0 ∷ 0 ∷ 0 ∷ 18446744073709551615 ∷ 0 ∷ 0 ∷ 0 ∷ 140 ∷ []) ∷ [])
+    (accepts 3 65534) ((14 ∷ 0 ∷ 0 ∷ 2 ∷ 3 ∷ 0 ∷ 4295098371 ∷ 289644378304612875 ∷ 0 ∷ 0 ∷ 0 ∷ 0 ∷ 0 ∷ []) ∷ (1 ∷ 0 ∷ 1 ∷ 4 ∷ 0 ∷ 0 ∷ 0 ∷ 0 ∷ 0 ∷ 0 ∷ 0 ∷ 104 ∷ 0 ∷ []) ∷ (7 ∷ 1 ∷ 1 ∷ 0 ∷ 0 ∷ 0 ∷ 0 ∷ 18446744073709551615 ∷ 0 ∷ 0 ∷ 0 ∷ 140 ∷ 33 ∷ []) ∷ [])
     ∷
     -- one more: 5
     specimen "formset guid={0x1,0x2,0x3,{0x4,0x5,0x6,0x7,0x8,0x9,0xA,0xB}},title=STRING_TOKEN(2),help=STRING_TOKEN(3),form formid=1,title=STRING_TOKEN(4);numeric prompt=STRING_TOKEN(0),help=STRING_TOKEN(0),minimum=0,maximum=18446744073709551616,endnumeric;endform;endformset;"
@@ -56,11 +57,11 @@ specimens =
     ∷
     -- `1 - 2 - 3` groups left
     specimen "formset guid={0x1,0x2,0x3,{0x4,0x5,0x6,0x7,0x8,0x9,0xA,0xB}},title=STRING_TOKEN(2),help=STRING_TOKEN(3),form formid=1,title=STRING_TOKEN(4);rule A,1 - 2 - 3 endrule;endform;endformset;"
-    (accepts 8 65535) ((14 ∷ 0 ∷ 0 ∷ 2 ∷ 3 ∷ 0 ∷ 4295098371 ∷ 289644378304612875 ∷ 0 ∷ 0 ∷ 0 ∷ 0 ∷ []) ∷ (1 ∷ 0 ∷ 1 ∷ 4 ∷ 0 ∷ 0 ∷ 0 ∷ 0 ∷ 0 ∷ 0 ∷ 0 ∷ 104 ∷ []) ∷ (24 ∷ 1 ∷ 1 ∷ 0 ∷ 0 ∷ 0 ∷ 0 ∷ 0 ∷ 0 ∷ 0 ∷ 146 ∷ 140 ∷ []) ∷ (69 ∷ 2 ∷ 0 ∷ 0 ∷ 0 ∷ 0 ∷ 1 ∷ 0 ∷ 0 ∷ 0 ∷ 0 ∷ 147 ∷ []) ∷ (69 ∷ 2 ∷ 0 ∷ 0 ∷ 0 ∷ 0 ∷ 2 ∷ 0 ∷ 0 ∷ 0 ∷ 0 ∷ 151 ∷ []) ∷ (59 ∷ 2 ∷ 0 ∷ 0 ∷ 0 ∷ 0 ∷ 0 ∷ 0 ∷ 0 ∷ 0 ∷ 0 ∷ 149 ∷ []) ∷ (69 ∷ 2 ∷ 0 ∷ 0 ∷ 0 ∷ 0 ∷ 3 ∷ 0 ∷ 0 ∷ 0 ∷ 0 ∷ 155 ∷ []) ∷ (59 ∷ 2 ∷ 0 ∷ 0 ∷ 0 ∷ 0 ∷ 0 ∷ 0 ∷ 0 ∷ 0 ∷ 0 ∷ 153 ∷ []) ∷ [])
+    (accepts 8 65535) ((14 ∷ 0 ∷ 0 ∷ 2 ∷ 3 ∷ 0 ∷ 4295098371 ∷ 289644378304612875 ∷ 0 ∷ 0 ∷ 0 ∷ 0 ∷ 0 ∷ []) ∷ (1 ∷ 0 ∷ 1 ∷ 4 ∷ 0 ∷ 0 ∷ 0 ∷ 0 ∷ 0 ∷ 0 ∷ 0 ∷ 104 ∷ 0 ∷ []) ∷ (24 ∷ 1 ∷ 1 ∷ 0 ∷ 0 ∷ 0 ∷ 0 ∷ 0 ∷ 0 ∷ 0 ∷ 146 ∷ 140 ∷ 0 ∷ []) ∷ (69 ∷ 2 ∷ 0 ∷ 0 ∷ 0 ∷ 0 ∷ 1 ∷ 0 ∷ 0 ∷ 0 ∷ 0 ∷ 147 ∷ 0 ∷ []) ∷ (69 ∷ 2 ∷ 0 ∷ 0 ∷ 0 ∷ 0 ∷ 2 ∷ 0 ∷ 0 ∷ 0 ∷ 0 ∷ 151 ∷ 0 ∷ []) ∷ (59 ∷ 2 ∷ 0 ∷ 0 ∷ 0 ∷ 0 ∷ 0 ∷ 0 ∷ 0 ∷ 0 ∷ 0 ∷ 149 ∷ 0 ∷ []) ∷ (69 ∷ 2 ∷ 0 ∷ 0 ∷ 0 ∷ 0 ∷ 3 ∷ 0 ∷ 0 ∷ 0 ∷ 0 ∷ 155 ∷ 0 ∷ []) ∷ (59 ∷ 2 ∷ 0 ∷ 0 ∷ 0 ∷ 0 ∷ 0 ∷ 0 ∷ 0 ∷ 0 ∷ 0 ∷ 153 ∷ 0 ∷ []) ∷ [])
     ∷
     -- minimum 5, maximum 5, default 5 kept
     specimen "formset guid={0x1,0x2,0x3,{0x4,0x5,0x6,0x7,0x8,0x9,0xA,0xB}},title=STRING_TOKEN(2),help=STRING_TOKEN(3),form formid=1,title=STRING_TOKEN(4);numeric prompt=STRING_TOKEN(0),help=STRING_TOKEN(0),minimum=5,maximum=5,default=5,endnumeric;endform;endformset;"
-    (accepts 3 65534) ((14 ∷ 0 ∷ 0 ∷ 2 ∷ 3 ∷ 0 ∷ 4295098371 ∷ 289644378304612875 ∷ 0 ∷ 0 ∷ 0 ∷ 0 ∷ []) ∷ (1 ∷ 0 ∷ 1 ∷ 4 ∷ 0 ∷ 0 ∷ 0 ∷ 0 ∷ 0 ∷ 0 ∷ 0 ∷ 104 ∷ []) ∷ (7 ∷ 1 ∷ 1 ∷ 0 ∷ 0 ∷ 256 ∷ 5 ∷ 5 ∷ 0 ∷ 5 ∷ 0 ∷ 140 ∷ []) ∷ [])
+    (accepts 3 65534) ((14 ∷ 0 ∷ 0 ∷ 2 ∷ 3 ∷ 0 ∷ 4295098371 ∷ 289644378304612875 ∷ 0 ∷ 0 ∷ 0 ∷ 0 ∷ 0 ∷ []) ∷ (1 ∷ 0 ∷ 1 ∷ 4 ∷ 0 ∷ 0 ∷ 0 ∷ 0 ∷ 0 ∷ 0 ∷ 0 ∷ 104 ∷ 0 ∷ []) ∷ (7 ∷ 1 ∷ 1 ∷ 0 ∷ 0 ∷ 256 ∷ 5 ∷ 5 ∷ 0 ∷ 5 ∷ 0 ∷ 140 ∷ 33 ∷ []) ∷ [])
     ∷
     -- default 6: 12
     specimen "formset guid={0x1,0x2,0x3,{0x4,0x5,0x6,0x7,0x8,0x9,0xA,0xB}},title=STRING_TOKEN(2),help=STRING_TOKEN(3),form formid=1,title=STRING_TOKEN(4);numeric prompt=STRING_TOKEN(0),help=STRING_TOKEN(0),minimum=5,maximum=5,default=6,endnumeric;endform;endformset;"
@@ -68,7 +69,27 @@ specimens =
     ∷
     -- bad byte after a grammar fault: 2
     specimen "form form @"
-    (refuses 2 10) ([]) ∷ []
+    (refuses 2 10) ([])
+    ∷
+    -- W-204: size 1, "minimum 251 and maximum 5 is good"
+    specimen "formset guid={0x1,0x2,0x3,{0x4,0x5,0x6,0x7,0x8,0x9,0xA,0xB}},title=STRING_TOKEN(2),help=STRING_TOKEN(3),form formid=1,title=STRING_TOKEN(4);numeric prompt=STRING_TOKEN(0),help=STRING_TOKEN(0),flags=NUMERIC_SIZE_1|DISPLAY_INT_DEC,minimum=251,maximum=5,endnumeric;endform;endformset;"
+    (accepts 3 65534) ((14 ∷ 0 ∷ 0 ∷ 2 ∷ 3 ∷ 0 ∷ 4295098371 ∷ 289644378304612875 ∷ 0 ∷ 0 ∷ 0 ∷ 0 ∷ 0 ∷ []) ∷ (1 ∷ 0 ∷ 1 ∷ 4 ∷ 0 ∷ 0 ∷ 0 ∷ 0 ∷ 0 ∷ 0 ∷ 0 ∷ 104 ∷ 0 ∷ []) ∷ (7 ∷ 1 ∷ 1 ∷ 0 ∷ 0 ∷ 0 ∷ 251 ∷ 5 ∷ 0 ∷ 0 ∷ 0 ∷ 140 ∷ 4 ∷ []) ∷ [])
+    ∷
+    -- "minimum 127 and maximum 128 is not": 12
+    specimen "formset guid={0x1,0x2,0x3,{0x4,0x5,0x6,0x7,0x8,0x9,0xA,0xB}},title=STRING_TOKEN(2),help=STRING_TOKEN(3),form formid=1,title=STRING_TOKEN(4);numeric prompt=STRING_TOKEN(0),help=STRING_TOKEN(0),flags=NUMERIC_SIZE_1|DISPLAY_INT_DEC,minimum=127,maximum=128,endnumeric;endform;endformset;"
+    (refuses 12 249) ([])
+    ∷
+    -- a second size word, even the same: 16
+    specimen "formset guid={0x1,0x2,0x3,{0x4,0x5,0x6,0x7,0x8,0x9,0xA,0xB}},title=STRING_TOKEN(2),help=STRING_TOKEN(3),form formid=1,title=STRING_TOKEN(4);numeric prompt=STRING_TOKEN(0),help=STRING_TOKEN(0),flags=NUMERIC_SIZE_1|NUMERIC_SIZE_1,minimum=0,maximum=1,endnumeric;endform;endformset;"
+    (refuses 16 213) ([])
+    ∷
+    -- 256 at size 1: 5
+    specimen "formset guid={0x1,0x2,0x3,{0x4,0x5,0x6,0x7,0x8,0x9,0xA,0xB}},title=STRING_TOKEN(2),help=STRING_TOKEN(3),form formid=1,title=STRING_TOKEN(4);numeric prompt=STRING_TOKEN(0),help=STRING_TOKEN(0),flags=NUMERIC_SIZE_1,minimum=0,maximum=256,endnumeric;endform;endformset;"
+    (refuses 5 231) ([])
+    ∷
+    -- 255 at size 1 kept
+    specimen "formset guid={0x1,0x2,0x3,{0x4,0x5,0x6,0x7,0x8,0x9,0xA,0xB}},title=STRING_TOKEN(2),help=STRING_TOKEN(3),form formid=1,title=STRING_TOKEN(4);numeric prompt=STRING_TOKEN(0),help=STRING_TOKEN(0),flags=NUMERIC_SIZE_1,minimum=0,maximum=255,endnumeric;endform;endformset;"
+    (accepts 3 65534) ((14 ∷ 0 ∷ 0 ∷ 2 ∷ 3 ∷ 0 ∷ 4295098371 ∷ 289644378304612875 ∷ 0 ∷ 0 ∷ 0 ∷ 0 ∷ 0 ∷ []) ∷ (1 ∷ 0 ∷ 1 ∷ 4 ∷ 0 ∷ 0 ∷ 0 ∷ 0 ∷ 0 ∷ 0 ∷ 0 ∷ 104 ∷ 0 ∷ []) ∷ (7 ∷ 1 ∷ 1 ∷ 0 ∷ 0 ∷ 0 ∷ 0 ∷ 255 ∷ 0 ∷ 0 ∷ 0 ∷ 140 ∷ 5 ∷ []) ∷ []) ∷ []
 
 pub specimens-hold : map (λ x. outcome (bytes (x .text))) specimens ≡ map (λ x. x .expected) specimens
 unfolding specimens outcomeIn

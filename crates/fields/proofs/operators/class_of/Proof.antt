@@ -100,7 +100,7 @@ returns-23 c = rw (c .match .keys23)
 
 returns-24 : tie.Need-returns-24
 unfolding codeClass codeClasses
-returns-24 c = sym (missed codeClasses 72 _ (c .match .rest))
+returns-24 c = sym (missed codeClasses 79 _ (c .match .rest))
 
 pub class-of-spec : {M : Type 1} → statement M
 class-of-spec =

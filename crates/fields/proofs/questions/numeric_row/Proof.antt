@@ -74,6 +74,15 @@ value-requires-4 c κs = search needs
 array-write-r-5 : tie.Need-array-write-r-5
 array-write-r-5 c = search needs
 
+array-read-size-and-display : tie.Need-array-read-size-and-display
+array-read-size-and-display c = search needs
+
+size-and-display-requires : tie.Need-size-and-display-requires
+size-and-display-requires c κs = search needs
+
+array-write-r-6 : tie.Need-array-write-r-6
+array-write-r-6 c = search needs
+
 array-read-with-marks : tie.Need-array-read-with-marks
 array-read-with-marks c = search needs
 
@@ -88,10 +97,22 @@ with-marks-requires c κs = search needs
 
 returns : tie.Need-returns
 returns c =
-    let question-row = c .before .before .before .before .before .before .question-row in
-    let set-if = c .before .before .before .before .before .set-if in
-    let value = c .before .before .before .before .value in
-    c .with-marks .ensures ∙ rw (question-row .ensures, set-if .ensures, value .ensures, c .before .before .before .value2 .ensures, c .before .before .value3 .ensures, c .before .value4 .ensures)
+    let size = c .before in
+    let default = size .before in
+    let step = default .before in
+    let maximum = step .before in
+    let minimum = maximum .before in
+    let flags = minimum .before in
+    c .with-marks .ensures
+    ∙ rw (
+      flags .before .question-row .ensures,
+      flags .set-if .ensures,
+      minimum .value .ensures,
+      maximum .value2 .ensures,
+      step .value3 .ensures,
+      default .value4 .ensures,
+      size .size-and-display .ensures,
+    )
 
 pub numeric-row-spec : {M : Type 1} → statement M
 numeric-row-spec =
@@ -119,6 +140,9 @@ numeric-row-spec =
     array-read-value-4
     value-requires-4
     array-write-r-5
+    array-read-size-and-display
+    size-and-display-requires
+    array-write-r-6
     array-read-with-marks
     array-read-with-marks-2
     array-read-with-marks-3

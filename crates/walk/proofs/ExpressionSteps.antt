@@ -23,9 +23,10 @@ use Rattle.grammar.specs.Notation.{t, r, plain, group}
 use Rattle.grammar.specs.Lookahead.{lookahead}
 use Rattle.grammar.specs.Rules.{levelRule, tailRule, <or>, <atom>}
 use Rattle.grammar.specs.Derivation.{tooDeep, maxConditions, maxGroups}
-use Rattle.grammar.specs.Ranges.{rangeOf, outOfRange}
+use Rattle.grammar.specs.Ranges.{rangeOf, gathered}
+use Rattle.elements.specs.Marks.{faults}
 use Rattle.elements.specs.Symbols.{symbolsOf, phraseSymbols, GROUP-CLOSE, NUMBER, QUESTION-REF, RULE-REF}
-use Rattle.elements.proofs.MarkLaws.{marked-none}
+use Rattle.elements.proofs.MarkLaws.{noting-none}
 use Rattle.answers.specs.Expression.{operators, operator, operatorAmong, operatorCode}
 use Rattle.answers.specs.Drafts.{encoded}
 use Rattle.fields.specs.Words.{codeOf, wordDraft}
@@ -34,6 +35,7 @@ use Rattle.walk.specs.Meanings.{Meaning, Counted, Worded, OperandRows, T
 use Rattle.fields.specs.Operators.{LEVELS, levelOf}
 use Rattle.walk.specs.Starts.{constantWords, isConstant}
 use Rattle.walk.specs.Walked.{Room, Walked, Reads, Closes, passed, deep, advanced, WithRow, Groups, ReadsRow, ReadsOperand}
+use Rattle.walk.proofs.TreeLaws.{faultless}
 use Rattle.walk.proofs.Walks.{walked-then, counted-joins, walked-off, walked-nil, token-walked, resume-in, resume-enter, resume-skip, walked-node, counted-node, deep-walked}
 use Rattle.walk.proofs.StartLaws.{none-of, none-append, tells-only}
 use Rattle.walk.proofs.StatementSteps.{Told}
@@ -47,7 +49,7 @@ use Rattle.walk.proofs.Atoms.{constant-word, constant-node, number-node
 row-walked :
     {s : List ℕ} {d : Depth} {parent : ℕ} {k : lex.Token} {x y : State} {t t′ : List ℕ}
     → WithRow parent k x y t t′ → Walked s d [] (After s parent (k .class) (k .start)) x y t t′
-unfolding put outOfRange
+unfolding put faults gathered
 row-walked {s} {d} {parent} {k} {x} {y} {t} {t′} w = by (ℕ-discrete (x .no) 0)
   where
     by : Dec (x .no ≡ 0) → Walked s d [] (After s parent (k .class) (k .start)) x y t t′
@@ -69,7 +71,7 @@ row-walked {s} {d} {parent} {k} {x} {y} {t} {t′} w = by (ℕ-discrete (x .no) 
                 table = w .on z .1;
                 rows = refl;
                 counted = omega arith;
-                bad = sym (marked-none (x .bad));
+                noted = sym (noting-none (x .noted));
               };
         })
 
@@ -135,7 +137,7 @@ module _ {s : List ℕ} {left parent : ℕ} where
       record {
         walked = λ b h.
             let inner = finished (groups-fine b (left - 1) h (omega arith)) (omega arith) z c ((rw pe at x) .walked b h) w in
-            walked-node 0 {a = group (t class.«NOT» ∷ r <atom> ∷ [])} refl refl
+            walked-node 0 {a = group (t class.«NOT» ∷ r <atom> ∷ [])} refl (faultless refl refl refl)
             (λ σ. resume-in s (depth b (maxGroups - left)) <atom> σ (st .no) (st .token) 0 (group (t class.«NOT» ∷ r <atom> ∷ [])) (λ q. omega arith) (rw c) refl)
             (λ c ds k h m. negation-node s parent m)
             (rw (one-less b left n l) at inner);
@@ -151,7 +153,7 @@ module _ {s : List ℕ} {left parent : ℕ} where
         walked = λ b h.
             let fine = groups-fine b (left - 1) h (omega arith) in
             let inner : Walked s (depth b (maxGroups - (left - 1))) (t open-paren ∷ r <or> ∷ symbolsOf GROUP-CLOSE) (Counted (OperandRows s parent)) st r′ t₀ t₁ = walked-then (group-joins s parent) (operated fine (omega arith) z c ((rw pe at x) .walked b h)) (w .reads t₁ .walked (depth b (maxGroups - (left - 1))) fine) in
-            walked-node 1 {a = group (t open-paren ∷ r <or> ∷ symbolsOf GROUP-CLOSE)} refl refl
+            walked-node 1 {a = group (t open-paren ∷ r <or> ∷ symbolsOf GROUP-CLOSE)} refl (faultless refl refl refl)
             (λ σ. resume-in s (depth b (maxGroups - left)) <atom> σ (st .no) (st .token) 1 (group (t open-paren ∷ r <or> ∷ symbolsOf GROUP-CLOSE)) (λ q. omega arith) (rw c) refl)
             (λ c ds k h m. counted-node (group-node s parent) m)
             (rw (one-less b left n l) at inner);
@@ -177,7 +179,7 @@ module _ {s : List ℕ} {parent : ℕ} {st r′ : State} {t₀ t₁ : List ℕ} 
       let l = k .known in
       record {
         walked = λ d o.
-            walked-node (k .way) (k .alternative) refl
+            walked-node (k .way) (k .alternative) (faultless refl refl refl)
             (λ σ. resume-in s d <atom> σ (st .no) (st .token) (k .way) (plain (t (st .token .class) ∷ [])) (λ q. omega arith) (k .tells) (k .alternative))
             (λ c ds l h m. counted-node (constant-node s parent k h) m)
             (w .walked d o);
@@ -191,7 +193,7 @@ module _ {s : List ℕ} {parent : ℕ} {st r′ : State} {t₀ t₁ : List ℕ} 
   atom-question-ref c w =
       record {
         walked = λ d o.
-            walked-node 9 {a = plain (symbolsOf QUESTION-REF)} refl refl
+            walked-node 9 {a = plain (symbolsOf QUESTION-REF)} refl (faultless refl refl refl)
             (λ σ. resume-in s d <atom> σ (st .no) (st .token) 9 (plain (symbolsOf QUESTION-REF)) (λ q. omega arith) (rw c) refl)
             (λ c ds l h m. counted-node (question-ref-node s parent h) m)
             (w .walked d o);
@@ -203,7 +205,7 @@ module _ {s : List ℕ} {parent : ℕ} {st r′ : State} {t₀ t₁ : List ℕ} 
   atom-rule-ref c w =
       record {
         walked = λ d o.
-            walked-node 10 {a = plain (symbolsOf RULE-REF)} refl refl
+            walked-node 10 {a = plain (symbolsOf RULE-REF)} refl (faultless refl refl refl)
             (λ σ. resume-in s d <atom> σ (st .no) (st .token) 10 (plain (symbolsOf RULE-REF)) (λ q. omega arith) (rw c) refl)
             (λ c ds l h m. counted-node (rule-ref-node s parent h) m)
             (w .walked d o);
@@ -217,7 +219,7 @@ module _ {s : List ℕ} {parent : ℕ} {st r′ : State} {t₀ t₁ : List ℕ} 
   atom-number a b c e f w =
       record {
         walked = λ d o.
-            walked-node 8 {a = plain (symbolsOf NUMBER)} refl refl
+            walked-node 8 {a = plain (symbolsOf NUMBER)} refl (faultless refl refl refl)
             (λ σ. resume-enter s d <atom> σ (st .no) (st .token) 8 (plain (symbolsOf NUMBER)) refl refl (told-number (st .token .class) a b c e f))
             (λ c ds l h m. counted-node (number-node s parent h) m)
             (w .walked d o);
@@ -251,7 +253,7 @@ module _ {s : List ℕ} {left parent : ℕ} where
       let k = level-is n h in
       record {
         walked = λ c l.
-            walked-node 0 {M = Counted (OperandRows s parent)} (k .operand) (k .no-range)
+            walked-node 0 {M = Counted (OperandRows s parent)} (k .operand) (k .no-faults)
             (λ σ. resume-enter s (depth c (maxGroups - left)) (levelRule n) σ (st .no) (st .token) 0 (plain (r (levelRule (suc n)) ∷ r (tailRule n) ∷ [])) (k .present) (k .operand) (level-told n (st .token .class) h))
             (λ c ds l h m. counted-node (level-node s parent (k .no-atom)) m)
             (walked-then (counted-joins (level-joins s parent)) (next-level n w .walked c l) (v .walked c l));
@@ -266,7 +268,7 @@ module _ {s : List ℕ} {left parent : ℕ} where
       record {
         walked = λ c l.
             let d = depth c (maxGroups - left) in
-            walked-node 0 (k .empty) (k .no-range-tail)
+            walked-node 0 (k .empty) (k .no-faults-tail 0)
             (λ σ. resume-skip s d (tailRule n) σ (st .no) (st .token) (k .absent) (tail-ends n (st .token .class) h e))
             (λ c ds l h m. counted-node (λ x. tail-node s parent (k .no-atom-tail) (tail-none s parent h x)) m)
             (walked-nil s d);
@@ -291,7 +293,7 @@ module _ {s : List ℕ} {left parent : ℕ} where
       let operand : ReadsOperand s left (levelRule (suc n)) parent (passed s st) x t₀ t₁ = next-level n (rw pe at w) in
       record {
         walked = λ c l.
-            walked-node (q .way) {M = Counted (Tailing s parent)} alternative (k .no-range-tail)
+            walked-node (q .way) {M = Counted (Tailing s parent)} alternative (k .no-faults-tail (q .way))
             (λ σ. resume-in s (depth c (maxGroups - left)) (tailRule n) σ (st .no) (st .token) (q .way) (plain (t (st .token .class) ∷ r (levelRule (suc n)) ∷ r (tailRule n) ∷ [])) (λ y. omega arith) tells alternative)
             (λ c ds l h m. counted-node (tail-node s parent (k .no-atom-tail)) m)
             (walked-then (tail-joins s parent among code) (finished (groups-fine c left l g) known z refl (operand .walked c l) v) (u .walked c l));

@@ -1,15 +1,15 @@
 -- What the trees of the grammar's small rules keep: an entry for each name and number, in the words of the rows' definitions.
 -- Assumes nothing.
-use Prim.Native.Nat.{ℕ, zero, suc}
+use Prim.Native.Nat.{ℕ, zero, suc, _+_, _*_}
 use mathlib.Core.Path.{_≡_, refl, sym, ap, _∙_}
-use mathlib.Core.Bool.{cond}
-use mathlib.Core.List.{List, [], _∷_}
+use mathlib.Core.Bool.{true, cond}
+use mathlib.Core.List.{List, [], _∷_, _++_, map, map-append}
 use mathlib.Core.Option.{some}
 use lib.Dec.{eqb}
 use lib.ListN.{getD, getElem?}
 use Rattle.lexemes.specs.Classes as class
 use Rattle.lexemes.specs.Classes.{comma, open-paren, close-paren, NAME, HEX, DECIMAL}
-use Rattle.ll1.specs.Trees.{token, Trees, nil, leaf, node, Symbol, Alternative, alternativeOf, Fits, fits-nil, fits-leaf, fits-node}
+use Rattle.ll1.specs.Trees.{token, Trees, nil, leaf, node, leaves, Symbol, Alternative, alternativeOf, Fits, fits-nil, fits-leaf, fits-node}
 use Rattle.ll1.proofs.Basics.{clash}
 use Rattle.grammar.specs.Grammar.{rules}
 use Rattle.grammar.specs.Notation.{t, r, plain, one, optional}
@@ -17,8 +17,9 @@ use Rattle.grammar.specs.Rules.{<H8>, <H4>, <H2>, <str>, <id>, <small>, <large>
 use Rattle.grammar.specs.Rules.{<numeric-flags>?, <numeric-fl>, <numeric-flag>*, <numeric-flag>, <numeric-value>}
 use Rattle.grammar.specs.Parts.{child, chosen, placeAt}
 use Rattle.grammar.specs.Parts.{mark, when}
-use Rattle.grammar.specs.Flags.{flags}
-use Rattle.grammar.proofs.FlagTotals.{flags-between}
+use Rattle.grammar.specs.Flags.{FlagWord, sizeWords, displayWords, classOf, classes, flags, firstOf, sizeIn, displayIn}
+use Rattle.grammar.proofs.FlagTotals.{noneOf, flags-between, first-between}
+use Rattle.rows.specs.Sizes.{NO-SIZE, UINT-DEC, sizeAndDisplay}
 use Rattle.answers.specs.Rows.{nameMark, writtenMark}
 use Rattle.elements.specs.Entries.{nodeEntries, entries}
 use Rattle.elements.proofs.TreeLaws.{entries-node}
@@ -184,20 +185,16 @@ truth-keeps = assigned <truth-default>? <truth> class.«default» refl (λ i c e
 
 -- rule A: a word by rule C and others by rule B
 list-keeps :
-    (A B C : ℕ) → getD rules A [] ≡ one (r C ∷ r B ∷ []) → ((i : ℕ) (c : Trees) (es : List ℕ) → nodeEntries A i c es ≡ flags c ∷ [])
-    → Keeps A (λ i c. flags c)
-list-keeps A B C q keeps = only-way (Keeping A (λ i c. flags c)) q there
+    (A B C : ℕ) {e : Trees → ℕ} → getD rules A [] ≡ one (r C ∷ r B ∷ []) → ((i : ℕ) (c : Trees) (es : List ℕ) → nodeEntries A i c es ≡ e c ∷ [])
+    → Keeps A (λ i c. e c)
+list-keeps A B C {e} q keeps = only-way (Keeping A (λ i c. e c)) q there
   where
-    there : (c : Trees) → Fits rules (r C ∷ r B ∷ []) c → (g : Trees) → entries (node A 0 c g) ≡ flags c ∷ entries g
+    there : (c : Trees) → Fits rules (r C ∷ r B ∷ []) c → (g : Trees) → entries (node A 0 c g) ≡ e c ∷ entries g
     there c h g = entries-node A 0 g h ∙ rw (keeps 0 c (entries c))
 
 fl-keeps : Keeps <fl> (λ i c. flags c)
 unfolding rules nodeEntries
 fl-keeps = list-keeps <fl> <flag>* <flag> refl (λ i c es. refl)
-
-numeric-fl-keeps : Keeps <numeric-fl> (λ i c. flags c)
-unfolding rules nodeEntries
-numeric-fl-keeps = list-keeps <numeric-fl> <numeric-flag>* <numeric-flag> refl (λ i c es. refl)
 
 -- rule A: [`flags =` FL `,`], with FL by rule B; the flags in it are those of FL
 flags-there :
@@ -218,12 +215,6 @@ flags-keeps i a c e h g =
     assigned <flags>? <fl> class.«flags» refl (λ i c es. refl) (λ p f. refl) fl-keeps i a c e h g
     ∙ ap (λ n. n ∷ entries g) (flags-there <flags>? <fl> refl i a c e h)
 
-pub numeric-flags-keeps : Keeps <numeric-flags>? (λ i c. flags c)
-unfolding rules entries nodeEntries
-numeric-flags-keeps i a c e h g =
-    assigned <numeric-flags>? <numeric-fl> class.«flags» refl (λ i c es. refl) (λ p f. refl) numeric-fl-keeps i a c e h g
-    ∙ ap (λ n. n ∷ entries g) (flags-there <numeric-flags>? <numeric-fl> refl i a c e h)
-
 -- of a goto: [`, flags =` FL]
 pub goto-flags-keeps : Keeps <goto-flags>? (λ i c. flags c)
 unfolding rules entries nodeEntries
@@ -237,6 +228,51 @@ goto-flags-keeps = either-way (Keeping <goto-flags>? (λ i c. flags c)) refl abs
         → entries (node <goto-flags>? 1 c g) ≡ flags c ∷ entries g
     there c (fits-leaf (fits-leaf (fits-leaf (fits-node {i = i} {c = n} e h fits-nil)))) g =
         rw (fl-keeps i _ n e h nil) (ap (λ n. n ∷ entries g) (sym (flags-between (comma ∷ class.«flags» ∷ class.«=» ∷ []) n [] refl refl)))
+
+-- ---- a numeric's FL
+
+-- its flags, and 256 times its size and display
+abbrev pub numericEntry : Trees → ℕ
+numericEntry c = flags c + 256 * sizeAndDisplay (sizeIn c) (displayIn c)
+
+numeric-fl-keeps : Keeps <numeric-fl> (λ i c. numericEntry c)
+unfolding rules nodeEntries
+numeric-fl-keeps = list-keeps <numeric-fl> <numeric-flag>* <numeric-flag> refl (λ i c es. refl)
+
+-- [`flags =` FL `,`]: what is said of words in FL holds of the whole part
+module _ (n : Trees) (p : ℕ) where
+  abbrev partClasses : List ℕ
+  partClasses = class.«flags» ∷ class.«=» ∷ map classOf (leaves n ++ token comma p ∷ [])
+
+  first-in-part :
+      (ws : List FlagWord) (other : ℕ)
+      → noneOf ws (class.«flags» ∷ class.«=» ∷ []) ≡ true → noneOf ws (comma ∷ []) ≡ true → firstOf ws other partClasses ≡ firstOf ws other (classes n)
+  first-in-part ws other a b =
+      ap (λ ks. firstOf ws other (class.«flags» ∷ class.«=» ∷ ks)) (map-append classOf (leaves n) (token comma p ∷ []))
+      ∙ first-between ws other (class.«flags» ∷ class.«=» ∷ []) (classes n) (comma ∷ []) a b
+
+numeric-there :
+    (i : ℕ) (a : Alternative) (c : Trees)
+    → alternativeOf rules <numeric-flags>? i ≡ some a → Fits rules (a .symbols) c → ifThere i (numericEntry (child 2 c)) ≡ ifThere i (numericEntry c)
+unfolding rules
+numeric-there = either-way (λ i c. ifThere i (numericEntry (child 2 c)) ≡ ifThere i (numericEntry c)) refl absent there
+  where
+    absent : (c : Trees) → Fits rules [] c → _≡_ {A = ℕ} 0 0
+    absent c h = refl
+
+    there : (c : Trees) → Fits rules (t class.«flags» ∷ t class.«=» ∷ r <numeric-fl> ∷ t comma ∷ []) c → numericEntry (child 2 c) ≡ numericEntry c
+    there c (fits-leaf (fits-leaf (fits-node {c = n} e h (fits-leaf {p = p} fits-nil)))) =
+        rw (
+          flags-between (class.«flags» ∷ class.«=» ∷ []) n (token comma p ∷ []) refl refl,
+          first-in-part n p sizeWords NO-SIZE refl refl,
+          first-in-part n p displayWords UINT-DEC refl refl,
+        )
+
+pub numeric-flags-keeps : Keeps <numeric-flags>? (λ i c. ifThere i (numericEntry c))
+unfolding rules entries nodeEntries
+numeric-flags-keeps i a c e h g =
+    assigned <numeric-flags>? <numeric-fl> class.«flags» refl (λ i c es. refl) (λ p f. refl) numeric-fl-keeps i a c e h g
+    ∙ ap (λ n. n ∷ entries g) (numeric-there i a c e h)
 
 -- ---- an option's flags, and what a questionref names
 

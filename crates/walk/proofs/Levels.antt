@@ -19,11 +19,12 @@ use Rattle.grammar.specs.Rules.{levelRule, tailRule, <atom>}
 use Rattle.grammar.specs.Grammar.{rules}
 use Rattle.grammar.specs.Notation.{t, r, plain}
 use Rattle.grammar.specs.Lookahead.{lookahead}
-use Rattle.grammar.specs.Ranges.{rangeOf, free}
+use Rattle.grammar.specs.Ranges.{rangeOf}
 use Rattle.answers.specs.Expression as expr
 use Rattle.answers.specs.Expression.{Operator, operators, operatorClass, operatorCode, operator, operatorAmong}
 use Rattle.fields.specs.Words.{pair, lookUp, wordCodes, codeOf}
 use Rattle.fields.specs.Operators.{LEVELS, operatorLevels, levelOf}
+use Rattle.walk.proofs.TreeLaws.{Faultless, faultless}
 use Rattle.walk.proofs.StatementSteps.{Told}
 
 -- Q holds of each number below n
@@ -57,19 +58,19 @@ pub record Level (n : ℕ) : Type 0 where
   pub operand : alternativeOf rules (levelRule n) 0 ≡ some (plain (r (levelRule (suc n)) ∷ r (tailRule n) ∷ []))
   pub alone : single (entryOf lookahead (levelRule n) .firsts) ≡ true
   pub present : nullable rules (levelRule n) ≡ false
-  pub no-range : rangeOf (levelRule n) ≡ free
+  pub no-faults : Faultless (levelRule n) 0
   pub no-atom : eqb (levelRule n) <atom> ≡ false
   -- the tail is empty, or starts with an operator of the level
   pub empty : alternativeOf rules (tailRule n) 0 ≡ some (plain [])
   pub absent : nullable rules (tailRule n) ≡ true
-  pub no-range-tail : rangeOf (tailRule n) ≡ free
+  pub no-faults-tail : (i : ℕ) → Faultless (tailRule n) i
   pub no-atom-tail : eqb (tailRule n) <atom> ≡ false
   pub only : all (λ k. eqb (levelOf k) n) (joined (entryOf lookahead (tailRule n) .firsts)) ≡ true
 
 all-levels : Below Level LEVELS
 unfolding rules lookahead rangeOf operatorLevels levelOf
 all-levels =
-    ((record { operand = refl; alone = refl; present = refl; no-range = refl; no-atom = refl; empty = refl; absent = refl; no-range-tail = refl; no-atom-tail = refl; only = refl }), ((record { operand = refl; alone = refl; present = refl; no-range = refl; no-atom = refl; empty = refl; absent = refl; no-range-tail = refl; no-atom-tail = refl; only = refl }), ((record { operand = refl; alone = refl; present = refl; no-range = refl; no-atom = refl; empty = refl; absent = refl; no-range-tail = refl; no-atom-tail = refl; only = refl }), ((record { operand = refl; alone = refl; present = refl; no-range = refl; no-atom = refl; empty = refl; absent = refl; no-range-tail = refl; no-atom-tail = refl; only = refl }), ((record { operand = refl; alone = refl; present = refl; no-range = refl; no-atom = refl; empty = refl; absent = refl; no-range-tail = refl; no-atom-tail = refl; only = refl }), ((record { operand = refl; alone = refl; present = refl; no-range = refl; no-atom = refl; empty = refl; absent = refl; no-range-tail = refl; no-atom-tail = refl; only = refl }), ((record { operand = refl; alone = refl; present = refl; no-range = refl; no-atom = refl; empty = refl; absent = refl; no-range-tail = refl; no-atom-tail = refl; only = refl }), ((record { operand = refl; alone = refl; present = refl; no-range = refl; no-atom = refl; empty = refl; absent = refl; no-range-tail = refl; no-atom-tail = refl; only = refl }), ((record { operand = refl; alone = refl; present = refl; no-range = refl; no-atom = refl; empty = refl; absent = refl; no-range-tail = refl; no-atom-tail = refl; only = refl }), tt)))))))))
+    ((record { operand = refl; alone = refl; present = refl; no-faults = faultless refl refl refl; no-atom = refl; empty = refl; absent = refl; no-faults-tail = λ i. faultless refl refl refl; no-atom-tail = refl; only = refl }), ((record { operand = refl; alone = refl; present = refl; no-faults = faultless refl refl refl; no-atom = refl; empty = refl; absent = refl; no-faults-tail = λ i. faultless refl refl refl; no-atom-tail = refl; only = refl }), ((record { operand = refl; alone = refl; present = refl; no-faults = faultless refl refl refl; no-atom = refl; empty = refl; absent = refl; no-faults-tail = λ i. faultless refl refl refl; no-atom-tail = refl; only = refl }), ((record { operand = refl; alone = refl; present = refl; no-faults = faultless refl refl refl; no-atom = refl; empty = refl; absent = refl; no-faults-tail = λ i. faultless refl refl refl; no-atom-tail = refl; only = refl }), ((record { operand = refl; alone = refl; present = refl; no-faults = faultless refl refl refl; no-atom = refl; empty = refl; absent = refl; no-faults-tail = λ i. faultless refl refl refl; no-atom-tail = refl; only = refl }), ((record { operand = refl; alone = refl; present = refl; no-faults = faultless refl refl refl; no-atom = refl; empty = refl; absent = refl; no-faults-tail = λ i. faultless refl refl refl; no-atom-tail = refl; only = refl }), ((record { operand = refl; alone = refl; present = refl; no-faults = faultless refl refl refl; no-atom = refl; empty = refl; absent = refl; no-faults-tail = λ i. faultless refl refl refl; no-atom-tail = refl; only = refl }), ((record { operand = refl; alone = refl; present = refl; no-faults = faultless refl refl refl; no-atom = refl; empty = refl; absent = refl; no-faults-tail = λ i. faultless refl refl refl; no-atom-tail = refl; only = refl }), ((record { operand = refl; alone = refl; present = refl; no-faults = faultless refl refl refl; no-atom = refl; empty = refl; absent = refl; no-faults-tail = λ i. faultless refl refl refl; no-atom-tail = refl; only = refl }), tt)))))))))
 
 pub level-is : (n : ℕ) → n < LEVELS → Level n
 level-is = below Level LEVELS all-levels

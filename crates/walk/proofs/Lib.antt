@@ -3,6 +3,7 @@ mod Walks
 mod MeaningLaws
 mod PhraseSteps
 mod Kept
+mod Numerics
 mod Statements
 mod StatementSteps
 mod Levels

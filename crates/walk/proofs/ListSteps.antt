@@ -18,11 +18,12 @@ use Rattle.grammar.specs.Grammar.{rules}
 use Rattle.grammar.specs.Notation.{r, plain}
 use Rattle.grammar.specs.Lookahead.{lookahead}
 use Rattle.grammar.specs.Rules.{<rule>, <item>, <option>, <option>*, <form>, <form>*, <item-or-rule>*, <item>*}
-use Rattle.grammar.specs.Ranges.{rangeOf, free}
+use Rattle.grammar.specs.Ranges.{rangeOf}
 use Rattle.walk.specs.declared.State.{State}
 use Rattle.walk.specs.Meanings.{Counted, Under, rowsOwn}
 use Rattle.walk.specs.Starts.{itemWords, conditionWords, isCondition, startsItem}
 use Rattle.walk.specs.Walked.{Room, listOf, WalkedUnder}
+use Rattle.walk.proofs.TreeLaws.{Faultless, faultless}
 use Rattle.walk.proofs.Walks.{walked-then, counted-joins, walked-as, counted-as, walked-nil, walked-node, counted-node, resume-in, resume-skip}
 use Rattle.walk.proofs.MeaningLaws.{silent-under, under-joins, content-under, under-content}
 use Rattle.walk.proofs.StartLaws.{Each, one-of, none-of, none-append, tells-none}
@@ -33,7 +34,7 @@ use Rattle.walk.proofs.Rooms.{room-after}
 pub record ListRule (L : ℕ) : Type 0 where
   pub empty : alternativeOf rules L 0 ≡ some (plain [])
   pub absent : nullable rules L ≡ true
-  pub no-range : rangeOf L ≡ free
+  pub no-faults : (i : ℕ) → Faultless L i
   pub no-rule : eqb L <rule> ≡ false
   pub no-rows : (s : List ℕ) (parent at n i : ℕ) (c : Trees) → rowsOwn s parent at n L i c ≡ []
 
@@ -49,7 +50,7 @@ module _ {s : List ℕ} {d : Depth} {L parent : ℕ} where
       → WalkedUnder s d (r L ∷ []) parent c r′ t₁ t₂ → WalkedUnder s d (r L ∷ []) parent st r′ t₀ t₂
   list-more {i} {A} {st} l p q w v =
       let k = l .list in
-      walked-node i {M = Counted (Under s parent)} (l .more) (k .no-range)
+      walked-node i {M = Counted (Under s parent)} (l .more) (k .no-faults i)
       (λ σ. resume-in s d L σ (st .no) (st .token) i (plain (r A ∷ r L ∷ [])) q p (l .more))
       (λ c ds n h m. counted-node (λ x. content-under s (under-content s (k .no-rows s parent (st .rows) (st .rules) i c) (k .no-rule) x)) m)
       (walked-then (counted-joins (under-joins s)) w v)
@@ -58,7 +59,7 @@ module _ {s : List ℕ} {d : Depth} {L parent : ℕ} where
       {st : State} {t₀ : List ℕ}
       → ListRule L → predict lookahead L (st .token .class) ≡ none → WalkedUnder s d (r L ∷ []) parent st st t₀ t₀
   list-none {st} k p =
-      walked-node 0 {M = Counted (Under s parent)} (k .empty) (k .no-range)
+      walked-node 0 {M = Counted (Under s parent)} (k .empty) (k .no-faults 0)
       (λ σ. resume-skip s d L σ (st .no) (st .token) (k .absent) p)
       (λ c ds n h m. counted-node (λ x. content-under s (under-content s (k .no-rows s parent (st .rows) (st .rules) 0 c) (k .no-rule) x)) m)
       (walked-as (λ f ds n h m. counted-as (silent-under s parent refl h) m) (walked-nil s d))
@@ -67,17 +68,17 @@ module _ {s : List ℕ} {d : Depth} {L parent : ℕ} where
 
 pub options-are : ListOf <option>* 1 <option>
 unfolding rules rangeOf rowsOwn
-options-are = record { list = record { empty = refl; absent = refl; no-range = refl; no-rule = refl; no-rows = λ s parent at n i c. refl }; more = refl }
+options-are = record { list = record { empty = refl; absent = refl; no-faults = λ i. faultless refl refl refl; no-rule = refl; no-rows = λ s parent at n i c. refl }; more = refl }
 
 pub forms-are : ListOf <form>* 1 <form>
 unfolding rules rangeOf rowsOwn
-forms-are = record { list = record { empty = refl; absent = refl; no-range = refl; no-rule = refl; no-rows = λ s parent at n i c. refl }; more = refl }
+forms-are = record { list = record { empty = refl; absent = refl; no-faults = λ i. faultless refl refl refl; no-rule = refl; no-rows = λ s parent at n i c. refl }; more = refl }
 
 -- a form's items and rules, and a condition's items
 pub items-are : (inForm : Bool) → ListOf (listOf inForm) 1 <item>
 unfolding rules rangeOf rowsOwn
-items-are true = record { list = record { empty = refl; absent = refl; no-range = refl; no-rule = refl; no-rows = λ s parent at n i c. refl }; more = refl }
-items-are false = record { list = record { empty = refl; absent = refl; no-range = refl; no-rule = refl; no-rows = λ s parent at n i c. refl }; more = refl }
+items-are true = record { list = record { empty = refl; absent = refl; no-faults = λ i. faultless refl refl refl; no-rule = refl; no-rows = λ s parent at n i c. refl }; more = refl }
+items-are false = record { list = record { empty = refl; absent = refl; no-faults = λ i. faultless refl refl refl; no-rule = refl; no-rows = λ s parent at n i c. refl }; more = refl }
 
 pub rules-are : ListOf (listOf true) 2 <rule>
 unfolding rules rangeOf rowsOwn

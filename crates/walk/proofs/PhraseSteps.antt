@@ -33,14 +33,15 @@ use Rattle.phrases.proofs.Keeping.{written-zeros}
 use Rattle.elements.specs.Symbols.{symbolsOf, phraseSymbols, RULE-OPEN}
 use Rattle.fields.specs.Phrases.{kept, phraseDraft, ruleDraft}
 use Rattle.walk.specs.declared.State.{State}
-use Rattle.walk.specs.Meanings.{Counted, Silent, firstClass, firstPlace, keptOf, phraseRow, Rowed, RuleRow}
+use Rattle.walk.specs.Meanings.{Meaning, Counted, Silent, firstClass, firstPlace, keptOf, phraseRow, Rowed, RuleRow}
 use Rattle.walk.specs.Walked.{closed, Reads}
+use Rattle.walk.proofs.Walks.{walked-as}
 
 -- ---- without a row
 
 pub closed-reads :
     {s : List ℕ} {α : List Symbol} {st : State} {l l′ : List ℕ} {c : Cursor} {t : List ℕ}
-    → Passed s α (st .no) (st .token) (st .bad) l c l′ → Reads s α (Counted Silent) st (closed st c) t t
+    → Passed s α (st .no) (st .token) (st .noted) l c l′ → Reads s α (Counted Silent) st (closed st c) t t
 unfolding put
 closed-reads {st = st} p =
     record {
@@ -61,7 +62,7 @@ closed-reads {st = st} p =
                   table = refl;
                   rows = sym (add-zero (st .rows));
                   counted = sym (add-zero (st .rules));
-                  bad = x .bad-is;
+                  noted = x .noted-are;
                 };
           };
     }
@@ -94,30 +95,40 @@ heads s t {α} {f} x n h e = by (leaves f) refl
 -- ---- with a row
 
 abbrev pub rowed : State → Cursor → State
-rowed st c = record { no = 0; token = c .token; rows = st .rows + 1; rules = st .rules; bad = c .bad }
+rowed st c = record { no = 0; token = c .token; rows = st .rows + 1; rules = st .rules; noted = c .noted }
 
 -- the entries in the first places of zeros are the entries
 pub kept-entries : (es : List ℕ) {l : List ℕ} → l ≡ written (replicate KEPT 0) es → length es ≤ KEPT → kept l ≡ kept es
 kept-entries es e h = rw e (fun-ext (λ i. written-zeros KEPT es i h))
 
-module _ (s : List ℕ) {α : List Symbol} (parent : ℕ) (st : State) {l : List ℕ} {c : Cursor} (n : allNullable rules α ≡ false) (p : Passed s α (st .no) (st .token) (st .bad) (replicate KEPT 0) c l) where
+-- a meaning of trees that keep the entries l
+pub record Held (l : List ℕ) (M : Meaning) (at n : ℕ) (f : Trees) (ds : List Draft) (k : ℕ) : Type 0 where
+  pub means : M at n f ds k
+  pub keeps : kept l ≡ keptOf f
+
+module _ (s : List ℕ) {α : List Symbol} (parent : ℕ) (st : State) {l : List ℕ} {c : Cursor} (n : allNullable rules α ≡ false) (p : Passed s α (st .no) (st .token) (st .noted) (replicate KEPT 0) c l) where
   pub row-off : {t : List ℕ} → c .no ≢ 0 → Reads s α (Counted (Rowed s parent)) st (closed st c) t t
   row-off h = record { walked = λ d o. record { verdict = λ σ. p .verdict σ d o; within = p .within; got = λ q. absurd (h q) } }
 
   abbrev row : Draft
   row = phraseDraft (numberAt s) (st .token .class) parent (st .token .start) (kept l)
 
-  row-is : (x : Phrase s α (st .no) (st .token) (st .bad) (replicate KEPT 0) c l) → row ≡ phraseRow s parent (x .trees)
-  unfolding phraseRow keptOf
+  kept-is : (x : Phrase s α (st .no) (st .token) (st .noted) (replicate KEPT 0) c l) → kept l ≡ keptOf (x .trees)
+  unfolding keptOf
+  kept-is x = kept-entries (entries (x .trees)) (x .kept) (x .few)
+
+  row-is : (x : Phrase s α (st .no) (st .token) (st .noted) (replicate KEPT 0) c l) → row ≡ phraseRow s parent (x .trees)
+  unfolding phraseRow
   row-is x =
       let h = heads s (st .token) (stream s (c .token)) n (x .fits) (x .reads) in
-      rw (h .class, h .place, kept-entries (entries (x .trees)) (x .kept) (x .few))
+      rw (h .class, h .place, kept-is x)
 
-  pub row-on :
+  -- the row, and the entries from which it is made
+  pub row-held :
       {t t′ : List ℕ}
-      → c .no ≡ 0 → t′ ≡ withRow t (st .rows) (encoded row) → Reads s α (Counted (Rowed s parent)) st (rowed st c) t t′
+      → c .no ≡ 0 → t′ ≡ withRow t (st .rows) (encoded row) → Reads s α (Held l (Counted (Rowed s parent))) st (rowed st c) t t′
   unfolding put
-  row-on {t = t} z e =
+  row-held {t = t} z e =
       record {
         walked = λ d o.
             record {
@@ -133,21 +144,30 @@ module _ (s : List ℕ) {α : List Symbol} (parent : ℕ) (st : State) {l : List
                     count = 0;
                     fits = x .fits;
                     reads = x .reads;
-                    means = record { means = record { row = ap (λ (y : Draft). y ∷ []) (row-is x); no-rules = refl }; few = h .some; fewer = omega arith };
+                    means =
+                        record {
+                          means = record { means = record { row = ap (λ (y : Draft). y ∷ []) (row-is x); no-rules = refl }; few = h .some; fewer = omega arith };
+                          keeps = kept-is x;
+                        };
                     table = e;
                     rows = refl;
                     counted = sym (add-zero (st .rules));
-                    bad = x .bad-is;
+                    noted = x .noted-are;
                   };
             };
       }
 
+  pub row-on :
+      {t t′ : List ℕ}
+      → c .no ≡ 0 → t′ ≡ withRow t (st .rows) (encoded row) → Reads s α (Counted (Rowed s parent)) st (rowed st c) t t′
+  row-on z e = record { walked = λ d o. walked-as (λ f ds k h m. m .means) (row-held z e .walked d o) }
+
 -- ---- the row of a rule
 
 abbrev pub ruled : State → Cursor → State
-ruled st c = record { no = 0; token = c .token; rows = st .rows + 1; rules = st .rules + 1; bad = c .bad }
+ruled st c = record { no = 0; token = c .token; rows = st .rows + 1; rules = st .rules + 1; noted = c .noted }
 
-module _ (s : List ℕ) (parent : ℕ) (st : State) {l : List ℕ} {c : Cursor} (p : Passed s (symbolsOf RULE-OPEN) (st .no) (st .token) (st .bad) (replicate KEPT 0) c l) where
+module _ (s : List ℕ) (parent : ℕ) (st : State) {l : List ℕ} {c : Cursor} (p : Passed s (symbolsOf RULE-OPEN) (st .no) (st .token) (st .noted) (replicate KEPT 0) c l) where
   pub rule-off : {t : List ℕ} → c .no ≢ 0 → Reads s (symbolsOf RULE-OPEN) (Counted (RuleRow s parent)) st (closed st c) t t
   rule-off h = record { walked = λ d o. record { verdict = λ σ. p .verdict σ d o; within = p .within; got = λ q. absurd (h q) } }
 
@@ -180,7 +200,7 @@ module _ (s : List ℕ) (parent : ℕ) (st : State) {l : List ℕ} {c : Cursor} 
                     table = e ∙ ap (withRow t (st .rows)) f;
                     rows = refl;
                     counted = refl;
-                    bad = x .bad-is;
+                    noted = x .noted-are;
                   };
             };
       }

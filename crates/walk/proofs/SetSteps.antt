@@ -28,27 +28,28 @@ use Rattle.grammar.specs.Derivation.{tooDeep}
 use Rattle.grammar.specs.Reading.{verdictFrom}
 use Rattle.grammar.specs.Source.{numberAt}
 use Rattle.grammar.specs.Parts.{child, placeAt}
-use Rattle.grammar.specs.Ranges.{rangeOf, free, outOfRange}
+use Rattle.grammar.specs.Ranges.{rangeOf}
 use Rattle.answers.specs.Rows.{Draft}
 use Rattle.grammar.specs.Parts.{mark}
 use Rattle.answers.specs.Drafts.{encoded}
 use Rattle.phrases.specs.declared.Cursor.{Cursor}
 use Rattle.phrases.specs.Stream.{stream, resume, Within}
 use Rattle.elements.specs.Entries.{leafEntries, nodeEntries, entries}
-use Rattle.elements.specs.Marks.{marked}
+use Rattle.elements.specs.declared.noted.Noted.{Noted}
+use Rattle.elements.specs.Marks.{faults, nothingNoted, noting}
 use Rattle.elements.specs.Entries.{KEPT}
 use Rattle.phrases.specs.Passed.{Passed}
 use Rattle.elements.specs.Symbols.{symbolsOf, phraseSymbols, titleAndHelp, FORM-SET-OPEN, FORM-SET-BRACED, FORM-SET-PLAIN}
 use Rattle.phrases.proofs.Streams.{within-at}
-use Rattle.elements.proofs.MarkLaws.{marked-append}
+use Rattle.elements.proofs.MarkLaws.{noting-append}
 use Rattle.phrases.proofs.Resume.{resume-like}
 use Rattle.grammar.proofs.Equations.{verdict-take, verdict-deep, verdict-miss, verdict-ends, verdict-open}
-use Rattle.elements.proofs.TreeLaws.{entries-node, out-node}
+use Rattle.elements.proofs.TreeLaws.{entries-node, faults-node}
 use Rattle.fields.specs.Phrases.{kept, markedValue, formSetDraft}
 use Rattle.walk.specs.declared.State.{State}
 use Rattle.walk.specs.Meanings.{_⧺_, firstPlace, keptOf, Counted, Opening, rowsOwn}
 use Rattle.walk.specs.Walked.{Walked, starting, setOpen, OpensSet}
-use Rattle.walk.proofs.TreeLaws.{leaves-beside, fits-beside, out-beside}
+use Rattle.walk.proofs.TreeLaws.{leaves-beside, fits-beside, faults-beside, Faultless, faultless}
 use Rattle.walk.proofs.Walks.{resume-enter}
 use Rattle.walk.proofs.PhraseSteps.{heads, kept-entries}
 use Rattle.walk.proofs.Kept.{only-way, either-way, H8-keeps, H4-keeps, H2-keeps, str-keeps}
@@ -89,10 +90,10 @@ due-append d (x ∷ α) β σ = ap (λ (l : List Due). due d x ∷ l) (due-appen
 
 -- a phrase that reads alternative i of rule A and then β reads a tree of rule A and then β
 passed-node :
-    {s : List ℕ} {A i n bad : ℕ} {y : Symbol} {α β : List Symbol} {k : lex.Token} {l l′ : List ℕ} {c : Cursor}
-    → alternativeOf rules A i ≡ some (plain (y ∷ α)) → nullable rules A ≡ false → Told A i (k .class) → rangeOf A ≡ free
-    → ((i : ℕ) (c : Trees) (es : List ℕ) → nodeEntries A i c es ≡ es) → Passed s ((y ∷ α) ++ β) n k bad l c l′ → Passed s (r A ∷ β) n k bad l c l′
-passed-node {s} {A} {i} {n} {bad} {y} {α} {β} {k} {l} {l′} {c} e full told f plainly p =
+    {s : List ℕ} {A i n : ℕ} {was : Noted} {y : Symbol} {α β : List Symbol} {k : lex.Token} {l l′ : List ℕ} {c : Cursor}
+    → alternativeOf rules A i ≡ some (plain (y ∷ α)) → nullable rules A ≡ false → Told A i (k .class) → Faultless A i
+    → ((i : ℕ) (c : Trees) (es : List ℕ) → nodeEntries A i c es ≡ es) → Passed s ((y ∷ α) ++ β) n k was l c l′ → Passed s (r A ∷ β) n k was l c l′
+passed-node {s} {A} {i} {n} {was} {y} {α} {β} {k} {l} {l′} {c} e full told free plainly p =
     record {
       verdict = λ σ d o. resume-enter s d A (dueAll d β ++ σ) n k i (plain (y ∷ α)) full e told ∙ (rw (← due-append d (y ∷ α) β σ) (p .verdict σ d o));
       got = λ q.
@@ -101,7 +102,7 @@ passed-node {s} {A} {i} {n} {bad} {y} {α} {β} {k} {l} {l′} {c} e full told f
           let u = w .front in
           let v = w .back in
           let keeps : entries (node A i u v) ≡ entries (x .trees) = entries-node A i v (w .fits-front) ∙ (ap (λ (l : List ℕ). l ++ entries v) (plainly i u (entries u)) ∙ (sym (entries-beside u v) ∙ ap entries (sym (w .is)))) in
-          let outs : outOfRange s (node A i u v) ≡ outOfRange s (x .trees) = out-node s A i u v f ∙ (sym (out-beside s u v) ∙ ap (outOfRange s) (sym (w .is))) in
+          let same : faults s (node A i u v) ≡ faults s (x .trees) = faults-node s A i u v (free .none s u) ∙ (sym (faults-beside s u v) ∙ ap (faults s) (sym (w .is))) in
           let all : leaves u ++ leaves v ≡ leaves (x .trees) = sym (leaves-beside u v) ∙ ap leaves (sym (w .is)) in
           record {
             before = x .before;
@@ -109,7 +110,7 @@ passed-node {s} {A} {i} {n} {bad} {y} {α} {β} {k} {l} {l′} {c} e full told f
             fits = fits-node e (w .fits-front) (w .fits-back);
             reads = rw all (x .reads);
             kept = x .kept ∙ rw keeps;
-            bad-is = x .bad-is ∙ rw outs;
+            noted-are = x .noted-are ∙ rw same;
             few = rw keeps (x .few);
           };
       within = p .within;
@@ -117,16 +118,16 @@ passed-node {s} {A} {i} {n} {bad} {y} {α} {β} {k} {l} {l′} {c} e full told f
 
 -- ---- a GUID from its inner brace, if there is one, on
 
-module _ {s : List ℕ} {n bad : ℕ} {k : lex.Token} {l l′ : List ℕ} {c : Cursor} where
+module _ {s : List ℕ} {n : ℕ} {was : Noted} {k : lex.Token} {l l′ : List ℕ} {c : Cursor} where
   pub braced-passed :
-      k .class ≡ open-brace → Passed s (symbolsOf FORM-SET-BRACED) n k bad l c l′ → Passed s (r <guid-end> ∷ titleAndHelp) n k bad l c l′
+      k .class ≡ open-brace → Passed s (symbolsOf FORM-SET-BRACED) n k was l c l′ → Passed s (r <guid-end> ∷ titleAndHelp) n k was l c l′
   unfolding rules lookahead rangeOf symbolsOf phraseSymbols nodeEntries
-  braced-passed e p = passed-node {i = 0} {y = t open-brace} {α = r <eight> ∷ t close-brace ∷ t close-brace ∷ []} refl refl (inl (rw e)) refl (λ i c es. refl) p
+  braced-passed e p = passed-node {i = 0} {y = t open-brace} {α = r <eight> ∷ t close-brace ∷ t close-brace ∷ []} refl refl (inl (rw e)) (faultless refl refl refl) (λ i c es. refl) p
 
   pub plain-passed :
-      k .class ≢ open-brace → Passed s (symbolsOf FORM-SET-PLAIN) n k bad l c l′ → Passed s (r <guid-end> ∷ titleAndHelp) n k bad l c l′
+      k .class ≢ open-brace → Passed s (symbolsOf FORM-SET-PLAIN) n k was l c l′ → Passed s (r <guid-end> ∷ titleAndHelp) n k was l c l′
   unfolding rules lookahead rangeOf symbolsOf phraseSymbols nodeEntries
-  plain-passed e p = passed-node {i = 1} {y = r <eight>} {α = t close-brace ∷ []} refl refl (find-second (open-brace ∷ []) (class.HEX ∷ []) (k .class) (member-not (k .class) open-brace [] e refl)) refl (λ i c es. refl) p
+  plain-passed e p = passed-node {i = 1} {y = r <eight>} {α = t close-brace ∷ []} refl refl (find-second (open-brace ∷ []) (class.HEX ∷ []) (k .class) (member-not (k .class) open-brace [] e refl)) (faultless refl refl refl) (λ i c es. refl) p
 
 -- ---- the row of a form set
 
@@ -239,9 +240,17 @@ module _ (a b e v : Trees) where
   assembled-leaves : leaves (assembled a b e v) ≡ leaves (a ⧺ b) ++ leaves (e ⧺ v)
   assembled-leaves = rw (leaves-beside a (node <guid> 0 (b ⧺ e) v), leaves-beside b e, leaves-beside a b, leaves-beside e v) (simp append-assoc)
 
-  assembled-out : (s : List ℕ) → outOfRange s (assembled a b e v) ≡ outOfRange s (a ⧺ b) ++ outOfRange s (e ⧺ v)
+  assembled-faults : (s : List ℕ) → faults s (assembled a b e v) ≡ faults s (a ⧺ b) ++ faults s (e ⧺ v)
   unfolding rangeOf
-  assembled-out s = rw (out-beside s a (node <guid> 0 (b ⧺ e) v), out-node s <guid> 0 (b ⧺ e) v refl, out-beside s b e, out-beside s a b, out-beside s e v) (simp append-assoc)
+  assembled-faults s =
+      rw (
+        faults-beside s a (node <guid> 0 (b ⧺ e) v),
+        faults-node s <guid> 0 (b ⧺ e) v (faultless refl refl refl .none s (b ⧺ e)),
+        faults-beside s b e,
+        faults-beside s a b,
+        faults-beside s e v,
+      )
+      (simp append-assoc)
 
 assembled-fits :
     {a b e v : Trees} → Fits rules setWords a → Fits rules guidOpen b → Fits rules (r <guid-end> ∷ []) e → Fits rules titleAndHelp v
@@ -256,12 +265,12 @@ first-place b (fits-leaf h) = refl
 -- ---- the opening as it is read
 
 abbrev stopped : Cursor → State
-stopped c = record { no = c .no; token = c .token; rows = 0; rules = 0; bad = c .bad }
+stopped c = record { no = c .no; token = c .token; rows = 0; rules = 0; noted = c .noted }
 
 abbrev begun : Cursor → State
-begun c = record { no = 0; token = c .token; rows = 1; rules = 0; bad = c .bad }
+begun c = record { no = 0; token = c .token; rows = 1; rules = 0; noted = c .noted }
 
-module _ {s : List ℕ} {k : lex.Token} {c e : Cursor} {high low : List ℕ} (p : Passed s (symbolsOf FORM-SET-OPEN) 0 k 0 (replicate KEPT 0) c high) (q : Passed s (r <guid-end> ∷ titleAndHelp) (c .no) (c .token) (c .bad) (replicate KEPT 0) e low) where
+module _ {s : List ℕ} {k : lex.Token} {c e : Cursor} {high low : List ℕ} (p : Passed s (symbolsOf FORM-SET-OPEN) 0 k nothingNoted (replicate KEPT 0) c high) (q : Passed s (r <guid-end> ∷ titleAndHelp) (c .no) (c .token) (c .noted) (replicate KEPT 0) e low) where
   set-verdict : (d : Depth) → tooDeep d ≡ false → (σ : List Due) → resume s (dueAll d setOpen ++ σ) 0 k ≡ resume s σ (e .no) (e .token)
   unfolding symbolsOf phraseSymbols
   set-verdict d o σ =
@@ -281,7 +290,7 @@ module _ {s : List ℕ} {k : lex.Token} {c e : Cursor} {high low : List ℕ} (p 
       pub trees : Trees
       pub fits : Fits rules setOpen trees
       pub all : leaves trees ≡ leaves f ++ leaves g
-      pub outs : outOfRange s trees ≡ outOfRange s f ++ outOfRange s g
+      pub faults-are : faults s trees ≡ faults s f ++ faults s g
       pub rows : (h : Trees) → row ∷ [] ≡ rowsOwn s 0 0 0 <source> 0 (trees ⧺ h)
       pub some : 1 ≤ length (leaves f)
 
@@ -305,7 +314,9 @@ module _ {s : List ℕ} {k : lex.Token} {c e : Cursor} {high low : List ℕ} (p 
           trees = assembled a b u v;
           fits = assembled-fits (ab .fits-front) (ab .fits-back) (ev .fits-front) (ev .fits-back);
           all = assembled-leaves a b u v ∙ (ap (λ (x : Trees). leaves x ++ leaves (u ⧺ v)) (sym (ab .is)) ∙ ap (λ (x : Trees). leaves f ++ leaves x) (sym (ev .is)));
-          outs = assembled-out a b u v s ∙ (ap (λ (x : Trees). outOfRange s x ++ outOfRange s (u ⧺ v)) (sym (ab .is)) ∙ ap (λ (x : Trees). outOfRange s f ++ outOfRange s x) (sym (ev .is)));
+          faults-are =
+              assembled-faults a b u v s
+              ∙ (ap (λ (x : Trees). faults s x ++ faults s (u ⧺ v)) (sym (ab .is)) ∙ ap (λ (x : Trees). faults s f ++ faults s x) (sym (ev .is)));
           rows = λ h. same ∙ set-row s 0 0 h (ab .fits-front) (ab .fits-back) (ev .fits-front) (ev .fits-back);
           some = head .some;
         }
@@ -334,7 +345,10 @@ module _ {s : List ℕ} {k : lex.Token} {c e : Cursor} {high low : List ℕ} (p 
               table = f;
               rows = refl;
               counted = refl;
-              bad = y₂ .bad-is ∙ (ap (λ (m : ℕ). marked m (outOfRange s (y₂ .trees))) (y₁ .bad-is) ∙ (sym (marked-append 0 (outOfRange s (y₁ .trees)) (outOfRange s (y₂ .trees))) ∙ ap (marked 0) (sym (w .outs))));
+              noted =
+                  y₂ .noted-are
+                  ∙ (ap (λ (n : Noted). noting n (faults s (y₂ .trees))) (y₁ .noted-are)
+                  ∙ (sym (noting-append nothingNoted (faults s (y₁ .trees)) (faults s (y₂ .trees))) ∙ ap (noting nothingNoted) (sym (w .faults-are))));
             };
       }
 
@@ -343,11 +357,14 @@ module _ {s : List ℕ} {k : lex.Token} {c e : Cursor} {high low : List ℕ} (p 
 pub first-within : (s : List ℕ) {k : lex.Token} → k ≡ tokenAt s 0 → Within s k
 first-within s e = rw e (within-at s 0)
 
-module _ {s : List ℕ} {k : lex.Token} {c e : Cursor} {high low : List ℕ} (f : k ≡ tokenAt s 0) (p : Passed s (symbolsOf FORM-SET-OPEN) 0 k 0 (replicate KEPT 0) c high) (q : Passed s (r <guid-end> ∷ titleAndHelp) (c .no) (c .token) (c .bad) (replicate KEPT 0) e low) where
+module _ {s : List ℕ} {k : lex.Token} {was : Noted} {c e : Cursor} {high low : List ℕ}
+    (f : k ≡ tokenAt s 0) (nothing : was ≡ nothingNoted)
+    (p : Passed s (symbolsOf FORM-SET-OPEN) 0 k was (replicate KEPT 0) c high)
+    (q : Passed s (r <guid-end> ∷ titleAndHelp) (c .no) (c .token) (c .noted) (replicate KEPT 0) e low) where
   pub set-opens-off : {x : List ℕ} → e .no ≢ 0 → OpensSet s (stopped e) x x
-  set-opens-off {x} h = record { walked = rw f at (set-off p q {x = x} h) }
+  set-opens-off {x} h = record { walked = rw f at (set-off (rw nothing at p) q {x = x} h) }
 
   pub set-opens-on :
       {cells x x′ : List ℕ}
       → e .no ≡ 0 → cells ≡ encoded (formSetDraft (numberAt s) (k .start) (kept high) (kept low)) → x′ ≡ withRow x 0 cells → OpensSet s (begun e) x x′
-  set-opens-on {x = x} z a b = record { walked = rw f at (set-on p q z (b ∙ ap (withRow x 0) a)) }
+  set-opens-on {x = x} z a b = record { walked = rw f at (set-on (rw nothing at p) q z (b ∙ ap (withRow x 0) a)) }

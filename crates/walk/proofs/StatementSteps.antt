@@ -16,22 +16,22 @@ use Rattle.grammar.specs.Notation.{r, plain}
 use Rattle.grammar.specs.Lookahead.{lookahead}
 use Rattle.grammar.specs.Rules.{<rule>, <item>, <option>, <option>*, <form>, <item-or-rule>*}
 use Rattle.grammar.specs.Derivation.{tooDeep}
-use Rattle.grammar.specs.Ranges.{rangeOf, free}
-use Rattle.elements.specs.Symbols.{symbolsOf, phraseSymbols, SUBTITLE, TEXT, LABEL, GOTO, CHECKBOX, NUMERIC, ONE-OF-OPEN, ONE-OF-CLOSE, OPTION, FORM-OPEN, FORM-CLOSE}
+use Rattle.grammar.specs.Ranges.{rangeOf}
+use Rattle.elements.specs.Symbols.{symbolsOf, phraseSymbols, SUBTITLE, TEXT, LABEL, GOTO, CHECKBOX, ONE-OF-OPEN, ONE-OF-CLOSE, OPTION, FORM-OPEN, FORM-CLOSE}
 use Rattle.walk.specs.declared.State.{State}
 use Rattle.walk.specs.Meanings.{Counted, Opening}
 use Rattle.walk.specs.Walked.{Walked, Closes, WalkedUnder, ReadsUnder, ReadsRow}
-use Rattle.walk.proofs.TreeLaws.{quiet}
+use Rattle.walk.proofs.TreeLaws.{Faultless, faultless, quiet}
 use Rattle.walk.proofs.Walks.{walked-then, counted-joins, walked-as, counted-as, walked-nil, walked-node, counted-node, resume-enter}
 use Rattle.walk.proofs.MeaningLaws.{silent-under, under-joins, Content, content-under, content-joins}
-use Rattle.walk.proofs.Statements.{Makes, makes-opening, subtitle-row, text-row, label-row, goto-row, checkbox-row, numeric-row, one-of-row, option-row, form-row}
+use Rattle.walk.proofs.Statements.{Makes, makes-opening, subtitle-row, text-row, label-row, goto-row, checkbox-row, one-of-row, option-row, form-row}
 
 -- alternative i of rule A is the phrase p, which starts with a token of class k and makes its row, and then β
 pub record Statement (p A i k : ℕ) (β : List Symbol) : Type 0 where
   pub tells : predict lookahead A k ≡ some i
   pub alternative : alternativeOf rules A i ≡ some (plain (symbolsOf p ++ β))
   pub present : nullable rules A ≡ false
-  pub no-range : rangeOf A ≡ free
+  pub no-faults : Faultless A i
   pub no-rows : quiet (symbolsOf p) ≡ true
   pub no-rule : eqb A <rule> ≡ false
   pub makes : (s : List ℕ) (parent at n : ℕ) (f : Trees) → Fits rules (symbolsOf p) f → Makes s parent at n A i f
@@ -45,7 +45,7 @@ module _ {s : List ℕ} {d : Depth} {p A i k : ℕ} {β : List Symbol} {parent :
   statement-walked w v =
       let opening : Walked s d (symbolsOf p) (Counted (Opening s A i parent)) st o t₀ t₁ = walked-as (λ f ds k h m. counted-as (makes-opening s parent (st .rows) (st .rules) (is .no-rule) (is .makes s parent (st .rows) (st .rules) f h)) m) (w .walked d fine) in
       let content : Walked s d (symbolsOf p ++ β) (Counted (Content s A i parent)) st r′ t₀ t₂ = walked-then (counted-joins (content-joins s (is .no-rows) (is .no-rule))) opening v in
-      walked-node i (is .alternative) (is .no-range)
+      walked-node i (is .alternative) (is .no-faults)
       (λ σ. resume-enter s d A σ (st .no) (st .token) i (plain (symbolsOf p ++ β)) (is .present) (is .alternative) told)
       (λ c ds k h m. counted-node (content-under s) m)
       content
@@ -54,39 +54,35 @@ module _ {s : List ℕ} {d : Depth} {p A i k : ℕ} {β : List Symbol} {parent :
 
 pub subtitle-is : Statement SUBTITLE <item> 0 class.«subtitle» []
 unfolding rules lookahead symbolsOf phraseSymbols rangeOf
-subtitle-is = record { tells = refl; alternative = refl; present = refl; no-range = refl; no-rows = refl; no-rule = refl; makes = λ s parent at n f h. subtitle-row s parent at n h }
+subtitle-is = record { tells = refl; alternative = refl; present = refl; no-faults = faultless refl refl refl; no-rows = refl; no-rule = refl; makes = λ s parent at n f h. subtitle-row s parent at n h }
 
 pub text-is : Statement TEXT <item> 1 class.«text» []
 unfolding rules lookahead symbolsOf phraseSymbols rangeOf
-text-is = record { tells = refl; alternative = refl; present = refl; no-range = refl; no-rows = refl; no-rule = refl; makes = λ s parent at n f h. text-row s parent at n h }
+text-is = record { tells = refl; alternative = refl; present = refl; no-faults = faultless refl refl refl; no-rows = refl; no-rule = refl; makes = λ s parent at n f h. text-row s parent at n h }
 
 pub label-is : Statement LABEL <item> 2 class.«label» []
 unfolding rules lookahead symbolsOf phraseSymbols rangeOf
-label-is = record { tells = refl; alternative = refl; present = refl; no-range = refl; no-rows = refl; no-rule = refl; makes = λ s parent at n f h. label-row s parent at n h }
+label-is = record { tells = refl; alternative = refl; present = refl; no-faults = faultless refl refl refl; no-rows = refl; no-rule = refl; makes = λ s parent at n f h. label-row s parent at n h }
 
 pub goto-is : Statement GOTO <item> 3 class.«goto» []
 unfolding rules lookahead symbolsOf phraseSymbols rangeOf
-goto-is = record { tells = refl; alternative = refl; present = refl; no-range = refl; no-rows = refl; no-rule = refl; makes = λ s parent at n f h. goto-row s parent at n h }
+goto-is = record { tells = refl; alternative = refl; present = refl; no-faults = faultless refl refl refl; no-rows = refl; no-rule = refl; makes = λ s parent at n f h. goto-row s parent at n h }
 
 pub checkbox-is : Statement CHECKBOX <item> 4 class.«checkbox» []
 unfolding rules lookahead symbolsOf phraseSymbols rangeOf
-checkbox-is = record { tells = refl; alternative = refl; present = refl; no-range = refl; no-rows = refl; no-rule = refl; makes = λ s parent at n f h. checkbox-row s parent at n h }
-
-pub numeric-is : Statement NUMERIC <item> 5 class.«numeric» []
-unfolding rules lookahead symbolsOf phraseSymbols rangeOf
-numeric-is = record { tells = refl; alternative = refl; present = refl; no-range = refl; no-rows = refl; no-rule = refl; makes = λ s parent at n f h. numeric-row s parent at n h }
+checkbox-is = record { tells = refl; alternative = refl; present = refl; no-faults = faultless refl refl refl; no-rows = refl; no-rule = refl; makes = λ s parent at n f h. checkbox-row s parent at n h }
 
 pub one-of-is : Statement ONE-OF-OPEN <item> 6 class.«oneof» (r <option> ∷ r <option>* ∷ symbolsOf ONE-OF-CLOSE)
 unfolding rules lookahead symbolsOf phraseSymbols rangeOf
-one-of-is = record { tells = refl; alternative = refl; present = refl; no-range = refl; no-rows = refl; no-rule = refl; makes = λ s parent at n f h. one-of-row s parent at n h }
+one-of-is = record { tells = refl; alternative = refl; present = refl; no-faults = faultless refl refl refl; no-rows = refl; no-rule = refl; makes = λ s parent at n f h. one-of-row s parent at n h }
 
 pub option-is : Statement OPTION <option> 0 class.«option» []
 unfolding rules lookahead symbolsOf phraseSymbols rangeOf
-option-is = record { tells = refl; alternative = refl; present = refl; no-range = refl; no-rows = refl; no-rule = refl; makes = λ s parent at n f h. option-row s parent at n h }
+option-is = record { tells = refl; alternative = refl; present = refl; no-faults = faultless refl refl refl; no-rows = refl; no-rule = refl; makes = λ s parent at n f h. option-row s parent at n h }
 
 pub form-is : Statement FORM-OPEN <form> 0 class.«form» (r <item-or-rule>* ∷ symbolsOf FORM-CLOSE)
 unfolding rules lookahead symbolsOf phraseSymbols rangeOf
-form-is = record { tells = refl; alternative = refl; present = refl; no-range = refl; no-rows = refl; no-rule = refl; makes = λ s parent at n f h. form-row s parent at n h }
+form-is = record { tells = refl; alternative = refl; present = refl; no-faults = faultless refl refl refl; no-rows = refl; no-rule = refl; makes = λ s parent at n f h. form-row s parent at n h }
 
 -- nothing stands under it
 pub flat-reads :

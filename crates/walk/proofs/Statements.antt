@@ -12,8 +12,9 @@ use Rattle.lexemes.specs.Classes.{semicolon, comma}
 use Rattle.rows.specs.Flags as flag
 use Rattle.ll1.specs.Trees.{token, Trees, nil, leaf, node, Fits, fits-nil, fits-leaf, fits-node}
 use Rattle.grammar.specs.Grammar.{rules}
-use Rattle.grammar.specs.Rules.{<rule>, <item>, <option>, <form>, <str>, <large>, <head>, <flags>?, <goto-flags>?, <truth-default>?, <step>?, <number-default>?, <option-flags>, <numeric-flags>?, <numeric-value>}
+use Rattle.grammar.specs.Rules.{<rule>, <item>, <option>, <form>, <str>, <large>, <head>, <flags>?, <goto-flags>?, <truth-default>?, <option-flags>}
 use Rattle.grammar.specs.Source.{numberAt}
+use Rattle.grammar.specs.Positions.{item·numeric}
 use Rattle.grammar.specs.Parts.{child, chosen, placeAt}
 use Rattle.answers.specs.Rows.{Draft}
 use Rattle.grammar.specs.Parts.{mark, when}
@@ -23,8 +24,9 @@ use Rattle.elements.specs.Entries.{entries}
 use Rattle.elements.specs.Symbols.{symbolsOf, phraseSymbols, SUBTITLE, TEXT, LABEL, GOTO, CHECKBOX, NUMERIC, ONE-OF-OPEN, OPTION, FORM-OPEN}
 use Rattle.fields.specs.Phrases.{markedValue, setIf, phraseDraft}
 use Rattle.walk.specs.Meanings.{_⧺_, rowsOwn, keptOf, phraseRow, Rowed, Opening}
-use Rattle.walk.proofs.Kept.{id-keeps, small-keeps, large-keeps, numeric-value-keeps, str-keeps, head-keeps, flags-keeps, numeric-flags-keeps}
-use Rattle.walk.proofs.Kept.{goto-flags-keeps, truth-keeps, step-keeps, default-keeps, option-flags-keeps}
+use Rattle.walk.proofs.Kept.{id-keeps, small-keeps, large-keeps, str-keeps, head-keeps, flags-keeps}
+use Rattle.walk.proofs.Kept.{goto-flags-keeps, truth-keeps, option-flags-keeps}
+use Rattle.walk.proofs.Numerics.{NumericKept, numeric-keeps}
 
 -- ---- entries that may be absent
 
@@ -105,27 +107,23 @@ module _ (s : List ℕ) (parent at n : ℕ) where
         half-truth (eqb i₄ 1) (eqb (chosen 2 c₄) 0),
       )
 
-  pub numeric-row : {f : Trees} → Fits rules (symbolsOf NUMERIC) f → Makes <item> 5 f
-  unfolding symbolsOf phraseSymbols keptOf phraseRow phraseDraft markedValue rowsOwn _⧺_ entries
-  numeric-row (fits-leaf (fits-node {i = i₁} {c = c₁} e₁ h₁ (fits-leaf {p = p₂} (fits-node {i = i₃} {c = c₃} e₃ h₃ (fits-leaf {p = p₄} (fits-leaf {p = p₅} (fits-node {i = i₆} {c = c₆} e₆ h₆ (fits-leaf {p = p₇} (fits-leaf {p = p₈} (fits-leaf {p = p₉} (fits-node {i = j₀} {c = d₀} f₀ k₀ (fits-leaf {p = q₁} (fits-node {i = j₂} {c = d₂} f₂ k₂ (fits-node {i = j₃} {c = d₃} f₃ k₃ (fits-leaf {p = q₄} (fits-leaf {p = p} fits-nil)))))))))))))))) g =
-      let last = leaf (token class.«endnumeric» q₄) (leaf (token semicolon p) nil) in
-      let default = node <number-default>? j₃ d₃ last in
-      let step = leaf (token comma q₁) (node <step>? j₂ d₂ default) in
-      let maximum = leaf (token comma p₇) (leaf (token class.«maximum» p₈) (leaf (token class.«=» p₉) (node <numeric-value> j₀ d₀ step))) in
-      let minimum = leaf (token class.«minimum» p₄) (leaf (token class.«=» p₅) (node <numeric-value> i₆ c₆ maximum)) in
-      rw (
-        head-keeps (numberAt s) i₁ _ c₁ e₁ h₁ (leaf (token comma p₂) (node <numeric-flags>? i₃ c₃ minimum)),
-        numeric-flags-keeps i₃ _ c₃ e₃ h₃ minimum,
-        numeric-value-keeps i₆ _ c₆ e₆ h₆ maximum,
-        numeric-value-keeps j₀ _ d₀ f₀ k₀ step,
-        step-keeps j₂ _ d₂ f₂ k₂ default,
-        default-keeps j₃ _ d₃ f₃ k₃ last,
-        own-number c₁,
-        flags-low c₃,
-        set-there (eqb j₃ 1) (placeAt 0 (child 2 d₃)) flag.HAS-DEFAULT,
-        value-there (numberAt s) (eqb j₂ 1) (placeAt 0 (child 2 d₂)),
-        value-there (numberAt s) (eqb j₃ 1) (placeAt 0 (child 2 d₃)),
-      )
+  pub numeric-row : {f : Trees} → Fits rules (symbolsOf NUMERIC) f → Makes <item> item·numeric f
+  unfolding symbolsOf phraseSymbols keptOf phraseRow phraseDraft markedValue rowsOwn _⧺_
+  numeric-row h = by (numeric-keeps (numberAt s) h) h
+    where
+      by : {f : Trees} → NumericKept (numberAt s) f → Fits rules (symbolsOf NUMERIC) f → Makes <item> item·numeric f
+      by k
+          (fits-leaf (fits-node {c = c₁} e₁ h₁ (fits-leaf (fits-node e₃ h₃ (fits-leaf (fits-leaf (fits-node e₆ h₆ (fits-leaf (fits-leaf (fits-leaf (fits-node f₀ k₀
+          (fits-leaf (fits-node {i = j₂} {c = d₂} f₂ k₂ (fits-node {i = j₃} {c = d₃} f₃ k₃ (fits-leaf (fits-leaf fits-nil)))))))))))))))) g =
+          rw (
+            k .entries-are,
+            k .holds .flags-are,
+            k .holds .column-is,
+            own-number c₁,
+            set-there (eqb j₃ 1) (placeAt 0 (child 2 d₃)) flag.HAS-DEFAULT,
+            value-there (numberAt s) (eqb j₂ 1) (placeAt 0 (child 2 d₂)),
+            value-there (numberAt s) (eqb j₃ 1) (placeAt 0 (child 2 d₃)),
+          )
 
   pub one-of-row : {f : Trees} → Fits rules (symbolsOf ONE-OF-OPEN) f → Makes <item> 6 f
   unfolding symbolsOf phraseSymbols keptOf phraseRow phraseDraft markedValue rowsOwn _⧺_ entries

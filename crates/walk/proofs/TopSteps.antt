@@ -25,7 +25,9 @@ use Rattle.grammar.specs.Source.{sourceTokens}
 use Rattle.grammar.specs.Ranges.{rangeOf}
 use Rattle.answers.specs.Answer.{drafts}
 use Rattle.phrases.specs.Stream.{stream, refusal, resume}
-use Rattle.elements.specs.Marks.{marked}
+use Rattle.elements.specs.Marks.{nothingNoted}
+use Rattle.elements.proofs.MarkLaws.{second-noted, outside-noted}
+use Rattle.elements.specs.declared.noted.Noted.{Noted}
 use Rattle.elements.specs.Symbols.{symbolsOf, phraseSymbols, FORM-SET-CLOSE}
 use Rattle.phrases.proofs.Streams.{stream-source, stream-end, stream-first, stream-few, rest, within-at}
 use Rattle.phrases.proofs.Resume.{resume-on, resume-no}
@@ -37,6 +39,7 @@ use Rattle.walk.specs.declared.Outcome.{Outcome}
 use Rattle.walk.specs.Meanings.{Counted, Opening, rowsIn}
 use Rattle.walk.specs.Walked.{Room, Walked, Closes, starting, setOpen, WalkedUnder}
 use Rattle.walk.specs.Whole.{refusalNumber, refusalPlace, WalkedWhole, Walks, refusing, ended}
+use Rattle.walk.proofs.TreeLaws.{faultless}
 use Rattle.walk.proofs.Walks.{walked-then, counted-joins, walked-node, counted-node, resume-enter}
 use Rattle.walk.proofs.MeaningLaws.{under-joins, Content, content-under, content-joins}
 use Rattle.walk.proofs.StatementSteps.{Told, closes-under}
@@ -57,7 +60,7 @@ unfolding rules rangeOf symbolsOf phraseSymbols
 source-walked {s} {k} {o} {a} {r′} {t₀} {t₁} {t₂} w v u =
     let forms : WalkedUnder s (depth 0 0) (r <form> ∷ r <form>* ∷ symbolsOf FORM-SET-CLOSE) 0 o r′ t₁ t₂ = walked-then (counted-joins (under-joins s)) v (closes-under refl refl u) in
     let whole : Walked s (depth 0 0) (setOpen ++ r <form> ∷ r <form>* ∷ symbolsOf FORM-SET-CLOSE) (Counted (Content s <source> 0 0)) (starting k) r′ t₀ t₂ = walked-then (counted-joins (content-joins s refl refl)) w forms in
-    walked-node 0 {M = Counted (Content s <source> 0 0)} refl refl
+    walked-node 0 {M = Counted (Content s <source> 0 0)} refl (faultless refl refl refl)
     (λ σ. resume-enter s (depth 0 0) <source> σ 0 k 0 (plain (setOpen ++ r <form> ∷ r <form>* ∷ symbolsOf FORM-SET-CLOSE)) refl refl (source-told (k .class)))
     (λ c ds n h m. counted-node (content-under s) m)
     whole
@@ -83,7 +86,7 @@ rows-few m w q =
 record Ends (s : List ℕ) (r : Outcome) (t t′ : List ℕ) : Type 0 where
   number : r .no ≡ refusalNumber (verdict (sourceTokens s))
   place : r .place ≡ refusalPlace s (verdict (sourceTokens s))
-  nothing : r .no ≢ 0 → (r .rows ≡ 0) × (r .rules ≡ 0) × (r .bad ≡ 0)
+  nothing : r .no ≢ 0 → (r .rows ≡ 0) × (r .rules ≡ 0) × (r .noted ≡ nothingNoted)
   derived : r .no ≡ 0 → WalkedWhole s r t t′
 
 module _ {s : List ℕ} {k : lex.Token} {r′ : State} {t₀ t₁ : List ℕ} (e : k ≡ tokenAt s 0) (w : WalkedUnder s (depth 0 0) (r <source> ∷ []) 0 (starting k) r′ t₀ t₁) (few : r′ .no ≡ 0 → r′ .rows ≤ length s) where
@@ -96,8 +99,8 @@ module _ {s : List ℕ} {k : lex.Token} {r′ : State} {t₀ t₁ : List ℕ} (e
 
   derive :
       verdict (sourceTokens s) ≡ accepted → r′ .token .class ≡ END → r′ .no ≡ 0
-      → WalkedWhole s (record { no = 0; place = 0; rows = r′ .rows; rules = r′ .rules; bad = r′ .bad }) t₀ t₁
-  unfolding drafts rowsIn marked
+      → WalkedWhole s (record { no = 0; place = 0; rows = r′ .rows; rules = r′ .rules; noted = r′ .noted }) t₀ t₁
+  unfolding drafts rowsIn
   derive v q z =
       let x = w .got z in
       let m = x .means .means in
@@ -109,7 +112,8 @@ module _ {s : List ℕ} {k : lex.Token} {r′ : State} {t₀ t₁ : List ℕ} (e
         table = x .table ∙ rw (m .rows);
         rows = x .rows ∙ rw (m .rows) (omega arith);
         rules = x .counted ∙ rw (m .rules) (omega arith);
-        bad = x .bad;
+        second = ap (λ (n : Noted). n .second) (x .noted) ∙ second-noted s (x .trees);
+        outside = ap (λ (n : Noted). n .outside) (x .noted) ∙ outside-noted s (x .trees);
         few = few z;
       }
 

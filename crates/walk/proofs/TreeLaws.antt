@@ -1,13 +1,14 @@
--- Trees beside one another: their leaves, fits, rows, rules and numbers out of range; and trees without rows.
+-- Trees beside one another: their leaves, fits, rows, rules and faults; and trees without rows.
 -- Assumes nothing.
 use Prim.Native.Nat.{ℕ, zero, suc, _+_}
 use mathlib.Core.Path.{_≡_, refl, sym, ap, _∙_}
-use mathlib.Core.Bool.{Bool, true, cond, not, _&&_, _||_}
+use mathlib.Core.Bool.{Bool, true, false, not, _&&_, _||_}
 use mathlib.Core.List.{List, [], _∷_, _++_, append-assoc}
 use mathlib.Core.Option.{some}
 use mathlib.Core.Logic.{_≢_}
 use native.Mathlib.Nat.{add-zero}
 use native.Mathlib.Omega.{arith}
+use lib.Dec.{eqb}
 use lib.ListN.{length, getD, getElem?, length-append}
 use borrow.Author.Tests.{ne-eqb}
 use Rattle.ll1.specs.Trees.{Token, Trees, nil, leaf, node, leaves, Symbol, terminal, nonterminal, Alternative, Grammar, alternativeOf, Fits, fits-nil, fits-leaf, fits-node}
@@ -16,11 +17,11 @@ use Rattle.ll1.specs.Test.{allAt}
 use Rattle.ll1.proofs.Basics.{clash, both, implied, allAt-at}
 use Rattle.grammar.specs.Grammar.{rules}
 use Rattle.grammar.specs.Notation.{t}
-use Rattle.grammar.specs.Rules.{<source>, <form>*, <form>, <item-or-rule>*, <rule>, <item>, <option>*, <item>*, <option>}
+use Rattle.grammar.specs.Rules.{<source>, <form>*, <form>, <item-or-rule>*, <rule>, <item>, <option>*, <item>*, <option>, <numeric-fl>}
 use Rattle.grammar.specs.Source.{numberAt}
-use Rattle.grammar.specs.Parts.{placeAt}
 use Rattle.answers.specs.Rows.{Draft, rulesIn, otherwise, parentIn}
-use Rattle.grammar.specs.Ranges.{keeps, rangeOf, outOfRange}
+use Rattle.grammar.specs.Ranges.{rangeOf, free, gathered, keeps, isNumeric, outOfRangeHere, secondsHere}
+use Rattle.elements.specs.Marks.{faultsHere, faults}
 use Rattle.walk.specs.Meanings.{_⧺_, rowsIn, rowsOwn}
 
 -- ---- beside one another
@@ -55,14 +56,21 @@ rules-beside nil g = omega arith
 rules-beside (leaf t f) g = rules-beside f g
 rules-beside (node A i c f) g = rw (rules-beside f g) (omega arith)
 
-pub out-beside : (s : List ℕ) (f g : Trees) → outOfRange s (f ⧺ g) ≡ outOfRange s f ++ outOfRange s g
-unfolding _⧺_ outOfRange
-out-beside s nil g = refl
-out-beside s (leaf t f) g = out-beside s f g
-out-beside s (node A i c f) g =
-    rw (out-beside s f g)
-    (ap (λ (l : List ℕ). cond (keeps s (rangeOf A) (placeAt 0 c)) [] (placeAt 0 c ∷ []) ++ l) (sym (append-assoc (outOfRange s c) (outOfRange s f) (outOfRange s g)))
-    ∙ sym (append-assoc (cond (keeps s (rangeOf A) (placeAt 0 c)) [] (placeAt 0 c ∷ [])) (outOfRange s c ++ outOfRange s f) (outOfRange s g)))
+pub faults-beside : (s : List ℕ) (f g : Trees) → faults s (f ⧺ g) ≡ faults s f ++ faults s g
+unfolding _⧺_ faults gathered
+faults-beside s nil g = refl
+faults-beside s (leaf t f) g = faults-beside s f g
+faults-beside s (node A i c f) g = rw (faults-beside s f g) (simp append-assoc)
+
+-- ---- trees without faults of their own
+
+pub record Faultless (A i : ℕ) : Type 0 where
+  pub none : (s : List ℕ) (c : Trees) → faultsHere s A i c ≡ []
+
+-- those of a rule that has no range, but for a numeric and its FL
+pub faultless : {A i : ℕ} → rangeOf A ≡ free → eqb A <numeric-fl> ≡ false → isNumeric A i ≡ false → Faultless A i
+unfolding faultsHere secondsHere outOfRangeHere keeps
+faultless e f g = record { none = λ s c. rw (e, f, g) }
 
 -- ---- rows
 

@@ -27,18 +27,20 @@ use Rattle.grammar.specs.Lookahead.{lookahead}
 use Rattle.grammar.specs.Derivation.{tooDeep}
 use Rattle.grammar.specs.Reading.{verdictFrom}
 use Rattle.answers.specs.Rows.{Draft}
-use Rattle.grammar.specs.Ranges.{rangeOf, free, outOfRange}
+use Rattle.grammar.specs.Ranges.{gathered}
 use Rattle.answers.specs.Drafts.{encoded}
 use Rattle.phrases.specs.Stream.{stream, refusal, resume}
 use Rattle.phrases.proofs.Streams.{stream-on, stream-end, stream-first, rest, within-at}
-use Rattle.elements.proofs.MarkLaws.{marked-append, marked-none}
+use Rattle.elements.specs.declared.noted.Noted.{Noted}
+use Rattle.elements.specs.Marks.{faultsHere, faults, noting}
+use Rattle.elements.proofs.MarkLaws.{noting-append, noting-none}
 use Rattle.phrases.proofs.Resume.{resume-on, resume-no, resume-off}
 use Rattle.grammar.proofs.Equations.{verdict-take, verdict-deep, verdict-in, verdict-enter, verdict-skip, verdict-skip-end}
-use Rattle.elements.proofs.TreeLaws.{out-node}
+use Rattle.elements.proofs.TreeLaws.{faults-of}
 use Rattle.walk.specs.declared.State.{State}
 use Rattle.walk.specs.Meanings.{_⧺_, Meaning, Counted, Silent}
 use Rattle.walk.specs.Walked.{Tree, Walked, passed, deep}
-use Rattle.walk.proofs.TreeLaws.{leaves-beside, fits-beside, out-beside}
+use Rattle.walk.proofs.TreeLaws.{leaves-beside, fits-beside, faults-beside, Faultless}
 
 due-append : (d : Depth) (α β : List Symbol) → dueAll d (α ++ β) ≡ dueAll d α ++ dueAll d β
 due-append d [] β = refl
@@ -74,7 +76,7 @@ module _ {s : List ℕ} {α β : List Symbol} {M N K : Meaning} {st r r′ : Sta
         table = y .table ∙ put-more t t₁ (st .rows) (r .rows) (x .drafts) (y .drafts) (x .table) (x .rows);
         rows = y .rows ∙ rw (length-append (x .drafts) (y .drafts), ← add-assoc, ← x .rows);
         counted = y .counted ∙ rw (← add-assoc, ← x .counted);
-        bad = y .bad ∙ rw (out-beside s f g, marked-append, ← x .bad);
+        noted = y .noted ∙ rw (faults-beside s f g, noting-append, ← x .noted);
       }
 
   pub walked-then : {d : Depth} → Walked s d α M st r t t₁ → Walked s d β N r r′ t₁ t₂ → Walked s d (α ++ β) K st r′ t t₂
@@ -116,7 +118,7 @@ walked-as turn w =
             table = x .table;
             rows = x .rows;
             counted = x .counted;
-            bad = x .bad;
+            noted = x .noted;
           };
     }
 
@@ -132,7 +134,7 @@ pub walked-off : {s : List ℕ} {d : Depth} (α : List Symbol) (M : Meaning) {st
 walked-off {s} {d} α M {st} h = record { verdict = λ σ. resume-off s (dueAll d α ++ σ) σ (st .no) (st .token) h; within = λ w. w; got = λ q. absurd (h q) }
 
 pub walked-nil : (s : List ℕ) (d : Depth) {st : State} {t : List ℕ} → Walked s d [] (Counted Silent) st st t t
-unfolding put outOfRange
+unfolding put faults gathered
 walked-nil s d {st} {t} =
     record {
       verdict = λ σ. refl;
@@ -149,7 +151,7 @@ walked-nil s d {st} {t} =
             table = refl;
             rows = sym (add-zero (st .rows));
             counted = sym (add-zero (st .rules));
-            bad = sym (marked-none (st .bad));
+            noted = sym (noting-none (st .noted));
           };
     }
 
@@ -166,7 +168,7 @@ module _ (s : List ℕ) (d : Depth) (k : ℕ) (st : State) (here : st .no ≡ 0)
   pub token-walked :
       {M : Meaning} {x : List ℕ}
       → tooDeep d ≡ false → M (st .rows) (st .rules) (leaf (token k (st .token .start)) nil) [] 0 → Walked s d (t k ∷ []) M st (passed s st) x x
-  unfolding put outOfRange
+  unfolding put faults gathered
   token-walked o m =
       let on = stream-on s (st .token) (omega arith) in
       record {
@@ -184,7 +186,7 @@ module _ (s : List ℕ) (d : Depth) (k : ℕ) (st : State) (here : st .no ≡ 0)
               table = refl;
               rows = sym (add-zero (st .rows));
               counted = sym (add-zero (st .rules));
-              bad = sym (marked-none (st .bad));
+              noted = sym (noting-none (st .noted));
             };
       }
 
@@ -230,15 +232,24 @@ module _ (s : List ℕ) (d : Depth) (A : ℕ) (σ : List Due) (n : ℕ) (k : lex
       by (yes q) = rw (stream-end s k q) (verdict-skip-end d A σ u)
       by (no q) = rw (stream-first s k q) (verdict-skip d A σ (k .class) (k .start) (rest s k) w u)
 
--- a tree of rule A by its alternative
-pub walked-node :
-    {s : List ℕ} {d : Depth} {A : ℕ} (i : ℕ) {a : Alternative} {M K : Meaning} {st r′ : State} {t t′ : List ℕ}
-    → alternativeOf rules A i ≡ some a → rangeOf A ≡ free
+-- the faults of a tree's own come after those under it
+own-faults : (s : List ℕ) (A i : ℕ) (c : Trees) → faults s (node A i c nil) ≡ faults s c ++ faultsHere s A i c
+unfolding faults gathered
+own-faults s A i c = faults-of s A i c nil ∙ ap (_++_ (faults s c)) (append-nil (faultsHere s A i c))
+
+-- at the same token, with other faults noted
+abbrev pub noteAt : State → Noted → State
+noteAt st n = record { no = st .no; token = st .token; rows = st .rows; rules = st .rules; noted = n }
+
+-- a tree of rule A by its alternative, after which its own faults are noted
+pub walked-noting :
+    {s : List ℕ} {d : Depth} {A : ℕ} (i : ℕ) {a : Alternative} {M K : Meaning} {st r′ : State} {n : Noted} {t t′ : List ℕ}
+    → alternativeOf rules A i ≡ some a
+    → ((c : Trees) (ds : List Draft) (k : ℕ) → Fits rules (a .symbols) c → M (st .rows) (st .rules) c ds k → n ≡ noting (r′ .noted) (faultsHere s A i c))
     → ((σ : List Due) → resume s (due d (r A) ∷ σ) (st .no) (st .token) ≡ resume s (opened d a ++ σ) (st .no) (st .token))
     → ((c : Trees) (ds : List Draft) (k : ℕ) → Fits rules (a .symbols) c → M (st .rows) (st .rules) c ds k → K (st .rows) (st .rules) (node A i c nil) ds k)
-    → Walked s (deeper d (a .opens)) (a .symbols) M st r′ t t′ → Walked s d (r A ∷ []) K st r′ t t′
-unfolding outOfRange
-walked-node {s} {d} {A} i {a} {M} {K} {st} {r′} {t} {t′} e f enter turn w =
+    → Walked s (deeper d (a .opens)) (a .symbols) M st r′ t t′ → Walked s d (r A ∷ []) K st (noteAt r′ n) t t′
+walked-noting {s} {d} {A} i {a} {M} {K} {st} {r′} {n} {t} {t′} e own enter turn w =
     record {
       verdict = λ σ. enter σ ∙ w .verdict σ;
       within = w .within;
@@ -255,9 +266,18 @@ walked-node {s} {d} {A} i {a} {M} {K} {st} {r′} {t} {t′} e f enter turn w =
             table = x .table;
             rows = x .rows;
             counted = x .counted;
-            bad = x .bad ∙ rw (out-node s A i (x .trees) nil f, append-nil (outOfRange s (x .trees)));
+            noted = own (x .trees) (x .drafts) (x .count) (x .fits) (x .means) ∙ rw (own-faults s A i (x .trees), noting-append, ← x .noted);
           };
     }
+
+-- one without faults of its own
+pub walked-node :
+    {s : List ℕ} {d : Depth} {A : ℕ} (i : ℕ) {a : Alternative} {M K : Meaning} {st r′ : State} {t t′ : List ℕ}
+    → alternativeOf rules A i ≡ some a → Faultless A i
+    → ((σ : List Due) → resume s (due d (r A) ∷ σ) (st .no) (st .token) ≡ resume s (opened d a ++ σ) (st .no) (st .token))
+    → ((c : Trees) (ds : List Draft) (k : ℕ) → Fits rules (a .symbols) c → M (st .rows) (st .rules) c ds k → K (st .rows) (st .rules) (node A i c nil) ds k)
+    → Walked s (deeper d (a .opens)) (a .symbols) M st r′ t t′ → Walked s d (r A ∷ []) K st r′ t t′
+walked-node {s} i {r′ = r′} e free enter turn w = walked-noting i e (λ c ds k h m. rw (free .none s c) (sym (noting-none (r′ .noted)))) enter turn w
 
 pub counted-node :
     {A i : ℕ} {M K : Meaning} {at n : ℕ} {c : Trees} {ds : List Draft} {k : ℕ}

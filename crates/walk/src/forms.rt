@@ -77,13 +77,14 @@ pub fn open_form_set(src: &[u8], table: &mut [u64]) -> State
     let mut low = [0; KEPT];
     let e = guid_end(src, c, &mut low);
     let token = e.token;
+    let noted = e.noted;
     if e.no != 0 {
         return State {
             no: e.no,
             token,
             rows: 0,
             rules: 0,
-            noted: e.noted,
+            noted,
         };
     }
     rows::put_row(table, 0, form_set_row(src, first.start, high, low));
@@ -92,6 +93,6 @@ pub fn open_form_set(src: &[u8], table: &mut [u64]) -> State
         token,
         rows: 1,
         rules: 0,
-        noted: e.noted,
+        noted,
     }
 }

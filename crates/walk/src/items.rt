@@ -6,18 +6,20 @@ use crate::starts::starts_item;
 use crate::steps::at_end;
 use crate::steps::close;
 use crate::steps::flat;
-use crate::steps::numeric;
+use crate::steps::put_phrase_row;
 use crate::steps::too_deep;
 use crate::steps::word;
 use elements::KEPT;
+use elements::noted::with_outside;
 use elements::phrase;
+use fields::first_oversized;
 use fields::rule_row;
 use lexemes::classes::*;
 ghost use mathlib.Core.Path.{_≡_};
 ghost use mathlib.Core.Bool.{true};
 ghost use mathlib.Core.List.{[], _∷_};
 ghost use Prim.Native.Nat.{_-_, _≤_};
-ghost use Rattle.lexemes.specs.Classes.{«oneof», «rule»};
+ghost use Rattle.lexemes.specs.Classes.{«numeric», «oneof», «rule»};
 ghost use Rattle.ll1.specs.Trees.{depth};
 ghost use Rattle.grammar.specs.Notation.{r};
 ghost use Rattle.grammar.specs.Rules.{<item>, <rule>, <option>, <option>*};
@@ -54,6 +56,29 @@ fn one_of(src: &[u8], table: &mut [u64], s: State, parent: usize) -> State
     close(src, all, phrase::ONE_OF_CLOSE)
 }
 
+// A numeric, with its row; that a number does not fit its size is noted.
+fn numeric(src: &[u8], table: &mut [u64], s: State, parent: usize) -> State
+    requires { ⌜ Room (now src) s × (s .token .class ≡ «numeric») ⌝ }
+    ensures { λ s′. ⌜ ReadsUnder (now (src .entry)) (r <item> ∷ []) parent s s′ (now (table .entry)) (now (table .exit)) ⌝ }
+{
+    let first = s.token;
+    let mut kept = [0; KEPT];
+    let c = phrases::read(src, s.no, first, s.noted, phrase::NUMERIC, &mut kept);
+    if c.no != 0 {
+        return at_end(s, c);
+    }
+    put_phrase_row(src, table, s.rows, first, parent, kept);
+    let token = c.token;
+    let noted = with_outside(c.noted, first_oversized(src, kept) as usize);
+    State {
+        no: 0,
+        token,
+        rows: s.rows + 1,
+        rules: s.rules,
+        noted,
+    }
+}
+
 // A rule's word, name and comma, and its row.
 fn open_rule(src: &[u8], table: &mut [u64], s: State, parent: usize) -> State
     requires { ⌜ Room (now src) s ⌝ }
@@ -66,6 +91,7 @@ fn open_rule(src: &[u8], table: &mut [u64], s: State, parent: usize) -> State
         return at_end(s, c);
     }
     let token = c.token;
+    let noted = c.noted;
     let own = s.rules + 1;
     rows::put_row(
         table,
@@ -77,7 +103,7 @@ fn open_rule(src: &[u8], table: &mut [u64], s: State, parent: usize) -> State
         token,
         rows: s.rows + 1,
         rules: own,
-        noted: c.noted,
+        noted,
     }
 }
 

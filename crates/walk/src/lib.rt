@@ -68,12 +68,13 @@ fn finish(src: &[u8], s: State) -> Outcome
     if class != END {
         return refusing(SYNTAX, start);
     }
+    let noted = s.noted;
     Outcome {
         no: 0,
         place: 0,
         rows: s.rows,
         rules: s.rules,
-        noted: s.noted,
+        noted,
     }
 }
 

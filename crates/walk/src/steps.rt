@@ -1,9 +1,6 @@
 // The smallest steps of a walk.
 use crate::State;
 use elements::KEPT;
-use elements::noted::with_outside;
-use elements::phrase;
-use fields::first_oversized;
 use fields::phrase_row;
 use fields::word_row;
 use lex::Token;
@@ -12,11 +9,10 @@ ghost use mathlib.Core.Path.{_≡_};
 ghost use mathlib.Core.Bool.{false};
 ghost use mathlib.Core.List.{[], _∷_};
 ghost use Prim.Native.Nat.{_+_, _<_, _^_};
-ghost use Rattle.lexemes.specs.Classes.{«numeric», BAD};
+ghost use Rattle.lexemes.specs.Classes.{BAD};
 ghost use Rattle.ll1.specs.Machine.{allNullable};
 ghost use Rattle.grammar.specs.Grammar.{rules};
-ghost use Rattle.grammar.specs.Notation.{t, r};
-ghost use Rattle.grammar.specs.Rules.{<item>};
+ghost use Rattle.grammar.specs.Notation.{t};
 ghost use Rattle.grammar.specs.Source.{numberAt};
 ghost use Rattle.answers.specs.Drafts.{encoded};
 ghost use Rattle.rows.specs.Table.{withRow};
@@ -24,7 +20,7 @@ ghost use Rattle.fields.specs.Phrases.{kept, phraseDraft};
 ghost use Rattle.phrases.specs.Stream.{Within};
 ghost use Rattle.elements.specs.Symbols.{symbolsOf};
 ghost use Rattle.walk.specs.Meanings.{Counted, Worded};
-ghost use Rattle.walk.specs.Walked.{Room, Reads, Closes, WithRow, passed, closed, deep, ReadsUnder, ReadsRow};
+ghost use Rattle.walk.specs.Walked.{Room, Reads, Closes, WithRow, passed, closed, deep, ReadsRow};
 
 // The refusal of a depth too many (document 01, No. 4).
 const DEPTH: u64 = 4;
@@ -34,12 +30,13 @@ pub fn too_deep(s: State) -> State
     ensures { λ r. ⌜ r ≡ deep s ⌝ }
 {
     let token = s.token;
+    let noted = s.noted;
     State {
         no: DEPTH,
         token,
         rows: s.rows,
         rules: s.rules,
-        noted: s.noted,
+        noted,
     }
 }
 
@@ -48,12 +45,13 @@ pub fn past(src: &[u8], s: State) -> State
     ensures { λ r. ⌜ r ≡ passed (now (src .entry)) s ⌝ }
 {
     let next = lex::token_at(src, s.token.end);
+    let noted = s.noted;
     State {
         no: s.no,
         token: next,
         rows: s.rows,
         rules: s.rules,
-        noted: s.noted,
+        noted,
     }
 }
 
@@ -62,12 +60,13 @@ pub fn at_end(s: State, c: Cursor) -> State
     ensures { λ r. ⌜ r ≡ closed s c ⌝ }
 {
     let token = c.token;
+    let noted = c.noted;
     State {
         no: c.no,
         token,
         rows: s.rows,
         rules: s.rules,
-        noted: c.noted,
+        noted,
     }
 }
 
@@ -84,7 +83,7 @@ pub fn close(src: &[u8], s: State, phrase: u8) -> State
 }
 
 // Writes the row of a phrase that starts with the token, where a whole one fits; else it is not made.
-fn put_phrase_row(
+pub fn put_phrase_row(
     src: &[u8],
     table: &mut [u64],
     row: usize,
@@ -112,34 +111,13 @@ pub fn flat(src: &[u8], table: &mut [u64], s: State, parent: usize, phrase: u8) 
     }
     put_phrase_row(src, table, s.rows, first, parent, kept);
     let token = c.token;
+    let noted = c.noted;
     State {
         no: 0,
         token,
         rows: s.rows + 1,
         rules: s.rules,
-        noted: c.noted,
-    }
-}
-
-// A numeric, with its row; that a number does not fit its size is noted.
-pub fn numeric(src: &[u8], table: &mut [u64], s: State, parent: usize) -> State
-    requires { ⌜ Room (now src) s × (s .token .class ≡ «numeric») ⌝ }
-    ensures { λ s′. ⌜ ReadsUnder (now (src .entry)) (r <item> ∷ []) parent s s′ (now (table .entry)) (now (table .exit)) ⌝ }
-{
-    let first = s.token;
-    let mut kept = [0; KEPT];
-    let c = phrases::read(src, s.no, first, s.noted, phrase::NUMERIC, &mut kept);
-    if c.no != 0 {
-        return at_end(s, c);
-    }
-    put_phrase_row(src, table, s.rows, first, parent, kept);
-    let token = c.token;
-    State {
-        no: 0,
-        token,
-        rows: s.rows + 1,
-        rules: s.rules,
-        noted: with_outside(c.noted, first_oversized(src, kept) as usize),
+        noted,
     }
 }
 
@@ -153,12 +131,13 @@ pub fn with_row(table: &mut [u64], s: State, parent: usize, word: Token) -> Stat
     }
     rows::put_row(table, s.rows, word_row(word, parent));
     let token = s.token;
+    let noted = s.noted;
     State {
         no: 0,
         token,
         rows: s.rows + 1,
         rules: s.rules,
-        noted: s.noted,
+        noted,
     }
 }
 

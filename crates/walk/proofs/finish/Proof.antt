@@ -29,7 +29,7 @@ returns-3 c = rw (eq-eqb _ _ (c .before .before .if1 .left), ne-eqb _ _ (c .befo
 
 returns-4 : tie.Need-returns-4
 unfolding ended
-returns-4 c = rw (eq-eqb _ _ (c .before .if1 .left), eq-eqb _ _ (c .if3 .left))
+returns-4 c = rw (eq-eqb _ _ (c .before .before .if1 .left), eq-eqb _ _ (c .before .if3 .left))
 
 pub finish-spec : {M : Type 1} → statement M
 finish-spec =

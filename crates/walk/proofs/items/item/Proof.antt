@@ -4,7 +4,7 @@ use mathlib.Core.Path.{refl}
 use borrow.Author.Needs.{needs}
 use Rattle.grammar.specs.Grammar.{rules}
 use Rattle.elements.specs.Symbols.{symbolsOf, phraseSymbols}
-use Rattle.walk.proofs.StatementSteps.{item-reads, subtitle-is, text-is, label-is, goto-is, checkbox-is, numeric-is}
+use Rattle.walk.proofs.StatementSteps.{item-reads, subtitle-is, text-is, label-is, goto-is, checkbox-is}
 use Rattle.walk.proofs.ItemSteps.{last-item}
 use Rattle.walk.proofs.items.item.Statement.{statement}
 use Rattle.walk.proofs.items.item.Tie as tie
@@ -39,11 +39,10 @@ flat-requires-5 c κs =
     let pre = c .before .before .before .before .pre in
     (pre .0, refl)
 
-flat-requires-6 : tie.Need-flat-requires-6
-unfolding rules symbolsOf phraseSymbols
-flat-requires-6 c κs =
+numeric-requires : tie.Need-numeric-requires
+numeric-requires c κs =
     let pre = c .before .before .before .before .pre in
-    (pre .0, refl)
+    (pre .0, c .before .match .keys6)
 
 one-of-requires : tie.Need-one-of-requires
 one-of-requires c κs =
@@ -94,9 +93,7 @@ same-length-6 : tie.Need-same-length-6
 same-length-6 c = search needs
 
 returns-6 : tie.Need-returns-6
-returns-6 c =
-    let match = c .before .before .before .before .match in
-    item-reads numeric-is (match .keys6) (c .before .before .flat6 .ensures)
+returns-6 c = search needs
 
 same-length-7 : tie.Need-same-length-7
 same-length-7 c = search needs
@@ -113,7 +110,7 @@ item-spec =
     flat-requires-3
     flat-requires-4
     flat-requires-5
-    flat-requires-6
+    numeric-requires
     one-of-requires
     same-length
     returns

@@ -24,10 +24,10 @@ returns c =
 
 add-own : tie.Need-add-own
 add-own c =
-    let read = c .before .before .before .before .before .read in
-    let pre = c .before .before .before .before .before .before .before .before .before .before .pre in
-    let good = c .before .before .before .before .before .before .before .before .before .before .good in
-    let z = phrase-passed _ (pre .within) (read .ensures) .got (c .before .before .if1 .left) .before in
+    let read = c .before .before .before .before .before .before .read in
+    let pre = c .before .before .before .before .before .before .before .before .before .before .before .pre in
+    let good = c .before .before .before .before .before .before .before .before .before .before .before .good in
+    let z = phrase-passed _ (pre .within) (read .ensures) .got (c .before .before .before .if1 .left) .before in
     omega (arith, pre .rows z, pre .rules z, good)
 
 array-read-rule-row : tie.Need-array-read-rule-row
@@ -39,12 +39,12 @@ rule-row-requires c κs = search needs
 put-row-requires : tie.Need-put-row-requires
 put-row-requires c κs = search needs
 
-add-t21 : tie.Need-add-t21
-add-t21 c =
-    let pre = c .before .before .before .before .before .before .before .before .before .before .before .before .before .before .before .before .pre in
-    let read = c .before .before .before .before .before .before .before .before .before .before .before .read in
-    let if1 = c .before .before .before .before .before .before .before .before .if1 in
-    let good = c .before .before .before .before .before .before .before .before .before .before .before .before .before .before .before .before .good in
+add-t22 : tie.Need-add-t22
+add-t22 c =
+    let pre = c .before .before .before .before .before .before .before .before .before .before .before .before .before .before .before .before .before .pre in
+    let read = c .before .before .before .before .before .before .before .before .before .before .before .before .read in
+    let if1 = c .before .before .before .before .before .before .before .before .before .if1 in
+    let good = c .before .before .before .before .before .before .before .before .before .before .before .before .before .before .before .before .before .good in
     omega (arith, pre .rows (phrase-passed _ (pre .within) (read .ensures) .got (if1 .left) .before), good)
 
 same-length : tie.Need-same-length
@@ -52,9 +52,9 @@ same-length c = search needs
 
 returns-2 : tie.Need-returns-2
 returns-2 c =
-    let pre = c .before .before .before .before .before .before .before .before .before .before .before .before .before .before .before .before .pre in
-    let read = c .before .before .before .before .before .before .before .before .before .before .before .read in
-    let if1 = c .before .before .before .before .before .before .before .before .if1 in
+    let pre = c .before .before .before .before .before .before .before .before .before .before .before .before .before .before .before .before .before .pre in
+    let read = c .before .before .before .before .before .before .before .before .before .before .before .before .read in
+    let if1 = c .before .before .before .before .before .before .before .before .before .if1 in
     let rule-row = c .before .before .before .before .rule-row in
     rule-on _ _ _ (phrase-passed _ (pre .within) (read .ensures)) (if1 .left) (rule-row .ensures) (c .before .before .before .put-row .ensures)
 
@@ -70,6 +70,6 @@ open-rule-spec =
     array-read-rule-row
     rule-row-requires
     put-row-requires
-    add-t21
+    add-t22
     same-length
     returns-2)

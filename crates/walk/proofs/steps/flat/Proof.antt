@@ -25,12 +25,12 @@ returns c =
 put-phrase-row-requires : tie.Need-put-phrase-row-requires
 put-phrase-row-requires c κs = search needs
 
-add-t17 : tie.Need-add-t17
-add-t17 c =
-    let pre = c .before .before .before .before .before .before .before .before .before .before .before .before .before .before .pre in
-    let read = c .before .before .before .before .before .before .before .before .before .read in
-    let if1 = c .before .before .before .before .before .before .if1 in
-    let good = c .before .before .before .before .before .before .before .before .before .before .before .before .before .before .good in
+add-t18 : tie.Need-add-t18
+add-t18 c =
+    let pre = c .before .before .before .before .before .before .before .before .before .before .before .before .before .before .before .pre in
+    let read = c .before .before .before .before .before .before .before .before .before .before .read in
+    let if1 = c .before .before .before .before .before .before .before .if1 in
+    let good = c .before .before .before .before .before .before .before .before .before .before .before .before .before .before .before .good in
     omega (arith, pre .0 .rows (phrase-passed _ (pre .0 .within) (read .ensures) .got (if1 .left) .before), good)
 
 same-length : tie.Need-same-length
@@ -38,10 +38,10 @@ same-length c = search needs
 
 returns-2 : tie.Need-returns-2
 returns-2 c =
-    let pre = c .before .before .before .before .before .before .before .before .before .before .before .before .before .before .pre in
-    let read = c .before .before .before .before .before .before .before .before .before .read in
-    let if1 = c .before .before .before .before .before .before .if1 in
-    let put-phrase-row = c .before .before .before .before .put-phrase-row in
+    let pre = c .before .before .before .before .before .before .before .before .before .before .before .before .before .before .before .pre in
+    let read = c .before .before .before .before .before .before .before .before .before .before .read in
+    let if1 = c .before .before .before .before .before .before .before .if1 in
+    let put-phrase-row = c .before .before .before .before .before .put-phrase-row in
     row-on _ _ _ (pre .1) (phrase-passed _ (pre .0 .within) (read .ensures)) (if1 .left) (put-phrase-row .ensures)
 
 pub flat-spec : {M : Type 1} → statement M
@@ -53,6 +53,6 @@ flat-spec =
     at-end-requires
     returns
     put-phrase-row-requires
-    add-t17
+    add-t18
     same-length
     returns-2)

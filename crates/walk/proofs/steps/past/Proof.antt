@@ -8,7 +8,7 @@ token-at-requires : tie.Need-token-at-requires
 token-at-requires c κs = search needs
 
 returns : tie.Need-returns
-returns c = rw (← c .token-at .ensures)
+returns c = rw (← c .before .token-at .ensures)
 
 pub past-spec : {M : Type 1} → statement M
 past-spec = tie.close (tie.spec token-at-requires returns)

@@ -1,5 +1,5 @@
--- Expressions as the resolved text prints them, with the fewest parentheses, and texts that do not fit (document 01, Resolved text;
--- docs/DECISIONS.md, D54 and D59 to D61), by computation.
+-- Expressions as the resolved text prints them, with the fewest parentheses, a numeric's flags, and texts that do not fit (document 01, Resolved text;
+-- document 02, W-204; docs/DECISIONS.md, D54 and D59 to D61), by computation.
 -- Assumes nothing.
 use mathlib.Core.Path.{_≡_, refl}
 use mathlib.Core.List.{List, [], _∷_, _++_, map}
@@ -11,7 +11,7 @@ use Rattle.answers.specs.Resolution.{Resolution}
 use Rattle.answers.proofs.Computed.{resolvedIn, textRead}
 use Rattle.answers.proofs.Decided.{framed-bytes}
 
--- an expression as a source writes it, and as its resolved text does
+-- an expression, or a numeric's flags, as a source writes it and as its resolved text does
 pub record Printing : Type 0 where
   pub written : String
   pub printed : String
@@ -41,14 +41,42 @@ printings =
 abbrev source : String → List ℕ
 source e = framed-bytes (bytes "rule A," ++ (bytes e ++ bytes " endrule;"))
 
-abbrev resolved : String → List ℕ
-resolved e =
+-- the frame's text with that of a fragment in it
+abbrev resolvedFrame : List ℕ → List ℕ
+resolvedFrame t =
     bytes "formset guid = { 0x00000001 , 0x0002 , 0x0003 , { 0x04 , 0x05 , 0x06 , 0x07 , 0x08 , 0x09 , 0x0a , 0x0b } } , title = STRING_TOKEN ( 2 ) , help = STRING_TOKEN ( 3 ) , form formid = 1 , title = STRING_TOKEN ( 4 ) ;\n"
-    ++ (bytes "rule R1 , " ++ (bytes e ++ bytes " endrule ;\nendform ;\nendformset ;\n"))
+    ++ (t ++ bytes "endform ;\nendformset ;\n")
+
+abbrev resolved : String → List ℕ
+resolved e = resolvedFrame (bytes "rule R1 , " ++ (bytes e ++ bytes " endrule ;\n"))
 
 pub printed-as-decided : map (λ x. textRead (source (x .written))) printings ≡ map (λ x. resolved (x .printed)) printings
 unfolding printings textRead
 printed-as-decided = refl
+
+-- ---- a numeric's flags: "writes size and display always, after the other flags" (W-204)
+
+unfoldable pub flagPrintings : List Printing
+flagPrintings =
+    "" becomes "NUMERIC_SIZE_8 | DISPLAY_UINT_DEC"
+    ∷ "flags=RESET_REQUIRED|READ_ONLY," becomes "READ_ONLY | RESET_REQUIRED | NUMERIC_SIZE_8 | DISPLAY_UINT_DEC"
+    ∷ "flags=DISPLAY_INT_DEC|INTERACTIVE|NUMERIC_SIZE_1," becomes "INTERACTIVE | NUMERIC_SIZE_1 | DISPLAY_INT_DEC"
+    ∷ "flags=NUMERIC_SIZE_2," becomes "NUMERIC_SIZE_2 | DISPLAY_UINT_DEC"
+    ∷ "flags=DISPLAY_UINT_HEX|NUMERIC_SIZE_4," becomes "NUMERIC_SIZE_4 | DISPLAY_UINT_HEX"
+    ∷ []
+
+abbrev numericSource : String → List ℕ
+numericSource f = framed-bytes (bytes "numeric prompt=STRING_TOKEN(5),help=STRING_TOKEN(6)," ++ (bytes f ++ bytes "minimum=1,maximum=0x05,step=2,endnumeric;"))
+
+abbrev numericResolved : String → List ℕ
+numericResolved f =
+    resolvedFrame (
+    bytes "numeric questionid = 1 , prompt = STRING_TOKEN ( 5 ) , help = STRING_TOKEN ( 6 ) , flags = "
+    ++ (bytes f ++ bytes " , minimum = 1 , maximum = 5 , step = 2 , endnumeric ;\n"))
+
+pub flags-printed : map (λ x. textRead (numericSource (x .written))) flagPrintings ≡ map (λ x. numericResolved (x .printed)) flagPrintings
+unfolding flagPrintings textRead
+flags-printed = refl
 
 -- ---- texts that do not fit
 

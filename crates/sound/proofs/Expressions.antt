@@ -77,7 +77,7 @@ spelled-placed left pending (node A i c f) b l p =
 
 -- ---- its rows
 
-operator-bare : (o : Operator) → isBare (operatorCode o) ≡ true
+pub operator-bare : (o : Operator) → isBare (operatorCode o) ≡ true
 unfolding isQuestion questions member
 operator-bare or = refl
 operator-bare and = refl
@@ -97,7 +97,7 @@ operator-bare multiply = refl
 operator-bare divide = refl
 operator-bare modulo = refl
 
-constant-bare : (c : Constant) → isBare (constantCode c) ≡ true
+pub constant-bare : (c : Constant) → isBare (constantCode c) ≡ true
 unfolding isQuestion questions member
 constant-bare true′ = refl
 constant-bare false′ = refl

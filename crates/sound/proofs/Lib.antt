@@ -7,3 +7,6 @@ pub mod Statements
 pub mod Options
 pub mod DraftsSound
 pub mod NameCount
+pub mod AllRows
+-- Document 02's W-204.
+pub mod SizedRows

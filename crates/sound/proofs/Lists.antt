@@ -1,7 +1,7 @@
 -- What holds of each element of a list, and numbers that a test tells apart.
 -- Assumes nothing.
 use mathlib.Core.Path.{_≡_}
-use mathlib.Core.List.{List, [], _∷_, _++_}
+use mathlib.Core.List.{List, [], _∷_, _++_, map}
 use mathlib.Core.Bool.{Bool, true, false}
 use Prim.Native.Nat.{ℕ, zero, suc}
 use lib.Dec.{eqb}
@@ -23,6 +23,11 @@ module _ {X : Type 0} where
     all-getD i none d = d
     all-getD zero (more h p) d = h
     all-getD (suc i) (more h p) d = all-getD i p d
+
+-- of the images
+pub all-map : {X Y : Type 0} {P : Y → Type 0} (f : X → Y) {l : List X} → All (λ x. P (f x)) l → All P (map f l)
+all-map f none = none
+all-map f (more h p) = more h (all-map f p)
 
 pub apart : (test : ℕ → Bool) (m n : ℕ) → test m ≡ true → test n ≡ false → eqb m n ≡ false
 apart test m n h l = ne-eqb m n (λ e. let q : test n ≡ true = rw e at h in clash cc)

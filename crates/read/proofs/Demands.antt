@@ -1,11 +1,11 @@
 -- Demands 1 and 3 of the functions `read` and `quick_check`: what their contracts say of every source and every table lent, in document 01's terms
--- with W-202's to W-204's, which are those of `answers`' `specs/Demand3`; and document 02's requests W-201 and W-203 of `read`.
+-- with W-202's to W-204's, which are those of `answers`' `specs/Demand3`; and document 02's requests W-201, W-203 and W-204 of `read`.
 -- Assumes nothing.
 use Prim.Native.Nat.{ℕ, _+_, _-_, _*_, _/_, _^_, _≤_, _<_}
 use mathlib.Core.Path.{_≡_, sym, ap, _∙_}
 use mathlib.Core.Logic.{_↔_, _≢_}
 use mathlib.Core.List.{List, []}
-use lib.ListN.{length, drop, replicate}
+use lib.ListN.{length, getD, drop, replicate}
 use borrow.Author.Tests.{ne-eqb}
 use borrow.Fn.Kinds.{Dens, endedOf}
 use contract.Lifetimes.{Lfts}
@@ -25,6 +25,8 @@ use Rattle.answers.specs.Forms.{columnOf, OfItsForm, Stray}
 use Rattle.answers.proofs.Answers.{passes-grammatical}
 use Rattle.answers.proofs.Demand3 as Demand3
 use Rattle.answers.proofs.OwnForm as OwnForm
+use Rattle.sound.specs.SizedRows.{ColumnTwelve}
+use Rattle.sound.proofs.SizedRows as SizedRows
 use Rattle.replies.specs.Replies.{positionOf, accepting, readReplied, readReply}
 use Rattle.replies.specs.Lines.{GivesLine}
 use Rattle.replies.proofs.Laws.{gives-line, read-replied-only}
@@ -83,8 +85,8 @@ module _ {s : List ℕ} {n : ℕ} {r : Answer} {t′ : List ℕ} (v : Reading s 
   -- ---- demand 3
 
   -- "For every source of at most 65,536 bytes and every table of at least as many whole rows as the source has bytes": accepted exactly when the
-  -- grammar derives it "and its depths, ranges, 255-rule limit, uniqueness, reference and choice rules hold", the reference rule by W-203, and no rule
-  -- reaches itself (W-202)
+  -- grammar derives it "and its depths, ranges, 255-rule limit, uniqueness, reference and choice rules hold", the reference rule by W-203, the ranges and choices by
+  -- W-204, no rule reaches itself (W-202) and no numeric has a second size or display word (W-204)
   pub accepted-exactly : length s ≤ LONGEST → length s * ROW ≤ n → (told r .number ≡ 0) ↔ ((tree : Trees) × Sound s tree)
   accepted-exactly short large = rw (v .answer) (Demand3.accepts-exactly s n short large)
 
@@ -97,6 +99,9 @@ module _ {s : List ℕ} {n : ℕ} {r : Answer} {t′ : List ℕ} (v : Reading s 
     accepted′ = sym number ∙ accepted
 
     module _ (tree : Trees) (sound : Sound s tree) where
+      short : length s ≤ LONGEST
+      short = passes-grammatical (Demand3.accepted-passes s n accepted′ tree (sound .derives)) .short
+
       -- the row count and the free count
       pub counts-exactly : told r ≡ accepting (length (drafts s tree)) (freeCount (numbered (ownNumbers (drafts s tree)))) 0
       unfolding positionOf
@@ -114,9 +119,7 @@ module _ {s : List ℕ} {n : ℕ} {r : Answer} {t′ : List ℕ} (v : Reading s 
 
       -- "The i-th question without a written number gets the i-th smallest number, from 1 up, that no question writes, later lines included"
       pub numbers-in-table : GetsSmallest (ownNumbers (drafts s tree)) (questionNumbers (rowsFrom t′ 0 (length (drafts s tree))))
-      numbers-in-table =
-          let passes = Demand3.accepted-passes s n accepted′ tree (sound .derives) in
-          rw rows-in-table (Demand3.numbers-smallest s tree (sound .derives) (passes-grammatical passes .short))
+      numbers-in-table = rw rows-in-table (Demand3.numbers-smallest s tree (sound .derives) short)
 
       -- ---- W-203
 
@@ -125,6 +128,13 @@ module _ {s : List ℕ} {n : ℕ} {r : Answer} {t′ : List ℕ} (v : Reading s 
           (i : ℕ) → i < length (drafts s tree) → columnOf (rowsFrom t′ 0 (length (drafts s tree))) column.CODE i ≡ code.RULE-REF
           → OfItsForm (rowsFrom t′ 0 (length (drafts s tree))) i
       of-its-form = rw rows-in-table (OwnForm.of-its-form s tree (sound .derives) (sound .depths) (sound .references))
+
+      -- ---- W-204
+
+      -- "column 12 holds size times 4 plus 0, 1 or 2 for the display .., and is 0 for other rows", each row of the table; of a numeric "Minimum, maximum,
+      -- step and default must fit the size", and they stand in its order
+      pub column-twelve : (i : ℕ) → ColumnTwelve (getD (rowsFrom t′ 0 (length (drafts s tree))) i [])
+      column-twelve = rw rows-in-table (SizedRows.sized-row s tree sound short)
 
     -- whatever table is lent, an accepted source has such a derivation, and its rows stand in the table
     pub accepted-rows :

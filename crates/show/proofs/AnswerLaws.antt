@@ -87,8 +87,8 @@ refusal-own (bad-choice p f) = (λ e. omega arith, λ e. omega arith)
 refusal-own (reaches-itself p f) = (λ e. omega arith, λ e. omega arith)
 
 -- 15 and 30 are no numbers of reading
-pub reading-own : (s : List ℕ) (n : ℕ) → (readAnswer s n .number ≢ 15) × (readAnswer s n .number ≢ 30)
-reading-own s n = own (answer-right s n)
+pub own-numbers : (s : List ℕ) (n : ℕ) → (readAnswer s n .number ≢ 15) × (readAnswer s n .number ≢ 30)
+own-numbers s n = own (answer-right s n)
   where
     own : {a : Answer} → Right s n a → (a .number ≢ 15) × (a .number ≢ 30)
     own (accepting p) = (λ e. omega arith, λ e. omega arith)

@@ -48,7 +48,7 @@ use Rattle.show.specs.Show.{shownBytes, goodFor, showAnswer, showReply, 
 use Rattle.show.specs.ShownRows.{unplaced}
 use Rattle.show.specs.FirstFault.{AllGood, FirstFault}
 use Rattle.show.proofs.AnswerLaws.{Shown, reading-refuses, answer-at-fault, fewer-bytes, rows-shown, shown-only, shown-right}
-use Rattle.show.proofs.AnswerLaws.{accepted-for, fault-for, few-for, reading-own}
+use Rattle.show.proofs.AnswerLaws.{accepted-for, fault-for, few-for, own-numbers}
 use Rattle.show.proofs.FaultLaws.{all-good, first-fault}
 use Rattle.show.proofs.ShowLaws.{none-bears-0, passes-bytes}
 use Rattle.show.proofs.show.Kinds as kinds
@@ -125,7 +125,7 @@ module _ {s answers : List ℕ} {n m : ℕ} {r : Answer} {t′ o′ : List ℕ} 
   pub fault-exactly : (told r .number ≡ 15) ↔ (Reads × ((k : ℕ) × FirstFault bears answers k))
   fault-exactly = (
     λ e.
-        let f = fault-for answers (goodFor s answers) m (readAnswer s n) (reading-own s n) right (sym number ∙ e) in
+        let f = fault-for answers (goodFor s answers) m (readAnswer s n) (own-numbers s n) right (sym number ∙ e) in
         (f .0, (goodFor s answers, first-exactly (f .0) (goodFor s answers) .1 (f .1, refl))),
     λ f. ap (λ (a : Reply). a .number) (fault-place (f .0) (f .1 .0) (f .1 .1)),
   )
@@ -142,7 +142,7 @@ module _ {s answers : List ℕ} {n m : ℕ} {r : Answer} {t′ o′ : List ℕ} 
   pub few-exactly : (told r .number ≡ 30) ↔ (Reads × AllGood bears answers × (m < readAnswer s n .rows))
   few-exactly = (
     λ e.
-        let f = few-for answers (goodFor s answers) m (readAnswer s n) (reading-own s n) right (sym number ∙ e) in
+        let f = few-for answers (goodFor s answers) m (readAnswer s n) (own-numbers s n) right (sym number ∙ e) in
         (f .0, all-exactly (f .0) .0 (f .1), f .2),
     λ f. ap (λ (a : Reply). a .number) (few-place f),
   )

@@ -67,7 +67,15 @@ numeric-enters s d σ n k e = resume-in s d <item> σ n k item·numeric (plain (
 module _ {s : List ℕ} {parent : ℕ} {st : State} {l : List ℕ} {c : Cursor} (k : st .token .class ≡ class.«numeric»)
     (p : Passed s (symbolsOf NUMERIC) (st .no) (st .token) (st .noted) (replicate KEPT 0) c l) where
   pub numeric-off : {t : List ℕ} → c .no ≢ 0 → ReadsUnder s (r <item> ∷ []) parent st (closed st c) t t
-  numeric-off h = record { walked = λ d o. record { verdict = λ σ. numeric-enters s d σ (st .no) (st .token) k ∙ p .verdict σ d o; within = p .within; got = λ q. absurd (h q) } }
+  numeric-off h =
+      record {
+        walked = λ d o.
+            record {
+              verdict = λ σ. numeric-enters s d σ (st .no) (st .token) k ∙ p .verdict σ d o;
+              within = p .within;
+              got = λ q. absurd (h q);
+            };
+      }
 
   pub numeric-on :
       {t t′ : List ℕ}
@@ -82,7 +90,9 @@ module _ {s : List ℕ} {parent : ℕ} {st : State} {l : List ℕ} {c : Cursor} 
             (λ σ. numeric-enters s d σ (st .no) (st .token) k)
             (λ f ds n h m.
             counted-node
-            (λ x. content-under s (opening-content s refl h (makes-opening s parent (st .rows) (st .rules) refl (numeric-row s parent (st .rows) (st .rules) h) x)))
+            (λ x.
+            let makes = numeric-row s parent (st .rows) (st .rules) h in
+            content-under s (opening-content s refl h (makes-opening s parent (st .rows) (st .rules) refl makes x)))
             (m .means))
             (row-held s parent st refl p z e .walked d o);
       }
@@ -128,11 +138,35 @@ pub record ConditionWord (k : ℕ) : Type 0 where
 condition-words : Each ConditionWord conditionWords
 unfolding rules lookahead rangeOf symbolsOf phraseSymbols wordCodes codeOf rowsOwn rowsFor
 condition-words = (
-  record { known = omega arith; tells = refl; in-form = refl; inside = refl; alternative = refl; no-faults = faultless refl refl refl; own = λ s parent at n p i c g. refl },
+  record {
+    known = omega arith;
+    tells = refl;
+    in-form = refl;
+    inside = refl;
+    alternative = refl;
+    no-faults = faultless refl refl refl;
+    own = λ s parent at n p i c g. refl;
+  },
   (
-    record { known = omega arith; tells = refl; in-form = refl; inside = refl; alternative = refl; no-faults = faultless refl refl refl; own = λ s parent at n p i c g. refl },
+    record {
+      known = omega arith;
+      tells = refl;
+      in-form = refl;
+      inside = refl;
+      alternative = refl;
+      no-faults = faultless refl refl refl;
+      own = λ s parent at n p i c g. refl;
+    },
     (
-      record { known = omega arith; tells = refl; in-form = refl; inside = refl; alternative = refl; no-faults = faultless refl refl refl; own = λ s parent at n p i c g. refl },
+      record {
+        known = omega arith;
+        tells = refl;
+        in-form = refl;
+        inside = refl;
+        alternative = refl;
+        no-faults = faultless refl refl refl;
+        own = λ s parent at n p i c g. refl;
+      },
       tt,
     ),
   ),

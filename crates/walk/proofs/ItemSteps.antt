@@ -43,7 +43,7 @@ use Rattle.walk.specs.Meanings.{_⧺_, keptOf, Counted, Under, Opening, 
 use Rattle.walk.specs.Starts.{itemWords, startsItem, conditionWords, isCondition}
 use Rattle.walk.specs.Walked.{Walked, Reads, Closes, closed, deep, listOf, conditionOf, OpensCondition, WalkedUnder, ReadsUnder, ReadsOperand}
 use Rattle.walk.proofs.TreeLaws.{Faultless, faultless}
-use Rattle.walk.proofs.Walks.{Joins, walked-then, counted-joins, walked-off, noteAt, walked-noting, walked-node, counted-node, resume-in, deep-walked}
+use Rattle.walk.proofs.Walks.{Joins, walked-then, counted-joins, walked-off, withNoted, walked-noting, walked-node, counted-node, resume-in, deep-walked}
 use Rattle.walk.proofs.MeaningLaws.{under-joins, opening-joins, Content, content-under, opening-content, content-joins}
 use Rattle.walk.proofs.StartLaws.{Each, one-of}
 use Rattle.walk.proofs.PhraseSteps.{rowed, Held, row-held}
@@ -56,7 +56,7 @@ use Rattle.walk.proofs.ListSteps.{list-more, items-are, rules-are, List
 
 -- with its row, and the first of its numbers noted that does not fit its size
 abbrev pub sizedAt : List ℕ → State → Cursor → List ℕ → State
-sizedAt s st c l = noteAt (rowed st c) (withOutside (c .noted) (firstOversized s (kept l)))
+sizedAt s st c l = withNoted (rowed st c) (withOutside (c .noted) (firstOversized s (kept l)))
 
 numeric-enters :
     (s : List ℕ) (d : Depth) (σ : List Due) (n : ℕ) (k : lex.Token)

@@ -73,6 +73,7 @@ part-holds = either-way (λ i c. Holds (when (eqb i 1) (numericEntry c)) c) refl
 
 -- ---- what the phrase keeps
 
+-- the entries in the words of the row's definition; that of [`flags =` FL `,`] has a name
 pub record NumericKept (number-at : ℕ → ℕ) (c : Trees) : Type 0 where
   pub entry : ℕ
   pub holds : Holds entry (child numeric·flags c)

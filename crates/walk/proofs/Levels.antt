@@ -67,10 +67,59 @@ pub record Level (n : ℕ) : Type 0 where
   pub no-atom-tail : eqb (tailRule n) <atom> ≡ false
   pub only : all (λ k. eqb (levelOf k) n) (joined (entryOf lookahead (tailRule n) .firsts)) ≡ true
 
+-- from what is computed of the rules
+level :
+    {n : ℕ}
+    → alternativeOf rules (levelRule n) 0 ≡ some (plain (r (levelRule (suc n)) ∷ r (tailRule n) ∷ []))
+    → single (entryOf lookahead (levelRule n) .firsts) ≡ true → nullable rules (levelRule n) ≡ false
+    → Faultless (levelRule n) 0 → eqb (levelRule n) <atom> ≡ false
+    → alternativeOf rules (tailRule n) 0 ≡ some (plain []) → nullable rules (tailRule n) ≡ true
+    → ((i : ℕ) → Faultless (tailRule n) i) → eqb (tailRule n) <atom> ≡ false
+    → all (λ k. eqb (levelOf k) n) (joined (entryOf lookahead (tailRule n) .firsts)) ≡ true → Level n
+level a b c d e f g h i j =
+    record {
+      operand = a;
+      alone = b;
+      present = c;
+      no-faults = d;
+      no-atom = e;
+      empty = f;
+      absent = g;
+      no-faults-tail = h;
+      no-atom-tail = i;
+      only = j;
+    }
+
 all-levels : Below Level LEVELS
 unfolding rules lookahead rangeOf operatorLevels levelOf
-all-levels =
-    ((record { operand = refl; alone = refl; present = refl; no-faults = faultless refl refl refl; no-atom = refl; empty = refl; absent = refl; no-faults-tail = λ i. faultless refl refl refl; no-atom-tail = refl; only = refl }), ((record { operand = refl; alone = refl; present = refl; no-faults = faultless refl refl refl; no-atom = refl; empty = refl; absent = refl; no-faults-tail = λ i. faultless refl refl refl; no-atom-tail = refl; only = refl }), ((record { operand = refl; alone = refl; present = refl; no-faults = faultless refl refl refl; no-atom = refl; empty = refl; absent = refl; no-faults-tail = λ i. faultless refl refl refl; no-atom-tail = refl; only = refl }), ((record { operand = refl; alone = refl; present = refl; no-faults = faultless refl refl refl; no-atom = refl; empty = refl; absent = refl; no-faults-tail = λ i. faultless refl refl refl; no-atom-tail = refl; only = refl }), ((record { operand = refl; alone = refl; present = refl; no-faults = faultless refl refl refl; no-atom = refl; empty = refl; absent = refl; no-faults-tail = λ i. faultless refl refl refl; no-atom-tail = refl; only = refl }), ((record { operand = refl; alone = refl; present = refl; no-faults = faultless refl refl refl; no-atom = refl; empty = refl; absent = refl; no-faults-tail = λ i. faultless refl refl refl; no-atom-tail = refl; only = refl }), ((record { operand = refl; alone = refl; present = refl; no-faults = faultless refl refl refl; no-atom = refl; empty = refl; absent = refl; no-faults-tail = λ i. faultless refl refl refl; no-atom-tail = refl; only = refl }), ((record { operand = refl; alone = refl; present = refl; no-faults = faultless refl refl refl; no-atom = refl; empty = refl; absent = refl; no-faults-tail = λ i. faultless refl refl refl; no-atom-tail = refl; only = refl }), ((record { operand = refl; alone = refl; present = refl; no-faults = faultless refl refl refl; no-atom = refl; empty = refl; absent = refl; no-faults-tail = λ i. faultless refl refl refl; no-atom-tail = refl; only = refl }), tt)))))))))
+all-levels = (
+  level refl refl refl (faultless refl refl refl) refl refl refl (λ i. faultless refl refl refl) refl refl,
+  (
+    level refl refl refl (faultless refl refl refl) refl refl refl (λ i. faultless refl refl refl) refl refl,
+    (
+      level refl refl refl (faultless refl refl refl) refl refl refl (λ i. faultless refl refl refl) refl refl,
+      (
+        level refl refl refl (faultless refl refl refl) refl refl refl (λ i. faultless refl refl refl) refl refl,
+        (
+          level refl refl refl (faultless refl refl refl) refl refl refl (λ i. faultless refl refl refl) refl refl,
+          (
+            level refl refl refl (faultless refl refl refl) refl refl refl (λ i. faultless refl refl refl) refl refl,
+            (
+              level refl refl refl (faultless refl refl refl) refl refl refl (λ i. faultless refl refl refl) refl refl,
+              (
+                level refl refl refl (faultless refl refl refl) refl refl refl (λ i. faultless refl refl refl) refl refl,
+                (
+                  level refl refl refl (faultless refl refl refl) refl refl refl (λ i. faultless refl refl refl) refl refl,
+                  tt,
+                ),
+              ),
+            ),
+          ),
+        ),
+      ),
+    ),
+  ),
+)
 
 pub level-is : (n : ℕ) → n < LEVELS → Level n
 level-is = below Level LEVELS all-levels

@@ -68,17 +68,61 @@ module _ {s : List ℕ} {d : Depth} {L parent : ℕ} where
 
 pub options-are : ListOf <option>* 1 <option>
 unfolding rules rangeOf rowsOwn
-options-are = record { list = record { empty = refl; absent = refl; no-faults = λ i. faultless refl refl refl; no-rule = refl; no-rows = λ s parent at n i c. refl }; more = refl }
+options-are =
+    record {
+      list =
+          record {
+            empty = refl;
+            absent = refl;
+            no-faults = λ i. faultless refl refl refl;
+            no-rule = refl;
+            no-rows = λ s parent at n i c. refl;
+          };
+      more = refl;
+    }
 
 pub forms-are : ListOf <form>* 1 <form>
 unfolding rules rangeOf rowsOwn
-forms-are = record { list = record { empty = refl; absent = refl; no-faults = λ i. faultless refl refl refl; no-rule = refl; no-rows = λ s parent at n i c. refl }; more = refl }
+forms-are =
+    record {
+      list =
+          record {
+            empty = refl;
+            absent = refl;
+            no-faults = λ i. faultless refl refl refl;
+            no-rule = refl;
+            no-rows = λ s parent at n i c. refl;
+          };
+      more = refl;
+    }
 
 -- a form's items and rules, and a condition's items
 pub items-are : (inForm : Bool) → ListOf (listOf inForm) 1 <item>
 unfolding rules rangeOf rowsOwn
-items-are true = record { list = record { empty = refl; absent = refl; no-faults = λ i. faultless refl refl refl; no-rule = refl; no-rows = λ s parent at n i c. refl }; more = refl }
-items-are false = record { list = record { empty = refl; absent = refl; no-faults = λ i. faultless refl refl refl; no-rule = refl; no-rows = λ s parent at n i c. refl }; more = refl }
+items-are true =
+    record {
+      list =
+          record {
+            empty = refl;
+            absent = refl;
+            no-faults = λ i. faultless refl refl refl;
+            no-rule = refl;
+            no-rows = λ s parent at n i c. refl;
+          };
+      more = refl;
+    }
+items-are false =
+    record {
+      list =
+          record {
+            empty = refl;
+            absent = refl;
+            no-faults = λ i. faultless refl refl refl;
+            no-rule = refl;
+            no-rows = λ s parent at n i c. refl;
+          };
+      more = refl;
+    }
 
 pub rules-are : ListOf (listOf true) 2 <rule>
 unfolding rules rangeOf rowsOwn

@@ -15,9 +15,9 @@ use Rattle.rows.proofs.SizeLaws.{size-of}
 use Rattle.sizes.specs.Sizes.{width}
 use Rattle.ll1.specs.Trees.{token, Trees, nil, leaf, node, Alternative, alternativeOf, Fits, fits-nil, fits-leaf, fits-node}
 use Rattle.grammar.specs.Grammar.{rules}
-use Rattle.grammar.specs.Rules.{<item>, <head>, <step>?, <number-default>?, <numeric-flags>?, <numeric-value>}
+use Rattle.grammar.specs.Rules.{<item>, <step>?, <number-default>?, <numeric-flags>?, <numeric-value>}
 use Rattle.grammar.specs.Source.{numberAt}
-use Rattle.grammar.specs.Parts.{mark, when, child, chosen, written, placeAt}
+use Rattle.grammar.specs.Parts.{mark, when, child, written, placeAt}
 use Rattle.grammar.specs.Positions.{item·numeric, numeric·head, numeric·flags, numeric·minimum, numeric·maximum, numeric·step, numeric·default}
 use Rattle.grammar.specs.Positions.{step·value, default·value, head·prompt, head·help}
 use Rattle.grammar.specs.Flags.{sizeWords, displayWords, classes, flags, sizeIn, displayIn}
@@ -73,6 +73,7 @@ part-holds = either-way (λ i c. Holds (when (eqb i 1) (numericEntry c)) c) refl
 
 -- ---- what the phrase keeps
 
+-- the entries in the words of the row's definition; that of [`flags =` FL `,`] has a name
 pub record NumericKept (number-at : ℕ → ℕ) (c : Trees) : Type 0 where
   pub entry : ℕ
   pub holds : Holds entry (child numeric·flags c)

@@ -106,7 +106,8 @@ pub record Held (l : List ℕ) (M : Meaning) (at n : ℕ) (f : Trees) (ds : List
   pub means : M at n f ds k
   pub keeps : kept l ≡ keptOf f
 
-module _ (s : List ℕ) {α : List Symbol} (parent : ℕ) (st : State) {l : List ℕ} {c : Cursor} (n : allNullable rules α ≡ false) (p : Passed s α (st .no) (st .token) (st .noted) (replicate KEPT 0) c l) where
+module _ (s : List ℕ) {α : List Symbol} (parent : ℕ) (st : State) {l : List ℕ} {c : Cursor}
+    (n : allNullable rules α ≡ false) (p : Passed s α (st .no) (st .token) (st .noted) (replicate KEPT 0) c l) where
   pub row-off : {t : List ℕ} → c .no ≢ 0 → Reads s α (Counted (Rowed s parent)) st (closed st c) t t
   row-off h = record { walked = λ d o. record { verdict = λ σ. p .verdict σ d o; within = p .within; got = λ q. absurd (h q) } }
 
@@ -146,7 +147,12 @@ module _ (s : List ℕ) {α : List Symbol} (parent : ℕ) (st : State) {l : List
                     reads = x .reads;
                     means =
                         record {
-                          means = record { means = record { row = ap (λ (y : Draft). y ∷ []) (row-is x); no-rules = refl }; few = h .some; fewer = omega arith };
+                          means =
+                              record {
+                                means = record { row = ap (λ (y : Draft). y ∷ []) (row-is x); no-rules = refl };
+                                few = h .some;
+                                fewer = omega arith;
+                              };
                           keeps = kept-is x;
                         };
                     table = e;
@@ -167,7 +173,8 @@ module _ (s : List ℕ) {α : List Symbol} (parent : ℕ) (st : State) {l : List
 abbrev pub ruled : State → Cursor → State
 ruled st c = record { no = 0; token = c .token; rows = st .rows + 1; rules = st .rules + 1; noted = c .noted }
 
-module _ (s : List ℕ) (parent : ℕ) (st : State) {l : List ℕ} {c : Cursor} (p : Passed s (symbolsOf RULE-OPEN) (st .no) (st .token) (st .noted) (replicate KEPT 0) c l) where
+module _ (s : List ℕ) (parent : ℕ) (st : State) {l : List ℕ} {c : Cursor}
+    (p : Passed s (symbolsOf RULE-OPEN) (st .no) (st .token) (st .noted) (replicate KEPT 0) c l) where
   pub rule-off : {t : List ℕ} → c .no ≢ 0 → Reads s (symbolsOf RULE-OPEN) (Counted (RuleRow s parent)) st (closed st c) t t
   rule-off h = record { walked = λ d o. record { verdict = λ σ. p .verdict σ d o; within = p .within; got = λ q. absurd (h q) } }
 

@@ -102,7 +102,8 @@ passed-node {s} {A} {i} {n} {was} {y} {α} {β} {k} {l} {l′} {c} e full told f
           let u = w .front in
           let v = w .back in
           let keeps : entries (node A i u v) ≡ entries (x .trees) = entries-node A i v (w .fits-front) ∙ (ap (λ (l : List ℕ). l ++ entries v) (plainly i u (entries u)) ∙ (sym (entries-beside u v) ∙ ap entries (sym (w .is)))) in
-          let same : faults s (node A i u v) ≡ faults s (x .trees) = faults-node s A i u v (free .none s u) ∙ (sym (faults-beside s u v) ∙ ap (faults s) (sym (w .is))) in
+          let same : faults s (node A i u v) ≡ faults s (x .trees) =
+          faults-node s A i u v (free .none s u) ∙ (sym (faults-beside s u v) ∙ ap (faults s) (sym (w .is))) in
           let all : leaves u ++ leaves v ≡ leaves (x .trees) = sym (leaves-beside u v) ∙ ap leaves (sym (w .is)) in
           record {
             before = x .before;
@@ -122,12 +123,16 @@ module _ {s : List ℕ} {n : ℕ} {was : Noted} {k : lex.Token} {l l′ : List �
   pub braced-passed :
       k .class ≡ open-brace → Passed s (symbolsOf FORM-SET-BRACED) n k was l c l′ → Passed s (r <guid-end> ∷ titleAndHelp) n k was l c l′
   unfolding rules lookahead rangeOf symbolsOf phraseSymbols nodeEntries
-  braced-passed e p = passed-node {i = 0} {y = t open-brace} {α = r <eight> ∷ t close-brace ∷ t close-brace ∷ []} refl refl (inl (rw e)) (faultless refl refl refl) (λ i c es. refl) p
+  braced-passed e p =
+      passed-node {i = 0} {y = t open-brace} {α = r <eight> ∷ t close-brace ∷ t close-brace ∷ []}
+      refl refl (inl (rw e)) (faultless refl refl refl) (λ i c es. refl) p
 
   pub plain-passed :
       k .class ≢ open-brace → Passed s (symbolsOf FORM-SET-PLAIN) n k was l c l′ → Passed s (r <guid-end> ∷ titleAndHelp) n k was l c l′
   unfolding rules lookahead rangeOf symbolsOf phraseSymbols nodeEntries
-  plain-passed e p = passed-node {i = 1} {y = r <eight>} {α = t close-brace ∷ []} refl refl (find-second (open-brace ∷ []) (class.HEX ∷ []) (k .class) (member-not (k .class) open-brace [] e refl)) (faultless refl refl refl) (λ i c es. refl) p
+  plain-passed e p =
+      let told = find-second (open-brace ∷ []) (class.HEX ∷ []) (k .class) (member-not (k .class) open-brace [] e refl) in
+      passed-node {i = 1} {y = r <eight>} {α = t close-brace ∷ []} refl refl told (faultless refl refl refl) (λ i c es. refl) p
 
 -- ---- the row of a form set
 
@@ -270,7 +275,9 @@ stopped c = record { no = c .no; token = c .token; rows = 0; rules = 0; noted = 
 abbrev begun : Cursor → State
 begun c = record { no = 0; token = c .token; rows = 1; rules = 0; noted = c .noted }
 
-module _ {s : List ℕ} {k : lex.Token} {c e : Cursor} {high low : List ℕ} (p : Passed s (symbolsOf FORM-SET-OPEN) 0 k nothingNoted (replicate KEPT 0) c high) (q : Passed s (r <guid-end> ∷ titleAndHelp) (c .no) (c .token) (c .noted) (replicate KEPT 0) e low) where
+module _ {s : List ℕ} {k : lex.Token} {c e : Cursor} {high low : List ℕ}
+    (p : Passed s (symbolsOf FORM-SET-OPEN) 0 k nothingNoted (replicate KEPT 0) c high)
+    (q : Passed s (r <guid-end> ∷ titleAndHelp) (c .no) (c .token) (c .noted) (replicate KEPT 0) e low) where
   set-verdict : (d : Depth) → tooDeep d ≡ false → (σ : List Due) → resume s (dueAll d setOpen ++ σ) 0 k ≡ resume s σ (e .no) (e .token)
   unfolding symbolsOf phraseSymbols
   set-verdict d o σ =

@@ -54,35 +54,107 @@ module _ {s : List ℕ} {d : Depth} {p A i k : ℕ} {β : List Symbol} {parent :
 
 pub subtitle-is : Statement SUBTITLE <item> 0 class.«subtitle» []
 unfolding rules lookahead symbolsOf phraseSymbols rangeOf
-subtitle-is = record { tells = refl; alternative = refl; present = refl; no-faults = faultless refl refl refl; no-rows = refl; no-rule = refl; makes = λ s parent at n f h. subtitle-row s parent at n h }
+subtitle-is =
+    record {
+      tells = refl;
+      alternative = refl;
+      present = refl;
+      no-faults = faultless refl refl refl;
+      no-rows = refl;
+      no-rule = refl;
+      makes = λ s parent at n f h. subtitle-row s parent at n h;
+    }
 
 pub text-is : Statement TEXT <item> 1 class.«text» []
 unfolding rules lookahead symbolsOf phraseSymbols rangeOf
-text-is = record { tells = refl; alternative = refl; present = refl; no-faults = faultless refl refl refl; no-rows = refl; no-rule = refl; makes = λ s parent at n f h. text-row s parent at n h }
+text-is =
+    record {
+      tells = refl;
+      alternative = refl;
+      present = refl;
+      no-faults = faultless refl refl refl;
+      no-rows = refl;
+      no-rule = refl;
+      makes = λ s parent at n f h. text-row s parent at n h;
+    }
 
 pub label-is : Statement LABEL <item> 2 class.«label» []
 unfolding rules lookahead symbolsOf phraseSymbols rangeOf
-label-is = record { tells = refl; alternative = refl; present = refl; no-faults = faultless refl refl refl; no-rows = refl; no-rule = refl; makes = λ s parent at n f h. label-row s parent at n h }
+label-is =
+    record {
+      tells = refl;
+      alternative = refl;
+      present = refl;
+      no-faults = faultless refl refl refl;
+      no-rows = refl;
+      no-rule = refl;
+      makes = λ s parent at n f h. label-row s parent at n h;
+    }
 
 pub goto-is : Statement GOTO <item> 3 class.«goto» []
 unfolding rules lookahead symbolsOf phraseSymbols rangeOf
-goto-is = record { tells = refl; alternative = refl; present = refl; no-faults = faultless refl refl refl; no-rows = refl; no-rule = refl; makes = λ s parent at n f h. goto-row s parent at n h }
+goto-is =
+    record {
+      tells = refl;
+      alternative = refl;
+      present = refl;
+      no-faults = faultless refl refl refl;
+      no-rows = refl;
+      no-rule = refl;
+      makes = λ s parent at n f h. goto-row s parent at n h;
+    }
 
 pub checkbox-is : Statement CHECKBOX <item> 4 class.«checkbox» []
 unfolding rules lookahead symbolsOf phraseSymbols rangeOf
-checkbox-is = record { tells = refl; alternative = refl; present = refl; no-faults = faultless refl refl refl; no-rows = refl; no-rule = refl; makes = λ s parent at n f h. checkbox-row s parent at n h }
+checkbox-is =
+    record {
+      tells = refl;
+      alternative = refl;
+      present = refl;
+      no-faults = faultless refl refl refl;
+      no-rows = refl;
+      no-rule = refl;
+      makes = λ s parent at n f h. checkbox-row s parent at n h;
+    }
 
 pub one-of-is : Statement ONE-OF-OPEN <item> 6 class.«oneof» (r <option> ∷ r <option>* ∷ symbolsOf ONE-OF-CLOSE)
 unfolding rules lookahead symbolsOf phraseSymbols rangeOf
-one-of-is = record { tells = refl; alternative = refl; present = refl; no-faults = faultless refl refl refl; no-rows = refl; no-rule = refl; makes = λ s parent at n f h. one-of-row s parent at n h }
+one-of-is =
+    record {
+      tells = refl;
+      alternative = refl;
+      present = refl;
+      no-faults = faultless refl refl refl;
+      no-rows = refl;
+      no-rule = refl;
+      makes = λ s parent at n f h. one-of-row s parent at n h;
+    }
 
 pub option-is : Statement OPTION <option> 0 class.«option» []
 unfolding rules lookahead symbolsOf phraseSymbols rangeOf
-option-is = record { tells = refl; alternative = refl; present = refl; no-faults = faultless refl refl refl; no-rows = refl; no-rule = refl; makes = λ s parent at n f h. option-row s parent at n h }
+option-is =
+    record {
+      tells = refl;
+      alternative = refl;
+      present = refl;
+      no-faults = faultless refl refl refl;
+      no-rows = refl;
+      no-rule = refl;
+      makes = λ s parent at n f h. option-row s parent at n h;
+    }
 
 pub form-is : Statement FORM-OPEN <form> 0 class.«form» (r <item-or-rule>* ∷ symbolsOf FORM-CLOSE)
 unfolding rules lookahead symbolsOf phraseSymbols rangeOf
-form-is = record { tells = refl; alternative = refl; present = refl; no-faults = faultless refl refl refl; no-rows = refl; no-rule = refl; makes = λ s parent at n f h. form-row s parent at n h }
+form-is =
+    record {
+      tells = refl;
+      alternative = refl;
+      present = refl;
+      no-faults = faultless refl refl refl;
+      no-rows = refl;
+      no-rule = refl;
+      makes = λ s parent at n f h. form-row s parent at n h;
+    }
 
 -- nothing stands under it
 pub flat-reads :

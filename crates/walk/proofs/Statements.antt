@@ -1,6 +1,6 @@
 -- The row of each statement's phrase is the row that the derivation's tree has.
 -- Assumes nothing.
-use Prim.Native.Nat.{ℕ, suc, _+_, _/_, _%_}
+use Prim.Native.Nat.{ℕ, suc, _/_, _%_}
 use mathlib.Core.Path.{_≡_, refl, _∙_}
 use mathlib.Core.Bool.{Bool, true, false, cond}
 use mathlib.Core.List.{List, [], _∷_}
@@ -113,8 +113,8 @@ module _ (s : List ℕ) (parent at n : ℕ) where
     where
       by : {f : Trees} → NumericKept (numberAt s) f → Fits rules (symbolsOf NUMERIC) f → Makes <item> item·numeric f
       by k
-          (fits-leaf (fits-node {c = c₁} e₁ h₁ (fits-leaf (fits-node e₃ h₃ (fits-leaf (fits-leaf (fits-node e₆ h₆ (fits-leaf (fits-leaf (fits-leaf (fits-node f₀ k₀
-          (fits-leaf (fits-node {i = j₂} {c = d₂} f₂ k₂ (fits-node {i = j₃} {c = d₃} f₃ k₃ (fits-leaf (fits-leaf fits-nil)))))))))))))))) g =
+          (fits-leaf (fits-node {c = c₁} e₁ h₁ (fits-leaf (fits-node e₃ h₃ (fits-leaf (fits-leaf (fits-node e₆ h₆
+          (fits-leaf (fits-leaf (fits-leaf (fits-node f₀ k₀ (fits-leaf (fits-node {i = j₂} {c = d₂} f₂ k₂ (fits-node {i = j₃} {c = d₃} f₃ k₃ (fits-leaf (fits-leaf fits-nil)))))))))))))))) g =
           rw (
             k .entries-are,
             k .holds .flags-are,

@@ -232,14 +232,14 @@ module _ (s : List ℕ) (d : Depth) (A : ℕ) (σ : List Due) (n : ℕ) (k : lex
       by (yes q) = rw (stream-end s k q) (verdict-skip-end d A σ u)
       by (no q) = rw (stream-first s k q) (verdict-skip d A σ (k .class) (k .start) (rest s k) w u)
 
--- the faults of a tree's own come after those under it
+-- a tree's own faults come after those under it
 own-faults : (s : List ℕ) (A i : ℕ) (c : Trees) → faults s (node A i c nil) ≡ faults s c ++ faultsHere s A i c
 unfolding faults gathered
 own-faults s A i c = faults-of s A i c nil ∙ ap (_++_ (faults s c)) (append-nil (faultsHere s A i c))
 
 -- at the same token, with other faults noted
-abbrev pub noteAt : State → Noted → State
-noteAt st n = record { no = st .no; token = st .token; rows = st .rows; rules = st .rules; noted = n }
+abbrev pub withNoted : State → Noted → State
+withNoted st n = record { no = st .no; token = st .token; rows = st .rows; rules = st .rules; noted = n }
 
 -- a tree of rule A by its alternative, after which its own faults are noted
 pub walked-noting :
@@ -248,7 +248,7 @@ pub walked-noting :
     → ((c : Trees) (ds : List Draft) (k : ℕ) → Fits rules (a .symbols) c → M (st .rows) (st .rules) c ds k → n ≡ noting (r′ .noted) (faultsHere s A i c))
     → ((σ : List Due) → resume s (due d (r A) ∷ σ) (st .no) (st .token) ≡ resume s (opened d a ++ σ) (st .no) (st .token))
     → ((c : Trees) (ds : List Draft) (k : ℕ) → Fits rules (a .symbols) c → M (st .rows) (st .rules) c ds k → K (st .rows) (st .rules) (node A i c nil) ds k)
-    → Walked s (deeper d (a .opens)) (a .symbols) M st r′ t t′ → Walked s d (r A ∷ []) K st (noteAt r′ n) t t′
+    → Walked s (deeper d (a .opens)) (a .symbols) M st r′ t t′ → Walked s d (r A ∷ []) K st (withNoted r′ n) t t′
 walked-noting {s} {d} {A} i {a} {M} {K} {st} {r′} {n} {t} {t′} e own enter turn w =
     record {
       verdict = λ σ. enter σ ∙ w .verdict σ;

@@ -56,7 +56,7 @@ fn one_of(src: &[u8], table: &mut [u64], s: State, parent: usize) -> State
     close(src, all, phrase::ONE_OF_CLOSE)
 }
 
-// A numeric, with its row; that a number does not fit its size is noted.
+// A numeric, with its row; the first of its numbers that does not fit its size is noted after the faults in its phrase.
 fn numeric(src: &[u8], table: &mut [u64], s: State, parent: usize) -> State
     requires { ⌜ Room (now src) s × (s .token .class ≡ «numeric») ⌝ }
     ensures { λ s′. ⌜ ReadsUnder (now (src .entry)) (r <item> ∷ []) parent s s′ (now (table .entry)) (now (table .exit)) ⌝ }

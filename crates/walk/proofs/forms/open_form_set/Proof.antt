@@ -53,7 +53,8 @@ returns-2 c =
     let if1 = c .before .before .before .before .before .if1 in
     let nothing-noted = c .before .before .before .before .before .before .before .before .before .before .before .before .before .before .before .nothing-noted in
     let opening = phrase-passed _ (first-within _ (token-at .ensures)) (read .ensures) in
-    set-opens-on (token-at .ensures) (nothing-noted .ensures) opening (guid-end .ensures) (if1 .left) (c .before .before .before .form-set-row .ensures) (c .before .before .put-row .ensures)
+    set-opens-on (token-at .ensures) (nothing-noted .ensures) opening (guid-end .ensures) (if1 .left)
+    (c .before .before .before .form-set-row .ensures) (c .before .before .put-row .ensures)
 
 pub open-form-set-spec : {M : Type 1} → statement M
 open-form-set-spec =

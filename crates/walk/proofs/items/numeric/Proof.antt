@@ -1,6 +1,5 @@
 -- `walk::items::numeric` meets its contract: the phrase's theorem, its row, and the first number that does not fit.
 -- Assumes nothing.
-use mathlib.Core.Path.{refl, _∙_}
 use borrow.Author.Needs.{needs}
 use native.Mathlib.Omega.{arith}
 use Rattle.phrases.proofs.Theorems.{phrase-passed}

@@ -6,10 +6,10 @@ use Rattle.specimen.proofs.counts.print_met.Statement.{statement}
 use Rattle.specimen.proofs.counts.print_met.Tie as tie
 
 abbrev Inv-loop : tie.InvT-loop
-Inv-loop met k₀ k = k ≤ 15
+Inv-loop met k₀ k = k ≤ 17
 
 abbrev μ-loop : tie.MeasureT-loop
-μ-loop met k₀ k = 15 - k
+μ-loop met k₀ k = 17 - k
 
 loop-holds : tie.Need-loop-holds Inv-loop μ-loop
 loop-holds c = search needs

@@ -100,7 +100,7 @@ module _ (s : List ℕ) where
     unfolding drafts
     wide = rows-wide (numberAt s) (derives .fits) 0 0 0
 
-    -- "A row is twelve 64-bit numbers"
+    -- "A row is twelve 64-bit numbers"; "Rows grow to thirteen numbers" (W-204)
     pub rows-whole : AreRows (finished s (drafts s tree))
     rows-whole = finished-wide s wide
 

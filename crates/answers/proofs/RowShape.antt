@@ -1,4 +1,4 @@
--- "A row is twelve 64-bit numbers" (document 01, Rows): each row of a derivation has as many.
+-- "A row is twelve 64-bit numbers" (document 01, Rows), thirteen since document 02's W-204: each row of a derivation has as many.
 -- Assumes nothing.
 use mathlib.Core.Path.{_≡_, refl, _∙_}
 use mathlib.Core.List.{List, [], _∷_, _++_, map}

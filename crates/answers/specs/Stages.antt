@@ -1,5 +1,6 @@
 -- Stages 7 to 12 over the rows of a derivation: the marks of what is at fault, in source order; the finished rows (document 01, Rows and Refusal
--- numbers), with the form that a rule belongs to (document 02, W-203) and the signed order (W-204); and stage 14 over settled rows (W-202). Assumes nothing.
+-- numbers), with the form that a rule belongs to (document 02, W-203) and the signed order (W-204); and stage 14 over settled rows (W-202).
+-- Assumes nothing.
 use Prim.Native.Nat.{ℕ, zero, suc, _-_}
 use mathlib.Core.Bool.{Bool, false, not, cond, _&&_, _||_}
 use mathlib.Core.List.{List, [], _∷_, _++_, map}

@@ -12,7 +12,8 @@ use Rattle.ll1.specs.Trees.{Trees, nil, leaf, node}
 use Rattle.sizes.specs.Sizes.{fits}
 use Rattle.grammar.specs.Rules.{<id>, <small>, <large>, <zero>, <H8>, <H4>, <H2>, <item>, <numeric-fl>}
 use Rattle.grammar.specs.Parts.{child, written, placeAt}
-use Rattle.grammar.specs.Positions.{item·numeric, numeric·flags, numeric·minimum, numeric·maximum, numeric·step, numeric·default, step·value, default·value}
+use Rattle.grammar.specs.Positions.{item·numeric, numeric·flags, numeric·minimum, numeric·maximum, numeric·step, numeric·default}
+use Rattle.grammar.specs.Positions.{step·value, default·value}
 use Rattle.grammar.specs.Flags.{sizeIn, secondsIn}
 
 pub data Range : Type 0 where
@@ -73,11 +74,12 @@ module _ {X : Type 0} (own : ℕ → ℕ → Trees → List X) where
   gathered (leaf t f) = gathered f
   gathered (node A i c f) = gathered c ++ (own A i c ++ gathered f)
 
--- a numeric, from the trees under it: "Minimum, maximum, step and default must fit the size" (W-204)
+-- the alternative i of the rule A is a numeric
 abbrev pub isNumeric : ℕ → ℕ → Bool
 isNumeric A i = eqb A <item> && eqb i item·numeric
 
--- their places, in order: that of a part in square brackets where it is written
+-- "Minimum, maximum, step and default must fit the size" (W-204): from the trees under a numeric the places of these numbers, in order; that of a
+-- part in square brackets where it is written
 abbrev pub writtenPlace : ℕ → ℕ → Trees → List ℕ
 writtenPlace part number c = cond (written part c) (placeAt 0 (child number (child part c)) ∷ []) []
 
@@ -100,18 +102,21 @@ module _ (s : List ℕ) where
   outOf range [] = []
   outOf range (p ∷ ps) = cond (keeps range p) [] (p ∷ []) ++ outOf range ps
 
-  -- of a tree of rule A and alternative i, whose number is its first token; of a numeric the numbers that do not fit its size, which stand after
-  -- all its others
+  -- of a tree of rule A and alternative i: its first token, a number out of the rule's range; and of a numeric the numbers that do not fit its
+  -- size, which stand after all its others
   unfoldable pub outOfRangeHere : ℕ → ℕ → Trees → List ℕ
-  outOfRangeHere A i c = outOf (rangeOf A) (placeAt 0 c ∷ []) ++ cond (isNumeric A i) (outOf (bytes (sizeIn (child numeric·flags c))) (sizedPlaces c)) []
+  outOfRangeHere A i c =
+      let size = sizeIn (child numeric·flags c) in
+      outOf (rangeOf A) (placeAt 0 c ∷ []) ++ cond (isNumeric A i) (outOf (bytes size) (sizedPlaces c)) []
 
-  -- the places of the numbers outside their place, in source order
+  -- 5: the places of the numbers outside their place, in source order
   unfoldable pub outOfRange : Trees → List ℕ
   outOfRange f = gathered outOfRangeHere f
 
--- the places of second size or display words, in source order
+-- the places of second size or display words, in source order: of a tree of rule A those in a numeric's FL
 unfoldable pub secondsHere : ℕ → ℕ → Trees → List ℕ
 secondsHere A i c = cond (eqb A <numeric-fl>) (secondsIn c) []
 
+-- 16: in all trees
 unfoldable pub secondWords : Trees → List ℕ
 secondWords f = gathered secondsHere f

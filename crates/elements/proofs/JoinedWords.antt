@@ -2,7 +2,7 @@
 -- Assumes nothing.
 use Prim.Native.Nat.{ℕ, _+_, _*_}
 use mathlib.Core.Path.{_≡_, refl, sym, ap, _∙_}
-use mathlib.Core.Bool.{Bool, true, false, cond, _||_, and-false, or-false, or-assoc}
+use mathlib.Core.Bool.{Bool, true, false, not, cond, _||_, and-false, or-false, or-assoc}
 use mathlib.Core.List.{List, [], _∷_, map}
 use native.Mathlib.Omega.{arith}
 use lib.Dec.{eqb}
@@ -14,6 +14,7 @@ use Rattle.ll1.proofs.Basics.{clash}
 use Rattle.grammar.specs.Parts.{mark, when}
 use Rattle.grammar.specs.Flags.{FlagWord, flagWords, classOf, total, flags}
 use Rattle.grammar.specs.Flags.{sizeWords, displayWords, classesOf, valueOr, firstOf, sizeIn, displayIn, secondsAfter, secondsIn}
+use Rattle.grammar.proofs.FlagTotals.{value-foreign}
 use Rattle.elements.specs.declared.flags.Choice.{Choice}
 use Rattle.elements.specs.declared.flags.Words.{Words}
 use Rattle.elements.specs.Kinds.{FLAG-LIST, NUMERIC-FLAGS}
@@ -58,12 +59,7 @@ value-found a b (w ∷ ws) k h = by (eqb (w .class) k) h (value-found a b ws k)
     by false m later = later m
 
 value-missed : (a : ℕ) (ws : List FlagWord) (k : ℕ) → member k (classesOf ws) ≡ false → valueOr a ws k ≡ a
-value-missed a [] k h = refl
-value-missed a (w ∷ ws) k h = by (eqb (w .class) k) h (value-missed a ws k)
-  where
-    by : (t : Bool) → t || member k (classesOf ws) ≡ false → (member k (classesOf ws) ≡ false → valueOr a ws k ≡ a) → cond t (w .value) (valueOr a ws k) ≡ a
-    by true m later = clash cc
-    by false m later = later m
+value-missed a ws k h = value-foreign a ws k (ap not h)
 
 module _ (c : Choice) (ws : List FlagWord) (k : ℕ) where
   choose-named : choose c ws k .named ≡ c .named || member k (classesOf ws)

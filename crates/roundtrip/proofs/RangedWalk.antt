@@ -28,10 +28,10 @@ use Rattle.grammar.specs.Parts.{child, chosen, placeAt}
 use Rattle.grammar.specs.Flags.{classes, sizeIn}
 use Rattle.answers.specs.Expression.{Expression, number, constant, question-named, question-numbered, rule-named, negation, binary, expression}
 use Rattle.answers.specs.Rows.{Draft, rulesIn, draftsOf, expressionRows, item, ruleDraft}
-use Rattle.grammar.specs.Parts.{when}
 use Rattle.answers.specs.Stages.{cell, is, asks}
 use Rattle.answers.specs.Text.{numericList}
 use Rattle.sound.proofs.Lists.{All, none, more}
+use Rattle.sound.proofs.SizedRows.{when-below}
 use Rattle.sound.proofs.Kept.{Kept, kept-nil, kept-leaf, kept-node, Node, part, id-range, small-range, string-range, sized}
 use Rattle.formulas.specs.Expressions.{ruleAt}
 use Rattle.formulas.specs.Formula.{formula}
@@ -62,11 +62,6 @@ number-small s p = by (numeral (word (drop p s)))
   where
     by : (v : ℕ) → heldValue (fitted v) < 2 ^ 64
     by v = either (ltb v (2 ^ 64)) (λ e. rw (e, fitted) (ltb-true v (2 ^ 64) e)) (λ e. rw (e, fitted) (omega arith))
-
--- what is 0 where it is not written
-when-below : (b : Bool) (v bound : ℕ) → 0 < bound → (b ≡ true → v < bound) → when b v < bound
-when-below true v bound z h = h refl
-when-below false v bound z h = z
 
 module _ (s : List ℕ) (look : ℕ → List ℕ) where
   abbrev source : ℕ → ℕ

@@ -69,7 +69,7 @@ default-written true n l h = refl
 default-written false n l h = absurd (omega (arith, eqb-true ((n + 0) / HAS-DEFAULT % 2) 1 h))
 
 -- what stands only where it is written
-when-below : (t : Bool) (n m : ℕ) → 0 < m → (t ≡ true → n < m) → when t n < m
+pub when-below : (t : Bool) (n m : ℕ) → 0 < m → (t ≡ true → n < m) → when t n < m
 when-below true n m z h = h refl
 when-below false n m z h = z
 

@@ -87,8 +87,9 @@ pub data FirstOnCircle (rows : List (List ℕ)) (m : ℕ) : List Draft → Type 
   this : {d : Draft} {ds : List Draft} → StepOfCircle rows (d .row) → d .ownAt ≡ m → FirstOnCircle rows m (d ∷ ds)
   later : {d : Draft} {ds : List Draft} → (StepOfCircle rows (d .row) → ⊥) → FirstOnCircle rows m ds → FirstOnCircle rows m (d ∷ ds)
 
--- Document 01's table of refusals with W-202's 14 and W-204's 16, a line each: "No. | Given exactly when | Place". "The first stage that fails answers; within it the earliest
--- token": a stage lists its faults in source order, so that the earliest is the first of its list. "A refusal's counts are 0 except as shown".
+-- Document 01's table of refusals with W-202's 14 and W-204's 16, a line each: "No. | Given exactly when | Place".
+-- "The first stage that fails answers; within it the earliest token": a stage lists its faults in source order, so that the earliest is
+-- the first of its list. "A refusal's counts are 0 except as shown".
 pub data Refuses (s : List ℕ) (n : ℕ) : Answer → Type 0 where
   -- 1 | source over 65,536 bytes | 0
   source-too-long : LONGEST < length s → Refuses s n (refuses 1 0)

@@ -2,14 +2,23 @@
 -- `t` stands before the class of a token, `r` before a rule; a rule that may be absent has the empty alternative first.
 -- Assumes nothing.
 use mathlib.Core.List.{List, [], _∷_, map}
-use Rattle.lexemes.specs.Classes.{open-brace, close-brace, open-paren, close-paren, comma, semicolon, «=», «|», «&», «==», «!=», «<», «<=», «>», «>=», «<<», «>>», «+», «-», «*», «/», «%»}
-use Rattle.lexemes.specs.Classes.{«AND», «DEFAULT», «FALSE», «INTERACTIVE», «NOT», «ONE», «ONES», «OR», «READ_ONLY», «RESET_REQUIRED», «STRING_TOKEN», «TRUE», «UNDEFINED», «ZERO»}
-use Rattle.lexemes.specs.Classes.{«NUMERIC_SIZE_1», «NUMERIC_SIZE_2», «NUMERIC_SIZE_4», «NUMERIC_SIZE_8», «DISPLAY_INT_DEC», «DISPLAY_UINT_DEC», «DISPLAY_UINT_HEX»}
-use Rattle.lexemes.specs.Classes.{«checkbox», «default», «disableif», «endcheckbox», «endform», «endformset», «endif», «endnumeric», «endoneof», «endrule», «flags», «form», «formid», «formset», «goto», «grayoutif», «guid», «help», «label», «maximum», «minimum», «name», «numeric», «oneof», «option», «prompt», «questionid», «questionref», «rule», «ruleref», «step», «subtitle», «suppressif», «text», «title», «value»}
+use Rattle.lexemes.specs.Classes.{open-brace, close-brace, open-paren, close-paren, comma, semicolon, «=»}
+use Rattle.lexemes.specs.Classes.{«|», «&», «==», «!=», «<», «<=», «>», «>=», «<<», «>>», «+», «-», «*», «/», «%»}
+use Rattle.lexemes.specs.Classes.{«AND», «DEFAULT», «FALSE», «INTERACTIVE», «NOT», «ONE», «ONES», «OR»}
+use Rattle.lexemes.specs.Classes.{«READ_ONLY», «RESET_REQUIRED», «STRING_TOKEN», «TRUE», «UNDEFINED», «ZERO»}
+use Rattle.lexemes.specs.Classes.{«NUMERIC_SIZE_1», «NUMERIC_SIZE_2», «NUMERIC_SIZE_4», «NUMERIC_SIZE_8»}
+use Rattle.lexemes.specs.Classes.{«DISPLAY_INT_DEC», «DISPLAY_UINT_DEC», «DISPLAY_UINT_HEX»}
+use Rattle.lexemes.specs.Classes.{«checkbox», «default», «disableif», «endcheckbox», «endform», «endformset», «endif», «endnumeric», «endoneof»}
+use Rattle.lexemes.specs.Classes.{«endrule», «flags», «form», «formid», «formset», «goto», «grayoutif», «guid», «help», «label», «maximum», «minimum»}
+use Rattle.lexemes.specs.Classes.{«name», «numeric», «oneof», «option», «prompt», «questionid», «questionref», «rule», «ruleref», «step», «subtitle»}
+use Rattle.lexemes.specs.Classes.{«suppressif», «text», «title», «value»}
 use Rattle.lexemes.specs.Classes.{NAME, HEX}
 use Rattle.ll1.specs.Trees.{Grammar}
-use Rattle.grammar.specs.Rules.{<source>, <form>*, <guid>, <guid-end>, <eight>, <H8>, <H4>, <H2>, <str>, <id>, <small>, <large>, <zero>, <form>, <item-or-rule>*, <rule>, <item>, <goto-flags>?, <flags>?, <truth-default>?, <truth>, <step>?, <number-default>?, <option>*, <item>*, <option>, <option-flags>, <head>, <name>?, <questionid>?, <fl>, <flag>*, <flag>}
-use Rattle.grammar.specs.Rules.{<expression>, <or>, <or>*, <and>, <and>*, <bit-or>, <bit-or>*, <bit-and>, <bit-and>*, <equality>, <equality>*, <order>, <order>*, <shift>, <shift>*, <sum>, <sum>*, <product>, <product>*, <atom>, <name-or-number>}
+use Rattle.grammar.specs.Rules.{<source>, <form>*, <guid>, <guid-end>, <eight>, <H8>, <H4>, <H2>, <str>, <id>, <small>, <large>, <zero>, <form>}
+use Rattle.grammar.specs.Rules.{<item-or-rule>*, <rule>, <item>, <goto-flags>?, <flags>?, <truth-default>?, <truth>, <step>?, <number-default>?}
+use Rattle.grammar.specs.Rules.{<option>*, <item>*, <option>, <option-flags>, <head>, <name>?, <questionid>?, <fl>, <flag>*, <flag>}
+use Rattle.grammar.specs.Rules.{<expression>, <or>, <or>*, <and>, <and>*, <bit-or>, <bit-or>*, <bit-and>, <bit-and>*, <equality>, <equality>*}
+use Rattle.grammar.specs.Rules.{<order>, <order>*, <shift>, <shift>*, <sum>, <sum>*, <product>, <product>*, <atom>, <name-or-number>}
 use Rattle.grammar.specs.Rules.{<numeric-flags>?, <numeric-fl>, <numeric-flag>*, <numeric-flag>, <numeric-value>}
 use Rattle.grammar.specs.Notation.{t, r, plain, condition, group, one, optional, star, operators, numeral, choice, Production, _::=_}
 
@@ -17,14 +26,16 @@ use Rattle.grammar.specs.Notation.{t, r, plain, condition, group, one, o
 unfoldable pub productions : List Production
 productions =
     -- source: `formset guid =` GUID `, title =` STR `, help =` STR `,` form+ `endformset ;`
-    <source> ::= one (t «formset» ∷ t «guid» ∷ t «=» ∷ r <guid> ∷ t comma ∷ t «title» ∷ t «=» ∷ r <str> ∷ t comma ∷ t «help» ∷ t «=» ∷ r <str> ∷ t comma ∷ r <form> ∷ r <form>* ∷ t «endformset» ∷ t semicolon ∷ [])
+    <source> ::= one (t «formset» ∷ t «guid» ∷ t «=» ∷ r <guid> ∷ t comma ∷ t «title» ∷ t «=» ∷ r <str> ∷ t comma ∷
+    t «help» ∷ t «=» ∷ r <str> ∷ t comma ∷ r <form> ∷ r <form>* ∷ t «endformset» ∷ t semicolon ∷ [])
     ∷ <form>* ::= star <form>* (r <form> ∷ [])
     -- GUID: `{` H8 `,` H4 `,` H4 `, {` eight H2 with commas between `} }`, or the same without the inner braces.
     ∷ <guid> ::= one (t open-brace ∷ r <H8> ∷ t comma ∷ r <H4> ∷ t comma ∷ r <H4> ∷ t comma ∷ r <guid-end> ∷ [])
     ∷ <guid-end> ::= (
     plain (t open-brace ∷ r <eight> ∷ t close-brace ∷ t close-brace ∷ []) ∷
     plain (r <eight> ∷ t close-brace ∷ []) ∷ [])
-    ∷ <eight> ::= one (r <H2> ∷ t comma ∷ r <H2> ∷ t comma ∷ r <H2> ∷ t comma ∷ r <H2> ∷ t comma ∷ r <H2> ∷ t comma ∷ r <H2> ∷ t comma ∷ r <H2> ∷ t comma ∷ r <H2> ∷ [])
+    ∷ <eight> ::= one (r <H2> ∷ t comma ∷ r <H2> ∷ t comma ∷ r <H2> ∷ t comma ∷ r <H2> ∷ t comma ∷
+    r <H2> ∷ t comma ∷ r <H2> ∷ t comma ∷ r <H2> ∷ t comma ∷ r <H2> ∷ [])
     -- "All are hex numbers of any length here (a decimal one is refusal 3)"
     ∷ <H8> ::= one (t HEX ∷ [])
     ∷ <H4> ::= one (t HEX ∷ [])
@@ -37,7 +48,8 @@ productions =
     ∷ <large> ::= numeral
     ∷ <zero> ::= numeral
     -- form: `form formid =` N `, title =` STR `;` then (item or rule)* `endform ;`
-    ∷ <form> ::= one (t «form» ∷ t «formid» ∷ t «=» ∷ r <id> ∷ t comma ∷ t «title» ∷ t «=» ∷ r <str> ∷ t semicolon ∷ r <item-or-rule>* ∷ t «endform» ∷ t semicolon ∷ [])
+    ∷ <form> ::= one (t «form» ∷ t «formid» ∷ t «=» ∷ r <id> ∷ t comma ∷ t «title» ∷ t «=» ∷ r <str> ∷ t semicolon ∷
+    r <item-or-rule>* ∷ t «endform» ∷ t semicolon ∷ [])
     ∷ <item-or-rule>* ::= (
     plain [] ∷
     plain (r <item> ∷ r <item-or-rule>* ∷ []) ∷
@@ -57,7 +69,8 @@ productions =
     -- `checkbox` HEAD `,` [`flags =` FL `,`] [`default =` `TRUE` or `FALSE`, `,`] `endcheckbox ;`
     plain (t «checkbox» ∷ r <head> ∷ t comma ∷ r <flags>? ∷ r <truth-default>? ∷ t «endcheckbox» ∷ t semicolon ∷ []) ∷
     -- `numeric` HEAD `,` [`flags =` FL `,`] `minimum =` N `, maximum =` N `,` [`step =` N `,`] [`default =` N `,`] `endnumeric ;`
-    plain (t «numeric» ∷ r <head> ∷ t comma ∷ r <numeric-flags>? ∷ t «minimum» ∷ t «=» ∷ r <numeric-value> ∷ t comma ∷ t «maximum» ∷ t «=» ∷ r <numeric-value> ∷ t comma ∷ r <step>? ∷ r <number-default>? ∷ t «endnumeric» ∷ t semicolon ∷ []) ∷
+    plain (t «numeric» ∷ r <head> ∷ t comma ∷ r <numeric-flags>? ∷ t «minimum» ∷ t «=» ∷ r <numeric-value> ∷ t comma ∷
+    t «maximum» ∷ t «=» ∷ r <numeric-value> ∷ t comma ∷ r <step>? ∷ r <number-default>? ∷ t «endnumeric» ∷ t semicolon ∷ []) ∷
     -- `oneof` HEAD `,` [`flags =` FL `,`] option+ `endoneof ;`
     plain (t «oneof» ∷ r <head> ∷ t comma ∷ r <flags>? ∷ r <option> ∷ r <option>* ∷ t «endoneof» ∷ t semicolon ∷ []) ∷
     -- `suppressif`, `grayoutif` or `disableif`, expression `;` item* `endif ;`
@@ -76,7 +89,8 @@ productions =
     ∷ <option>* ::= star <option>* (r <option> ∷ [])
     ∷ <item>* ::= star <item>* (r <item> ∷ [])
     -- option: `option text =` STR `, value =` N `, flags =` (N or `DEFAULT`) `;`
-    ∷ <option> ::= one (t «option» ∷ t «text» ∷ t «=» ∷ r <str> ∷ t comma ∷ t «value» ∷ t «=» ∷ r <large> ∷ t comma ∷ t «flags» ∷ t «=» ∷ r <option-flags> ∷ t semicolon ∷ [])
+    ∷ <option> ::= one (t «option» ∷ t «text» ∷ t «=» ∷ r <str> ∷ t comma ∷ t «value» ∷ t «=» ∷ r <large> ∷ t comma ∷
+    t «flags» ∷ t «=» ∷ r <option-flags> ∷ t semicolon ∷ [])
     ∷ <option-flags> ::= (
     plain (r <zero> ∷ []) ∷
     plain (t «DEFAULT» ∷ []) ∷ [])

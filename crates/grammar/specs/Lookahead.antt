@@ -3,10 +3,15 @@
 -- Assumes nothing.
 use mathlib.Core.List.{List, [], _∷_, map}
 use Prim.Native.Nat.{ℕ}
-use Rattle.lexemes.specs.Classes.{open-brace, close-brace, open-paren, close-paren, comma, semicolon, «|», «&», «==», «!=», «<», «<=», «>», «>=», «<<», «>>», «+», «-», «*», «/», «%»}
-use Rattle.lexemes.specs.Classes.{«AND», «DEFAULT», «FALSE», «INTERACTIVE», «NOT», «ONE», «ONES», «OR», «READ_ONLY», «RESET_REQUIRED», «STRING_TOKEN», «TRUE», «UNDEFINED», «ZERO»}
-use Rattle.lexemes.specs.Classes.{«NUMERIC_SIZE_1», «NUMERIC_SIZE_2», «NUMERIC_SIZE_4», «NUMERIC_SIZE_8», «DISPLAY_INT_DEC», «DISPLAY_UINT_DEC», «DISPLAY_UINT_HEX»}
-use Rattle.lexemes.specs.Classes.{«checkbox», «default», «disableif», «endcheckbox», «endform», «endformset», «endif», «endnumeric», «endoneof», «endrule», «flags», «form», «formset», «goto», «grayoutif», «label», «minimum», «name», «numeric», «oneof», «option», «prompt», «questionid», «questionref», «rule», «ruleref», «step», «subtitle», «suppressif», «text»}
+use Rattle.lexemes.specs.Classes.{open-brace, close-brace, open-paren, close-paren, comma, semicolon}
+use Rattle.lexemes.specs.Classes.{«|», «&», «==», «!=», «<», «<=», «>», «>=», «<<», «>>», «+», «-», «*», «/», «%»}
+use Rattle.lexemes.specs.Classes.{«AND», «DEFAULT», «FALSE», «INTERACTIVE», «NOT», «ONE», «ONES», «OR»}
+use Rattle.lexemes.specs.Classes.{«READ_ONLY», «RESET_REQUIRED», «STRING_TOKEN», «TRUE», «UNDEFINED», «ZERO»}
+use Rattle.lexemes.specs.Classes.{«NUMERIC_SIZE_1», «NUMERIC_SIZE_2», «NUMERIC_SIZE_4», «NUMERIC_SIZE_8»}
+use Rattle.lexemes.specs.Classes.{«DISPLAY_INT_DEC», «DISPLAY_UINT_DEC», «DISPLAY_UINT_HEX»}
+use Rattle.lexemes.specs.Classes.{«checkbox», «default», «disableif», «endcheckbox», «endform», «endformset», «endif», «endnumeric», «endoneof»}
+use Rattle.lexemes.specs.Classes.{«endrule», «flags», «form», «formset», «goto», «grayoutif», «label», «minimum», «name», «numeric», «oneof»}
+use Rattle.lexemes.specs.Classes.{«option», «prompt», «questionid», «questionref», «rule», «ruleref», «step», «subtitle», «suppressif», «text»}
 use Rattle.lexemes.specs.Classes.{NAME, HEX, DECIMAL}
 use Rattle.ll1.specs.ParseTable.{ParseTable, entry}
 
@@ -97,7 +102,8 @@ lookahead =
     -- <rule>
     ∷ entry ((«rule» ∷ []) ∷ []) («endform» ∷ «rule» ∷ items) 0 0
     -- <item>
-    ∷ entry ((«subtitle» ∷ []) ∷ («text» ∷ []) ∷ («label» ∷ []) ∷ («goto» ∷ []) ∷ («checkbox» ∷ []) ∷ («numeric» ∷ []) ∷ («oneof» ∷ []) ∷ («suppressif» ∷ []) ∷ («grayoutif» ∷ []) ∷ («disableif» ∷ []) ∷ []) («endif» ∷ «endform» ∷ «rule» ∷ items) 0 2
+    ∷ entry ((«subtitle» ∷ []) ∷ («text» ∷ []) ∷ («label» ∷ []) ∷ («goto» ∷ []) ∷ («checkbox» ∷ []) ∷ («numeric» ∷ []) ∷ («oneof» ∷ []) ∷
+    («suppressif» ∷ []) ∷ («grayoutif» ∷ []) ∷ («disableif» ∷ []) ∷ []) («endif» ∷ «endform» ∷ «rule» ∷ items) 0 2
     -- <goto-flags>?
     ∷ entry ([] ∷ (comma ∷ []) ∷ []) (semicolon ∷ []) 0 0
     -- <flags>?
@@ -158,7 +164,8 @@ lookahead =
     ∷ entry (atoms ∷ []) after-product 2 0
     ∷ entry ([] ∷ («*» ∷ []) ∷ («/» ∷ []) ∷ («%» ∷ []) ∷ []) after-product 0 0
     -- <atom>
-    ∷ entry ((«NOT» ∷ []) ∷ (open-paren ∷ []) ∷ («TRUE» ∷ []) ∷ («FALSE» ∷ []) ∷ («ZERO» ∷ []) ∷ («ONE» ∷ []) ∷ («ONES» ∷ []) ∷ («UNDEFINED» ∷ []) ∷ numbers ∷ («questionref» ∷ []) ∷ («ruleref» ∷ []) ∷ []) after-atom 1 2
+    ∷ entry ((«NOT» ∷ []) ∷ (open-paren ∷ []) ∷ («TRUE» ∷ []) ∷ («FALSE» ∷ []) ∷ («ZERO» ∷ []) ∷ («ONE» ∷ []) ∷ («ONES» ∷ []) ∷
+    («UNDEFINED» ∷ []) ∷ numbers ∷ («questionref» ∷ []) ∷ («ruleref» ∷ []) ∷ []) after-atom 1 2
     -- <name-or-number>
     ∷ entry ((NAME ∷ []) ∷ numbers ∷ []) (close-paren ∷ []) 1 0
     -- <numeric-flags>?

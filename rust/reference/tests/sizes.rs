@@ -8,16 +8,7 @@ use outcome::{assert_accepted, assert_refused, at};
 use reference::{column, quick_check, read, resolve, Position, Refusal, Row, ROW};
 
 /// Document 01's worked example.
-const EXAMPLE: &str = "\
-formset guid={0x1,0x2,0x3,{0x4,0x5,0x6,0x7,0x8,0x9,0xA,0xB}},title=STRING_TOKEN(2),help=STRING_TOKEN(3),
-form formid=0x10,title=STRING_TOKEN(4);
-checkbox name=Fan,prompt=STRING_TOKEN(5),help=STRING_TOKEN(6),default=TRUE,endcheckbox;
-suppressif NOT questionref(Fan)OR 1+2*3==7;
-numeric questionid=1,prompt=STRING_TOKEN(7),help=STRING_TOKEN(8),flags=READ_ONLY,minimum=0,maximum=9,endnumeric;
-endif;
-endform;
-endformset;
-";
+const EXAMPLE: &str = include_str!("../../../examples/fan.vfr");
 
 /// A numeric with these words of FL and this after it.
 fn numeric(flags: &str, rest: &str) -> String {

@@ -12,6 +12,8 @@ const OPEN_GROUPS: usize = 32;
 const IDENTITY: RangeInclusive<u64> = 1..=65_535;
 const SHORT: RangeInclusive<u64> = 0..=65_535;
 const ANY: RangeInclusive<u64> = 0..=u64::MAX;
+/// What an absent step is (W-208).
+const ABSENT_STEP: u64 = 1;
 
 /// What a reference looks for.
 pub enum Target<'a> {
@@ -422,7 +424,7 @@ impl<'a, E: Events<'a>> Parser<'a, '_, E> {
         cells[column::SIZE] = format.cell();
         cells[column::A] = minimum.value;
         cells[column::B] = maximum.value;
-        cells[column::C] = step.map_or(0, |step| step.value);
+        cells[column::C] = step.map_or(ABSENT_STEP, |step| step.value);
         cells[column::D] = default.map_or(0, |default| default.value);
         if default.is_some() {
             cells[column::FLAGS] |= flag::WRITTEN_DEFAULT;

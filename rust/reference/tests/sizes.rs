@@ -1,11 +1,13 @@
 //! Document 02, W-204: sizes and displays of numerics, and signed order, on the examples of the readings and some more.
 
 mod frame;
+mod only_question;
 mod outcome;
 
 use frame::framed;
+use only_question::{question, resolved};
 use outcome::{assert_accepted, assert_refused, at};
-use reference::{column, quick_check, read, resolve, Position, Refusal, Row, ROW};
+use reference::{column, quick_check, read, resolve, Position, Refusal, ROW};
 
 /// Document 01's worked example.
 const EXAMPLE: &str = include_str!("../../../examples/fan.vfr");
@@ -22,17 +24,6 @@ fn flagged(flags: &str) -> String {
 
 fn assert_one_question(fragment: &str) {
     assert_accepted(fragment, 3, 65_534);
-}
-
-/// The row of a fragment's only question.
-fn question(fragment: &str) -> Row {
-    read(framed(fragment).as_bytes(), 3).expect(fragment).rows[2]
-}
-
-/// The line of a fragment's only question in the resolved text.
-fn resolved(fragment: &str) -> String {
-    let (_, text) = resolve(framed(fragment).as_bytes(), 3, 65_536).expect(fragment);
-    text.lines().nth(1).expect("a line after the form's").to_string()
 }
 
 /// 21: seven words, reserved everywhere; what is near to them is a name.
@@ -182,13 +173,13 @@ fn signed_borders() {
 fn rows() {
     let signed = "NUMERIC_SIZE_1|DISPLAY_INT_DEC";
     let default = question(&numeric(signed, "minimum=251,maximum=5,default=255"));
-    assert_eq!(default, [7, 1, 1, 0, 0, 256, 251, 5, 0, 255, 0, 140, 4]);
+    assert_eq!(default, [7, 1, 1, 0, 0, 256, 251, 5, 1, 255, 0, 140, 4]);
     let absent = question(&numeric(signed, "minimum=251,maximum=254"));
-    assert_eq!(absent, [7, 1, 1, 0, 0, 0, 251, 254, 0, 0, 0, 140, 4]);
+    assert_eq!(absent, [7, 1, 1, 0, 0, 0, 251, 254, 1, 0, 0, 140, 4]);
     let plain = question("numeric P,minimum=0,maximum=1,endnumeric;");
-    assert_eq!(plain, [7, 1, 1, 0, 0, 0, 0, 1, 0, 0, 0, 140, 33]);
+    assert_eq!(plain, [7, 1, 1, 0, 0, 0, 0, 1, 1, 0, 0, 140, 33]);
     let hex = question(&flagged("NUMERIC_SIZE_1|DISPLAY_UINT_HEX|READ_ONLY"));
-    assert_eq!(hex, [7, 1, 1, 0, 0, 1, 0, 1, 0, 0, 0, 140, 6]);
+    assert_eq!(hex, [7, 1, 1, 0, 0, 1, 0, 1, 1, 0, 0, 140, 6]);
     assert_eq!(question("checkbox P,endcheckbox;"), [6, 1, 1, 0, 0, 0, 0, 0, 0, 0, 0, 140, 0]);
     for (at, display) in ["INT_DEC", "UINT_DEC", "UINT_HEX"].into_iter().enumerate() {
         for size in [1, 2, 4, 8] {
@@ -218,10 +209,10 @@ fn resolved_flags() {
     let strings = "prompt = STRING_TOKEN ( 0 ) , help = STRING_TOKEN ( 0 )";
     let signed = numeric("DISPLAY_INT_DEC|RESET_REQUIRED|NUMERIC_SIZE_1|READ_ONLY", "minimum=251,maximum=5");
     let flags = "flags = READ_ONLY | RESET_REQUIRED | NUMERIC_SIZE_1 | DISPLAY_INT_DEC";
-    let limits = "minimum = 251 , maximum = 5 , step = 0 , endnumeric ;";
+    let limits = "minimum = 251 , maximum = 5 , step = 1 , endnumeric ;";
     assert_eq!(resolved(&signed), format!("numeric questionid = 1 , {strings} , {flags} , {limits}"));
     let flags = "flags = NUMERIC_SIZE_8 | DISPLAY_UINT_HEX";
-    let limits = "minimum = 16 , maximum = 255 , step = 0 , endnumeric ;";
+    let limits = "minimum = 16 , maximum = 255 , step = 1 , endnumeric ;";
     let hex = resolved(&numeric("DISPLAY_UINT_HEX", "minimum=0x10,maximum=0xff"));
     assert_eq!(hex, format!("numeric questionid = 1 , {strings} , {flags} , {limits}"));
     assert_eq!(resolved("checkbox P,endcheckbox;"), format!("checkbox questionid = 1 , {strings} , endcheckbox ;"));
@@ -229,17 +220,17 @@ fn resolved_flags() {
     assert!(plain.contains(" , flags = NUMERIC_SIZE_8 | DISPLAY_UINT_DEC , minimum = 0 , "), "{plain}");
 }
 
-/// 34 and 38: the worked example, and its text of before, which has no size and no display and keeps its step.
+/// 34: the worked example, and its text without the words of size and display, which it then gets.
 #[test]
 fn worked_example() {
     let (_, text) = resolve(EXAMPLE.as_bytes(), 15, 65_536).expect("the worked example");
     let line = "numeric questionid = 1 , prompt = STRING_TOKEN ( 7 ) , help = STRING_TOKEN ( 8 ) , \
-                flags = READ_ONLY | NUMERIC_SIZE_8 | DISPLAY_UINT_DEC , minimum = 0 , maximum = 9 , step = 0 , \
+                flags = READ_ONLY | NUMERIC_SIZE_8 | DISPLAY_UINT_DEC , minimum = 0 , maximum = 9 , step = 1 , \
                 endnumeric ;\n";
     assert!(text.contains(line), "{text}");
-    let before = text.replace(" | NUMERIC_SIZE_8 | DISPLAY_UINT_DEC", "");
-    assert_eq!((before.len(), text.len()), (569, 605));
-    assert_eq!(resolve(before.as_bytes(), 15, 65_536).map(|(_, text)| text), Ok(text));
+    let without = text.replace(" | NUMERIC_SIZE_8 | DISPLAY_UINT_DEC", "");
+    assert_eq!((without.len(), text.len()), (569, 605));
+    assert_eq!(resolve(without.as_bytes(), 15, 65_536).map(|(_, text)| text), Ok(text));
 }
 
 /// 35: the text is longer than before, and the limits stay.
@@ -249,7 +240,7 @@ fn longer_texts() {
     assert_eq!(resolve(EXAMPLE.as_bytes(), 15, 569), Err(short(605)));
     let numerics = |count: usize| framed(&"numeric P,minimum=0,maximum=1,endnumeric;".repeat(count));
     let line = |number: u32| {
-        let words = "flags = NUMERIC_SIZE_8 | DISPLAY_UINT_DEC , minimum = 0 , maximum = 1 , step = 0 , endnumeric ;\n";
+        let words = "flags = NUMERIC_SIZE_8 | DISPLAY_UINT_DEC , minimum = 0 , maximum = 1 , step = 1 , endnumeric ;\n";
         format!("numeric questionid = {number} , prompt = STRING_TOKEN ( 0 ) , help = STRING_TOKEN ( 0 ) , {words}")
             .len()
     };

@@ -3,9 +3,10 @@
 //! (`tests/cases/given.jsonl`) or of showing (`tests/cases/given-show.jsonl`). Zeros at the end of a table or output are
 //! left off, and long sources come without tokens.
 //!
-//! The cases of reading are given for W-204. Those of showing were given for W-202, and no reader had a part in what was
+//! The cases of reading are given for W-208. Those of showing were given for W-202, and no reader had a part in what was
 //! changed of them: each row has W-204's column, 33 for a numeric and 0 otherwise; as many whole rows are lent as before;
-//! 27 cases that were refused with 3 at a word of W-204 are left out, as nothing given says what they show now.
+//! 27 cases that were refused with 3 at a word of W-204 are left out, as nothing given says what they show now; the step of
+//! five numerics that write none is 1 (W-208).
 
 #![forbid(unsafe_code)]
 

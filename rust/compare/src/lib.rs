@@ -11,7 +11,7 @@ pub mod edits;
 mod grammar;
 pub mod json;
 mod limits;
-mod numerics;
+pub mod numerics;
 pub mod outcomes;
 pub mod random;
 mod rules;

@@ -176,19 +176,22 @@ fn many_answers(random: &mut Random) -> Vec<u8> {
     framed(&(0..count).map(question).collect::<String>())
 }
 
-/// Numerics whose resolved text is about as long as one may be, or longer.
+/// Numerics whose resolved text is about as long as one may be, or longer; with a step, which is 0 or 1, or without.
 fn many_numerics(random: &mut Random) -> Vec<u8> {
     let words = random.pick(&["", "flags=NUMERIC_SIZE_1,", "flags=DISPLAY_INT_DEC|NUMERIC_SIZE_4|READ_ONLY,"]);
-    let numeric = format!("numeric prompt=STRING_TOKEN(0),help=STRING_TOKEN(0),{words}minimum=0,maximum=0,endnumeric;");
+    let step = random.pick(&["", "", "step=0,", "step=1,"]);
+    let settings = format!("{words}minimum=0,maximum=0,{step}");
+    let numeric = format!("numeric prompt=STRING_TOKEN(0),help=STRING_TOKEN(0),{settings}endnumeric;");
     framed(&numeric.repeat(random.between(340, 380)))
 }
 
-/// A numeric whose three limits and step are each at a border of some size, mostly its own.
+/// A numeric whose three limits, and step if it has one, are each at a border of some size, mostly its own.
 fn borders(random: &mut Random) -> Vec<u8> {
     let bytes = [1, 2, 4, 8][random.below(4)];
     let display = random.pick(&["|DISPLAY_INT_DEC", "|DISPLAY_INT_DEC", "|DISPLAY_UINT_DEC", "|DISPLAY_UINT_HEX", ""]);
     let [minimum, maximum, step, default] = [(); 4].map(|()| border(bytes, random));
-    let settings = format!("minimum={minimum},maximum={maximum},step={step},default={default}");
+    let step = if random.once_in(4) { String::new() } else { format!("step={step},") };
+    let settings = format!("minimum={minimum},maximum={maximum},{step}default={default}");
     let strings = "prompt=STRING_TOKEN(0),help=STRING_TOKEN(0)";
     framed(&format!("numeric {strings},flags=NUMERIC_SIZE_{bytes}{display},{settings},endnumeric;"))
 }

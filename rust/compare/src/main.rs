@@ -1,7 +1,8 @@
 //! `compare SECONDS [SEED]`: the library against the reference on every edit of one source, which takes
 //! about twenty seconds, then on random sources for so long. It prints how often each call gave each answer, how many
-//! tokens were compared, and how many rows of screens were hidden, grey, both or neither; a run of at least a minute fails
-//! where an answer that a call can give, a token or a byte of a screen was never met, a shorter one only says so.
+//! tokens were compared, how many accepted numerics have no step, 0, 1 or another, and how many rows of screens were
+//! hidden, grey, both or neither; a run of at least a minute fails where an answer that a call can give, a token, a
+//! sort of step or a byte of a screen was never met, a shorter one only says so.
 
 #![forbid(unsafe_code)]
 
@@ -244,9 +245,9 @@ impl Run {
         for check in checks(source, random) {
             self.checks += 1;
             match outcome(source, &check) {
-                Ok(Outcome::Answer(call, answered)) => self.note(call, answered),
+                Ok(Outcome::Answer(call, answered)) => self.note(source, call, answered),
                 Ok(Outcome::Screen(Shown { answered, bytes })) => {
-                    self.note(Call::Showing, answered);
+                    self.note(source, Call::Showing, answered);
                     self.tally.note_screen(&bytes);
                 }
                 Ok(Outcome::Tokens(classes)) => self.tally.note_tokens(&classes),
@@ -260,10 +261,14 @@ impl Run {
         true
     }
 
-    fn note(&mut self, call: Call, answered: Answered) {
+    /// Notes what a call met; where a source is resolved, so that rows and text agree, also the steps of its numerics.
+    fn note(&mut self, source: &[u8], call: Call, answered: Answered) {
         self.tally.note(call, answered.met);
         if call == Call::Reading && answered.line > 1 {
             self.tally.note(Call::ReadingLater, answered.met);
+        }
+        if call == Call::Resolving && answered.met.is_accepted() {
+            self.tally.note_steps(source);
         }
     }
 

@@ -1,4 +1,5 @@
-//! Document 02, W-204: the numerics of a source by its tokens alone, for what an answer has to do with sizes and signs.
+//! Document 02, W-204 and W-208: the numerics of a source by its tokens alone, for what an answer has to do with sizes,
+//! signs and steps.
 
 use reference::{Kind, Lexer, Token};
 
@@ -17,6 +18,15 @@ pub struct Numeric {
     maximum: Option<Setting>,
     step: Option<Setting>,
     default: Option<Setting>,
+}
+
+/// What is written for a step.
+#[derive(Clone, Copy, PartialEq, Eq, Debug)]
+pub enum Step {
+    Absent,
+    Zero,
+    One,
+    Other,
 }
 
 /// The numerics of a text of the grammar, in order.
@@ -50,6 +60,15 @@ impl Numeric {
                 kind if kind.is_last() => return numeric,
                 _ => {}
             }
+        }
+    }
+
+    pub fn step(&self) -> Step {
+        match self.step.map(|setting| setting.value) {
+            None => Step::Absent,
+            Some(Some(0)) => Step::Zero,
+            Some(Some(1)) => Step::One,
+            Some(_) => Step::Other,
         }
     }
 

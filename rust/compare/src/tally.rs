@@ -1,4 +1,4 @@
-//! Which answers were met, call by call, and which tokens and bytes of screens; and which should have been.
+//! Which answers were met, call by call, and which tokens, steps and bytes of screens; and which should have been.
 
 use crate::numerics::{numerics, Numeric};
 use crate::strays::strays;
@@ -105,6 +105,10 @@ impl Met {
         }
     }
 
+    pub fn is_accepted(self) -> bool {
+        matches!(self, Met::Accepted | Met::AcceptedSigned)
+    }
+
     /// What an answer is; the need of a text tells why it is refused.
     pub fn of<T>(answer: Result<T, &Refusal>, source: &[u8]) -> Met {
         match answer {
@@ -161,11 +165,16 @@ impl fmt::Display for Met {
 /// What the bytes of screens say of a row.
 const BYTES: [&str; 4] = ["neither", "hidden", "grey", "both"];
 
-/// How often each call gave each answer, and how often each class of tokens and each byte of screens was met.
+/// What a numeric may write for its step, in the order of `Step`.
+const STEPS: [&str; 4] = ["absent", "zero", "one", "other"];
+
+/// How often each call gave each answer, and how often each class of tokens, each sort of step and each byte of screens
+/// was met.
 #[derive(Default)]
 pub struct Tally {
     counts: BTreeMap<(Met, Call), u64>,
     classes: BTreeMap<u64, u64>,
+    steps: [u64; STEPS.len()],
     bytes: [u64; BYTES.len()],
 }
 
@@ -178,6 +187,11 @@ impl Tally {
         classes.iter().for_each(|&class| *self.classes.entry(class).or_default() += 1);
     }
 
+    /// Notes the steps of an accepted source's numerics.
+    pub fn note_steps(&mut self, source: &[u8]) {
+        numerics(source).iter().for_each(|numeric| self.steps[numeric.step() as usize] += 1);
+    }
+
     /// Notes the bytes of a screen; there are no others than those that have a name.
     pub fn note_screen(&mut self, bytes: &[u8]) {
         bytes.iter().for_each(|&byte| self.bytes[usize::from(byte)] += 1);
@@ -187,19 +201,26 @@ impl Tally {
         self.counts.get(&(met, call)).copied().unwrap_or(0)
     }
 
-    /// The answers that a call can give and never gave, and the classes of tokens and bytes of screens that were never met.
+    /// The answers that a call can give and never gave, and the classes of tokens, sorts of steps and bytes of screens
+    /// that were never met.
     pub fn missing(&self) -> Vec<String> {
         let all = CALLS.into_iter().flat_map(|call| call.answers().into_iter().map(move |met| (call, met)));
         let answers = all.filter(|&(call, met)| self.count(call, met) == 0).map(|(call, met)| format!("{call}, {met}"));
         let classes = (0..CLASSES as u64).filter(|class| !self.classes.contains_key(class));
-        let bytes = BYTES.iter().zip(self.bytes).filter(|(_, count)| *count == 0);
         let tokens = classes.map(|class| format!("tokens of class {class}"));
-        answers.chain(tokens).chain(bytes.map(|(name, _)| format!("bytes of screens: {name}"))).collect()
+        let steps = unmet(&STEPS, &self.steps).map(|name| format!("steps of numerics: {name}"));
+        let bytes = unmet(&BYTES, &self.bytes).map(|name| format!("bytes of screens: {name}"));
+        answers.chain(tokens).chain(steps).chain(bytes).collect()
     }
 }
 
-/// A line for each answer, a column for each call; `-` where the call cannot give it. Then lines for the tokens and the
-/// bytes of screens.
+/// The names whose count is 0.
+fn unmet<'a>(names: &'a [&str], counts: &'a [u64]) -> impl Iterator<Item = &'a str> {
+    names.iter().zip(counts).filter(|(_, count)| **count == 0).map(|(name, _)| *name)
+}
+
+/// A line for each answer, a column for each call; `-` where the call cannot give it. Then lines for the tokens, the
+/// steps and the bytes of screens.
 impl fmt::Display for Tally {
     fn fmt(&self, f: &mut fmt::Formatter) -> fmt::Result {
         write!(f, "{:32}", "")?;
@@ -216,6 +237,8 @@ impl fmt::Display for Tally {
         }
         let tokens: u64 = self.classes.values().sum();
         write!(f, "\n  {tokens} tokens of {} classes, of {CLASSES} that there are", self.classes.len())?;
+        write!(f, "\n  steps of numerics that are accepted:")?;
+        STEPS.iter().zip(self.steps).try_for_each(|(name, count)| write!(f, " {count} {name}"))?;
         write!(f, "\n  rows of screens:")?;
         BYTES.iter().zip(self.bytes).try_for_each(|(name, count)| write!(f, " {count} {name}"))
     }

@@ -1,6 +1,8 @@
 //! A resolved text reads as its source did, but for names and places, resolves to itself, and is shown as its source is.
+//! It has a step for each numeric.
 
 use compare::answers::answers;
+use compare::numerics::{numerics, Step};
 use compare::random::Random;
 use compare::sources::source;
 use reference::{column, resolve, show, Row, LONGEST};
@@ -15,9 +17,15 @@ fn without_places(row: &Row) -> Row {
     row
 }
 
+/// How many numerics of a text have no step.
+fn absent_steps(text: &[u8]) -> usize {
+    numerics(text).iter().filter(|numeric| numeric.step() == Step::Absent).count()
+}
+
 #[test]
 fn resolved_again() {
     let mut resolved = 0;
+    let mut without_step = 0;
     for seed in 0..3_000 {
         let source = source(&mut Random::new(seed));
         let Ok((first, text)) = resolve(&source, ROWS, LONGEST) else { continue };
@@ -25,9 +33,12 @@ fn resolved_again() {
         assert_eq!(again, text, "seed {seed}");
         assert_eq!(second.free, first.free, "seed {seed}");
         assert!(second.rows.iter().map(without_places).eq(first.rows.iter().map(without_places)), "seed {seed}");
+        assert_eq!(absent_steps(text.as_bytes()), 0, "seed {seed}");
         resolved += 1;
+        without_step += usize::from(absent_steps(&source) > 0);
     }
     assert!(resolved > 500, "only {resolved} sources were accepted");
+    assert!(without_step > 200, "only {without_step} sources had a numeric without step");
 }
 
 #[test]

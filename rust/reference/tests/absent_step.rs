@@ -103,8 +103,8 @@ const FRAGMENTS: [(&str, u64); 14] = [
     ("numeric P,minimum=0,maximum=0,#endnumeric;rule A,ruleref(A)endrule;", 14),
 ];
 
-/// Rows and texts of a written 1 are those of an absent step. Those of a written 0 differ from them in one number and in one
-/// byte.
+/// Rows and texts of a written 1 are those of an absent step. Those of a written 0 differ from them in one number and
+/// one byte.
 #[test]
 fn beside_a_written_one() {
     for (fragment, _) in FRAGMENTS.iter().filter(|(_, number)| *number == 0) {

@@ -2,12 +2,14 @@
 //! library against the reference. The folder has `NNNN.vfr` with `NNNN.expected`, and `rows.jsonl`. Document 02 changes some
 //! of these answers: a word that W-204 reserves is 3, and a reference to a rule of another form is 11 (W-203); then refusal
 //! 14 (W-202) may stand where document 01 refuses with nothing, or with 13, which comes after it. Rows have one number more,
-//! and texts name the size and display of each numeric (W-204), for which they may be too long.
+//! and texts name the size and display of each numeric (W-204), for which they may be too long. In both the step of a
+//! numeric that writes none, by the tokens of the source, is 1 (W-208).
 
 #![forbid(unsafe_code)]
 
 use compare::check;
 use compare::json::{base64, Json};
+use compare::numerics::{numerics, Step};
 use compare::outcomes::{differ, Outcomes};
 use compare::strays::strays;
 use library::ANSWER;
@@ -29,6 +31,9 @@ const NUMERIC: u64 = 7;
 /// What absent words of W-204 mean, in words and as a row holds it.
 const ABSENT_FORMAT: &str = "NUMERIC_SIZE_8 | DISPLAY_UINT_DEC";
 const ABSENT_CELL: u64 = 33;
+
+/// What an absent step means in document 02.
+const ABSENT_STEP: u64 = 1;
 
 /// What the program `resolve` prints.
 fn printed(source: &[u8]) -> String {
@@ -71,16 +76,25 @@ fn changed(source: &[u8], number: u64, place: u64) -> Option<(u64, u64)> {
     word.map(|place| (GRAMMAR_REFUSAL, place)).or_else(|| stray().map(|place| (LOST_REFUSAL, place)))
 }
 
-/// Document 01's resolved text with the size and display of each numeric, which begins a line, after its other flags.
-fn with_formats(text: &str) -> String {
-    let with_format = |line: &str| match line.split_once(" , minimum = ") {
+/// Whether each numeric of a source has no step, in order.
+fn absent_steps(source: &[u8]) -> impl Iterator<Item = bool> {
+    numerics(source).into_iter().map(|numeric| numeric.step() == Step::Absent)
+}
+
+/// Document 01's resolved text of a source with the size and display of each numeric, which begins a line, after its
+/// other flags, and with its step.
+fn changed_text(source: &[u8], text: &str) -> String {
+    let mut absent = absent_steps(source);
+    let changed_line = |line: &str| match line.split_once(" , minimum = ") {
         Some((before, after)) if line.starts_with("numeric ") => {
             let joint = if before.contains(" , flags = ") { " | " } else { " , flags = " };
+            let step = if absent.next() == Some(true) { ABSENT_STEP } else { 0 };
+            let after = after.replace(" , step = 0 , ", &format!(" , step = {step} , "));
             format!("{before}{joint}{ABSENT_FORMAT} , minimum = {after}")
         }
         _ => line.to_string(),
     };
-    text.split_inclusive('\n').map(with_format).collect()
+    text.split_inclusive('\n').map(changed_line).collect()
 }
 
 /// The number and place of the refusal in a printed line, or 0 of a text.
@@ -100,7 +114,7 @@ fn text_case(source: &[u8], expected: &[u8]) -> Option<String> {
     let expected = match changed(source, number, place) {
         Some((number, place)) => refused(number, place),
         None if is_circle(printed_refusal(given.as_bytes()).0, number) => return None,
-        None => with_formats(&String::from_utf8_lossy(expected)),
+        None => changed_text(source, &String::from_utf8_lossy(expected)),
     };
     let expected = if expected.len() > PROGRAM_BYTES { refused(TEXT_REFUSAL, 0) } else { expected };
     (given != expected).then(|| format!("printed {given:?}\nexpected {expected:?}"))
@@ -131,11 +145,16 @@ fn told(reading: &Result<Reading, Refusal>) -> Told {
     }
 }
 
-fn told_in(case: &Json) -> Told {
+fn told_in(source: &[u8], case: &Json) -> Told {
     let number = |name: &str| case.field(name).number();
+    let mut absent = absent_steps(source);
     let row = |row: &Json| {
         let mut cells: Vec<u64> = row.list().iter().map(Json::number).collect();
-        cells.push(if cells[column::CODE] == NUMERIC { ABSENT_CELL } else { 0 });
+        let is_numeric = cells[column::CODE] == NUMERIC;
+        cells.push(if is_numeric { ABSENT_CELL } else { 0 });
+        if is_numeric && absent.next() == Some(true) {
+            cells[column::C] = ABSENT_STEP;
+        }
         cells
     };
     let table = case.field("table").list().iter().map(row).collect();
@@ -143,7 +162,7 @@ fn told_in(case: &Json) -> Told {
 }
 
 fn read_case(source: &[u8], rows: usize, case: &Json) -> Option<String> {
-    let (given, expected) = (told(&reference::read(source, rows)), told_in(case));
+    let (given, expected) = (told(&reference::read(source, rows)), told_in(source, case));
     let expected = match changed(source, expected.0, expected.1) {
         Some((number, place)) => (number, place, 0, 0, Vec::new()),
         None if is_circle(given.0, expected.0) => return None,
@@ -158,7 +177,7 @@ fn resolve_case(source: &[u8], rows: usize, bytes: usize, case: &Json) -> Option
     let (number, place, rows, free, _) = told(&given.map(|(reading, _)| reading));
     let numbers = [number, place, rows, free, text.len() as u64];
     let [number, place, rows, free] = ["number", "place", "rows", "free"].map(|name| case.field(name).number());
-    let longer = with_formats(case.field("text").text());
+    let longer = changed_text(source, case.field("text").text());
     let (expected, expected_text) = match changed(source, number, place) {
         Some((number, place)) => ([number, place, 0, 0, 0], ""),
         None if is_circle(numbers[0], number) => return None,

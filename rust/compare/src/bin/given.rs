@@ -5,8 +5,8 @@
 //!
 //! The cases of reading are given for W-208. Those of showing were given for W-202, and no reader had a part in what was
 //! changed of them: each row has W-204's column, 33 for a numeric and 0 otherwise; as many whole rows are lent as before;
-//! 27 cases that were refused with 3 at a word of W-204 are left out, as nothing given says what they show now; the step of
-//! five numerics that write none is 1 (W-208).
+//! 27 cases that were refused with 3 at a word of W-204 are left out, as nothing given says what they show now; the
+//! step of five numerics that write none is 1 (W-208).
 
 #![forbid(unsafe_code)]
 

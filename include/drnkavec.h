@@ -94,7 +94,8 @@ enum {
     VFR_TEXT = 0x03,        /* text, help */
     VFR_ONEOF = 0x05,       /* prompt, help */
     VFR_CHECKBOX = 0x06,    /* prompt, help; d: 1 for TRUE */
-    VFR_NUMERIC = 0x07,     /* prompt, help; a, b, c, d: minimum, maximum, step, default, as written or 0 */
+    VFR_NUMERIC = 0x07,     /* prompt, help; a, b, c, d: minimum, maximum, step, default, as written; an absent step is
+                               1, an absent default 0 */
     VFR_OPTION = 0x09,      /* text; a: value */
     VFR_SUPPRESSIF = 0x0A,
     VFR_FORMSET = 0x0E,     /* title, help; a: the GUID's 32, 16 and 16 bits, first highest; b: its eight bytes */

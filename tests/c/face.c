@@ -362,6 +362,11 @@ static void check_example(void)
                                              [VFR_COL_PLACE] = place_of(EXAMPLE, "questionref")};
     const uint64_t either[VFR_COLUMNS] = {[VFR_COL_CODE] = VFR_OR, [VFR_COL_PARENT] = 3,
                                           [VFR_COL_PLACE] = place_of(EXAMPLE, "OR 1")};
+    const uint64_t numeric[VFR_COLUMNS] = {[VFR_COL_CODE] = VFR_NUMERIC, [VFR_COL_PARENT] = 3, [VFR_COL_NUMBER] = 1,
+                                           [VFR_COL_FIRST] = 7, [VFR_COL_SECOND] = 8, [VFR_COL_FLAGS] = VFR_READ_ONLY,
+                                           [VFR_COL_B] = 9, [VFR_COL_C] = 1,
+                                           [VFR_COL_PLACE] = place_of(EXAMPLE, "numeric"),
+                                           [VFR_COL_SIZE] = 8 * VFR_SIZE_UNIT + VFR_DISPLAY_UINT_DEC};
     const size_t count = sizeof EXAMPLE - 1;
 
     read_source(EXAMPLE, count, NUMBERS);
@@ -372,6 +377,7 @@ static void check_example(void)
     check("its checkbox, which gets number 2", row_is(2, checkbox));
     check("its reference by name", row_is(4, reference));
     check("its OR, after both operands", row_is(13, either));
+    check("its numeric, whose absent step is 1", row_is(14, numeric));
     check("past the rows the table is 0", all(table, EXAMPLE_ROWS * VFR_COLUMNS, NUMBERS, 0));
     check("past the table nothing is written", table[NUMBERS] == OLD);
     check("the quick check passes it", quick(EXAMPLE, count) == 0);
@@ -732,17 +738,20 @@ static void check_lines(void)
 
 /* ---- Resolving ---- */
 
-static const char RESOLVED[] =
-    "formset guid = { 0x00000001 , 0x0002 , 0x0003 , { 0x04 , 0x05 , 0x06 , 0x07 , 0x08 , 0x09 , 0x0a , 0x0b } } , "
-    "title = STRING_TOKEN ( 2 ) , help = STRING_TOKEN ( 3 ) , form formid = 16 , title = STRING_TOKEN ( 4 ) ;\n"
-    "checkbox questionid = 2 , prompt = STRING_TOKEN ( 5 ) , help = STRING_TOKEN ( 6 ) , default = TRUE , "
-    "endcheckbox ;\n"
-    "suppressif NOT questionref ( 2 ) OR 1 + 2 * 3 == 7 ;\n"
-    "numeric questionid = 1 , prompt = STRING_TOKEN ( 7 ) , help = STRING_TOKEN ( 8 ) , flags = READ_ONLY | "
-    "NUMERIC_SIZE_8 | DISPLAY_UINT_DEC , minimum = 0 , maximum = 9 , step = 0 , endnumeric ;\n"
-    "endif ;\n"
-    "endform ;\n"
-    "endformset ;\n";
+/* The worked output, with these flags and this step of its numeric. */
+#define OUTPUT(flags, step)                                                                                            \
+    "formset guid = { 0x00000001 , 0x0002 , 0x0003 , { 0x04 , 0x05 , 0x06 , 0x07 , 0x08 , 0x09 , 0x0a , 0x0b } } , "   \
+    "title = STRING_TOKEN ( 2 ) , help = STRING_TOKEN ( 3 ) , form formid = 16 , title = STRING_TOKEN ( 4 ) ;\n"       \
+    "checkbox questionid = 2 , prompt = STRING_TOKEN ( 5 ) , help = STRING_TOKEN ( 6 ) , default = TRUE , "            \
+    "endcheckbox ;\n"                                                                                                  \
+    "suppressif NOT questionref ( 2 ) OR 1 + 2 * 3 == 7 ;\n"                                                           \
+    "numeric questionid = 1 , prompt = STRING_TOKEN ( 7 ) , help = STRING_TOKEN ( 8 ) , "                              \
+    "flags = " flags " , minimum = 0 , maximum = 9 , step = " step " , endnumeric ;\n"                                 \
+    "endif ;\n"                                                                                                        \
+    "endform ;\n"                                                                                                      \
+    "endformset ;\n"
+
+static const char RESOLVED[] = OUTPUT("READ_ONLY | NUMERIC_SIZE_8 | DISPLAY_UINT_DEC", "1");
 
 static void check_resolve(void)
 {
@@ -854,6 +863,9 @@ static void check_format(const struct size *size, const struct display *display)
     make(NUMERIC, size->word, "|", display->word, ",minimum=", lower, ",maximum=", lower, ",default=^", upper,
          ",endnumeric;", NULL);
     check_refusal("and so is such a default", VFR_BAD_CHOICE);
+    make(NUMERIC, size->word, "|", display->word, ",minimum=0,maximum=0,endnumeric;", NULL);
+    good = reads_question();
+    check("an absent step is 1, with limits below it", good && cell(2, VFR_COL_C) == 1);
 }
 
 static void check_formats(void)
@@ -903,7 +915,7 @@ static void check_signed(void)
     static const char line[] =
         "\nnumeric questionid = 1 , prompt = STRING_TOKEN ( 5 ) , help = STRING_TOKEN ( 6 ) , "
         "flags = READ_ONLY | RESET_REQUIRED | NUMERIC_SIZE_1 | DISPLAY_INT_DEC , "
-        "minimum = 251 , maximum = 5 , step = 0 , default = 255 , endnumeric ;\n";
+        "minimum = 251 , maximum = 5 , step = 1 , default = 255 , endnumeric ;\n";
 
     make("numeric questionid=1," STRINGS ",flags=DISPLAY_INT_DEC|RESET_REQUIRED|NUMERIC_SIZE_1|READ_ONLY,",
          "minimum=0xFB,maximum=5,default=255,endnumeric;suppressif questionref(1)==251;label 1;endif;", NULL);
@@ -916,6 +928,54 @@ static void check_signed(void)
     check("and so they are answered", answer[VFR_ANSWER_NUMBER] == VFR_ACCEPTED && out[7] == VFR_HIDDEN);
     show_source(source, length, LIST(1, UINT64_MAX - 4), NUMBERS, 100);
     check("and not in 64 bits", answer[VFR_ANSWER_NUMBER] == VFR_ACCEPTED && out[7] == 0);
+}
+
+/* ---- Steps: document 02, W-208 ---- */
+
+#define ZEROS "numeric " STRINGS ",minimum=0,maximum=0,"
+
+/* The made source is resolved; the row of its first item has this step, and this part stands in the text. */
+static bool resolves_step(uint64_t step, const char *part)
+{
+    resolve_source(source, length, NUMBERS, VFR_MAX_TEXT);
+    return answer[VFR_ANSWER_NUMBER] == VFR_ACCEPTED && cell(2, VFR_COL_C) == step &&
+           strstr((const char *)out, part) != NULL;
+}
+
+/* A text of the worked example is resolved to this one, and has this step in its row. */
+static bool resolves_again(const char *text, const char *wanted, uint64_t step)
+{
+    const size_t need = strlen(wanted);
+
+    resolve_source(text, strlen(text), NUMBERS, VFR_MAX_TEXT);
+    return has_resolved(EXAMPLE_ROWS, EXAMPLE_FREE, need) && memcmp(out, wanted, need) == 0 &&
+           cell(EXAMPLE_ROWS - 1, VFR_COL_C) == step;
+}
+
+static void check_steps(void)
+{
+    static const char before_sizes[] = OUTPUT("READ_ONLY", "0");
+    static const char before_steps[] = OUTPUT("READ_ONLY | NUMERIC_SIZE_8 | DISPLAY_UINT_DEC", "0");
+
+    make(ZEROS "endnumeric;", NULL);
+    check("an absent step is 1 in the row and in the text", resolves_step(1, " , step = 1 , endnumeric ;\n"));
+    make(ZEROS "step=1,endnumeric;", NULL);
+    check("so is a written 1", resolves_step(1, " , step = 1 , endnumeric ;\n"));
+    make(ZEROS "step=0,endnumeric;", NULL);
+    check("a written 0 stays 0", resolves_step(0, " , step = 0 , endnumeric ;\n"));
+    make(ZEROS "default=0,endnumeric;", NULL);
+    check("a default is no step", resolves_step(1, " , step = 1 , default = 0 , endnumeric ;\n"));
+    make(ZEROS "endnumeric;", ZEROS "step=0,endnumeric;", ZEROS "step=7,endnumeric;", ZEROS "endnumeric;",
+         "checkbox " STRINGS ",endcheckbox;", NULL);
+    read_source(source, length, NUMBERS);
+    check("each numeric has its own, and another question none",
+          has_read(7, 65530) && cell(2, VFR_COL_C) == 1 && cell(3, VFR_COL_C) == 0 && cell(4, VFR_COL_C) == 7 &&
+              cell(5, VFR_COL_C) == 1 && cell(6, VFR_COL_C) == 0);
+    make(ZEROS "default=^1,endnumeric;", NULL);
+    check_refusal("an absent step allows no default", VFR_BAD_CHOICE);
+    check("the worked output resolves to itself", resolves_again(RESOLVED, RESOLVED, 1));
+    check("older text keeps the 0 that it writes", resolves_again(before_steps, before_steps, 0));
+    check("so does text without size and display, and gets both", resolves_again(before_sizes, before_steps, 0));
 }
 
 /* ---- Showing: document 02, W-202 ---- */
@@ -1304,6 +1364,7 @@ int main(void)
     check_formats();
     check_second_words();
     check_signed();
+    check_steps();
     check_show();
     check_bytes();
     check_questions();

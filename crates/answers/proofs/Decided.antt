@@ -191,11 +191,18 @@ acceptedCases =
     has ((30 ∷ 1 ∷ 0 ∷ 0 ∷ 0 ∷ 0 ∷ 0 ∷ 0 ∷ 0 ∷ 0 ∷ 0 ∷ 140 ∷ 0 ∷ []) ∷ (70 ∷ 2 ∷ 0 ∷ 0 ∷ 0 ∷ 0 ∷ 0 ∷ 0 ∷ 0 ∷ 0 ∷ 0 ∷ 150 ∷ 0 ∷ []) ∷ (7 ∷ 2 ∷ 9 ∷ 5 ∷ 6 ∷ 260 ∷ 1 ∷ 255 ∷ 2 ∷ 3 ∷ 169 ∷ 155 ∷ 33 ∷ []) ∷ (2 ∷ 2 ∷ 0 ∷ 9 ∷ 0 ∷ 0 ∷ 0 ∷ 0 ∷ 0 ∷ 0 ∷ 0 ∷ 296 ∷ 0 ∷ []) ∷ [])
     -- W204.30, W204.31: numbers as they are written, size times 4 plus display; a repeated flag adds nothing
     ∷ framed-bytes (numeric "NUMERIC_SIZE_1|DISPLAY_INT_DEC" "minimum=251,maximum=5,default=255")
-    has ((7 ∷ 1 ∷ 1 ∷ 5 ∷ 6 ∷ 256 ∷ 251 ∷ 5 ∷ 0 ∷ 255 ∷ 0 ∷ 140 ∷ 4 ∷ []) ∷ [])
+    has ((7 ∷ 1 ∷ 1 ∷ 5 ∷ 6 ∷ 256 ∷ 251 ∷ 5 ∷ 1 ∷ 255 ∷ 0 ∷ 140 ∷ 4 ∷ []) ∷ [])
     ∷ framed-bytes (numeric "NUMERIC_SIZE_1|DISPLAY_UINT_HEX|READ_ONLY|READ_ONLY" "minimum=0,maximum=1")
-    has ((7 ∷ 1 ∷ 1 ∷ 5 ∷ 6 ∷ 1 ∷ 0 ∷ 1 ∷ 0 ∷ 0 ∷ 0 ∷ 140 ∷ 6 ∷ []) ∷ [])
+    has ((7 ∷ 1 ∷ 1 ∷ 5 ∷ 6 ∷ 1 ∷ 0 ∷ 1 ∷ 1 ∷ 0 ∷ 0 ∷ 140 ∷ 6 ∷ []) ∷ [])
     ∷ framed-bytes (numeric "DISPLAY_INT_DEC" "minimum=18446744073709551611,maximum=5")
-    has ((7 ∷ 1 ∷ 1 ∷ 5 ∷ 6 ∷ 0 ∷ 18446744073709551611 ∷ 5 ∷ 0 ∷ 0 ∷ 0 ∷ 140 ∷ 32 ∷ []) ∷ [])
+    has ((7 ∷ 1 ∷ 1 ∷ 5 ∷ 6 ∷ 0 ∷ 18446744073709551611 ∷ 5 ∷ 1 ∷ 0 ∷ 0 ∷ 140 ∷ 32 ∷ []) ∷ [])
+    -- W208.37: an absent step is 1, which is not compared with the limits; a written 0 stays 0
+    ∷ framed "numeric prompt=STRING_TOKEN(5),help=STRING_TOKEN(6),minimum=0,maximum=0,endnumeric;"
+    has ((7 ∷ 1 ∷ 1 ∷ 5 ∷ 6 ∷ 0 ∷ 0 ∷ 0 ∷ 1 ∷ 0 ∷ 0 ∷ 140 ∷ 33 ∷ []) ∷ [])
+    ∷ framed "numeric prompt=STRING_TOKEN(5),help=STRING_TOKEN(6),minimum=0,maximum=0,step=0,endnumeric;"
+    has ((7 ∷ 1 ∷ 1 ∷ 5 ∷ 6 ∷ 0 ∷ 0 ∷ 0 ∷ 0 ∷ 0 ∷ 0 ∷ 140 ∷ 33 ∷ []) ∷ [])
+    ∷ framed "numeric prompt=STRING_TOKEN(5),help=STRING_TOKEN(6),minimum=0,maximum=0,step=1,endnumeric;"
+    has ((7 ∷ 1 ∷ 1 ∷ 5 ∷ 6 ∷ 0 ∷ 0 ∷ 0 ∷ 1 ∷ 0 ∷ 0 ∷ 140 ∷ 33 ∷ []) ∷ [])
     ∷ []
 
 pub accepted-as-decided : map (λ x. rowsRead (x .source)) acceptedCases ≡ map (λ x. x .rows) acceptedCases

@@ -2,6 +2,9 @@
 pub mod Demand3
 -- Document 02's W-203.
 pub mod OwnForm
+-- Document 02's W-208.
+pub mod AbsentStep
+pub mod AnyStep
 -- Decided points of document 01, by computation.
 pub mod Computed
 pub mod Decided

@@ -1,5 +1,5 @@
--- Expressions as the resolved text prints them, with the fewest parentheses, a numeric's flags, and texts that do not fit (document 01, Resolved text;
--- document 02, W-204; docs/DECISIONS.md, D54 and D59 to D61), by computation.
+-- Expressions as the resolved text prints them, with the fewest parentheses, a numeric's flags and step, and texts that do not fit (document 01, Resolved text;
+-- document 02, W-204 and W-208; docs/DECISIONS.md, D54 and D59 to D61), by computation.
 -- Assumes nothing.
 use mathlib.Core.Path.{_≡_, refl}
 use mathlib.Core.List.{List, [], _∷_, _++_, map}
@@ -11,7 +11,7 @@ use Rattle.answers.specs.Resolution.{Resolution}
 use Rattle.answers.proofs.Computed.{resolvedIn, textRead}
 use Rattle.answers.proofs.Decided.{framed-bytes}
 
--- an expression, or a numeric's flags, as a source writes it and as its resolved text does
+-- an expression, or a numeric's flags or step, as a source writes it and as its resolved text does
 pub record Printing : Type 0 where
   pub written : String
   pub printed : String
@@ -77,6 +77,28 @@ numericResolved f =
 pub flags-printed : map (λ x. textRead (numericSource (x .written))) flagPrintings ≡ map (λ x. numericResolved (x .printed)) flagPrintings
 unfolding flagPrintings textRead
 flags-printed = refl
+
+-- ---- a numeric's step: "An absent step is now 1; a written 0 stays 0" (W-208)
+
+unfoldable pub stepPrintings : List Printing
+stepPrintings =
+    "" becomes "1"
+    ∷ "step=0," becomes "0"
+    ∷ "step=0x1," becomes "1"
+    ∷ []
+
+abbrev stepSource : String → List ℕ
+stepSource f = framed-bytes (bytes "numeric prompt=STRING_TOKEN(5),help=STRING_TOKEN(6),minimum=0,maximum=0," ++ (bytes f ++ bytes "endnumeric;"))
+
+abbrev stepResolved : String → List ℕ
+stepResolved f =
+    resolvedFrame (
+    bytes "numeric questionid = 1 , prompt = STRING_TOKEN ( 5 ) , help = STRING_TOKEN ( 6 ) , flags = NUMERIC_SIZE_8 | DISPLAY_UINT_DEC , "
+    ++ (bytes "minimum = 0 , maximum = 0 , step = " ++ (bytes f ++ bytes " , endnumeric ;\n")))
+
+pub steps-printed : map (λ x. textRead (stepSource (x .written))) stepPrintings ≡ map (λ x. stepResolved (x .printed)) stepPrintings
+unfolding stepPrintings textRead
+steps-printed = refl
 
 -- ---- texts that do not fit
 

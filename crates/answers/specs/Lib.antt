@@ -15,3 +15,5 @@ pub mod RowPlaces
 pub mod Reached
 -- The form that a row stands in, and document 02's W-203.
 pub mod Forms
+-- Document 02's W-208.
+pub mod AbsentStep

@@ -1,7 +1,7 @@
 -- The rows of a derivation as they are before numbers are given and references found, each with the places that later stages name
--- (document 01, Rows; document 02, W-204). Assumes nothing.
+-- (document 01, Rows; document 02, W-204 and W-208). Assumes nothing.
 use Prim.Native.Nat.{ℕ, suc, _+_, _*_, _%_, _^_}
-use mathlib.Core.Bool.{Bool, true, false, _&&_, _||_}
+use mathlib.Core.Bool.{true, false, cond}
 use mathlib.Core.List.{List, [], _∷_, _++_}
 use lib.Dec.{eqb, ltb}
 use lib.ListN.{length, getD}
@@ -41,6 +41,10 @@ rowWith code parent place entries = filled (column.CODE ≔ code ∷ column.PARE
 -- a row that names nothing
 abbrev pub withoutMarks : List ℕ → Draft
 withoutMarks r = record { row = r; ownAt = 0; limitAt = 0; defaultAt = 0 }
+
+-- "An absent step is now 1" (W-208). Document 01 has 0 here
+abbrev pub ABSENT-STEP : ℕ
+ABSENT-STEP = 1
 
 -- ---- what is counted
 
@@ -92,8 +96,9 @@ module _ (number-at : ℕ → ℕ) where
 
   -- ---- the statements, each row under its line of the grammar; c are the trees under it
 
-  abbrev pub item : ℕ → ℕ → Trees → Draft
-  item parent i c =
+  -- an item, where a numeric whose step is not written has that of `absent`
+  abbrev pub itemBy : ℕ → ℕ → ℕ → Trees → Draft
+  itemBy absent parent i c =
       let p = placeAt 0 c in
       getD (
       -- subtitle text = STR ;
@@ -121,7 +126,7 @@ module _ (number-at : ℕ → ℕ) where
       (column.FLAGS ≔ (flags (child numeric·flags c) + when default flag.HAS-DEFAULT)
       ∷ column.A ≔ value numeric·minimum c
       ∷ column.B ≔ value numeric·maximum c
-      ∷ column.C ≔ when (written numeric·step c) (value step·value (child numeric·step c))
+      ∷ column.C ≔ cond (written numeric·step c) (value step·value (child numeric·step c)) absent
       ∷ column.D ≔ when default (value default·value (child numeric·default c))
       ∷ column.SIZE ≔ sizeAndDisplay (sizeIn (child numeric·flags c)) (displayIn (child numeric·flags c))
       ∷ [])
@@ -134,6 +139,9 @@ module _ (number-at : ℕ → ℕ) where
       ∷ withoutMarks (rowWith code.DISABLE-IF parent p [])
       ∷ [])
       i (withoutMarks [])
+
+  abbrev pub item : ℕ → ℕ → Trees → Draft
+  item = itemBy ABSENT-STEP
 
   -- option text = STR , value = N , flags = (N or DEFAULT) ;
   abbrev pub option : ℕ → Trees → Draft
@@ -221,14 +229,17 @@ module _ (number-at : ℕ → ℕ) where
   condition at i c = elim (ltb 6 i) [ true ↦ expressionRows at (expression (child condition·expression c)) | false ↦ [] ]
 
   -- a tree's own rows, a condition's and a rule's with their expression: the parent, the row's number, the rules before
-  abbrev pub ownRows : ℕ → ℕ → ℕ → ℕ → Own
-  ownRows parent at n A =
-      otherwise A <item> (λ i c. item parent i c ∷ condition at i c)
+  abbrev pub ownRowsBy : ℕ → ℕ → ℕ → ℕ → ℕ → Own
+  ownRowsBy absent parent at n A =
+      otherwise A <item> (λ i c. itemBy absent parent i c ∷ condition at i c)
       (otherwise A <option> (λ i c. option parent c ∷ [])
       (otherwise A <rule> (λ i c. ruleDraft parent n c ∷ expressionRows at (expression (child rule·expression c)))
       (otherwise A <form> (λ i c. form parent c ∷ [])
       (otherwise A <source> (λ i c. formSet c ∷ [])
       (λ i c. [])))))
+
+  abbrev pub ownRows : ℕ → ℕ → ℕ → ℕ → Own
+  ownRows = ownRowsBy ABSENT-STEP
 
   -- what a tree's own rows make the parent of those in it
   abbrev pub parentIn : ℕ → ℕ → List Draft → ℕ
@@ -236,10 +247,13 @@ module _ (number-at : ℕ → ℕ) where
   parentIn parent at (d ∷ ds) = at
 
   -- the rows of trees beside one another: the parent, the next row's number, the rules before
+  abbrev pub draftsBy : ℕ → Trees → ℕ → ℕ → ℕ → List Draft
+  draftsBy absent nil parent at n = []
+  draftsBy absent (leaf t f) parent at n = draftsBy absent f parent at n
+  draftsBy absent (node A i c f) parent at n =
+      let own = ownRowsBy absent parent at n A i c in
+      let within = own ++ draftsBy absent c (parentIn parent at own) (at + length own) n in
+      within ++ draftsBy absent f parent (at + length within) (n + rulesIn (node A i c nil))
+
   abbrev pub draftsOf : Trees → ℕ → ℕ → ℕ → List Draft
-  draftsOf nil parent at n = []
-  draftsOf (leaf t f) parent at n = draftsOf f parent at n
-  draftsOf (node A i c f) parent at n =
-      let own = ownRows parent at n A i c in
-      let within = own ++ draftsOf c (parentIn parent at own) (at + length own) n in
-      within ++ draftsOf f parent (at + length within) (n + rulesIn (node A i c nil))
+  draftsOf = draftsBy ABSENT-STEP

@@ -1,4 +1,4 @@
--- What an entry gives: the value of the number at a mark, or a flag.
+-- What an entry gives: the value of the number at a mark, a numeric's step, or a flag.
 -- Assumes nothing.
 use Prim.Native.Nat.{ℕ, zero, suc, _-_, _≤_}
 use mathlib.Core.Bool.{Bool, true, false, cond}
@@ -6,11 +6,13 @@ use lib.Dec.{eqb}
 use mathlib.Core.Path.{_≡_, refl, ap, sym, _∙_}
 use mathlib.Core.Logic.{_≢_}
 use native.Mathlib.Omega.{arith}
+use borrow.Author.Tests.{ne-eqb}
 use mathlib.Core.List.{List}
 use Rattle.values.specs.declared.Value.{Value}
 use Rattle.values.specs.Numbers.{valueAt}
 use Rattle.grammar.specs.Source.{heldValue, numberAt}
-use Rattle.fields.specs.Phrases.{markedValue, setIf}
+use Rattle.answers.specs.Rows.{ABSENT-STEP}
+use Rattle.fields.specs.Phrases.{markedValue, markedStep, setIf}
 
 module _ (number-at : ℕ → ℕ) where
   pub value-none : {m : ℕ} → m ≡ 0 → markedValue number-at m ≡ 0
@@ -21,6 +23,15 @@ module _ (number-at : ℕ → ℕ) where
   unfolding markedValue
   value-some zero h = absurd (h refl)
   value-some (suc p) h = ap number-at (omega arith)
+
+  -- a step that is absent, and one that is written
+  pub step-absent : {m : ℕ} → m ≡ 0 → ABSENT-STEP ≡ markedStep number-at m
+  unfolding markedStep
+  step-absent e = rw e
+
+  pub step-there : (m : ℕ) → m ≢ 0 → markedValue number-at m ≡ markedStep number-at m
+  unfolding markedStep
+  step-there m h = rw (ne-eqb m 0 h)
 
 -- the value that was read at a mark
 pub value-there : (s : List ℕ) (m : ℕ) (v w : Value) → m ≢ 0 → v ≡ valueAt s (m - 1) → v ≡ w → heldValue w ≡ markedValue (numberAt s) m

@@ -1,4 +1,5 @@
--- The draft row of a phrase from the entries that it keeps (document 01, Rows). An entry is a mark, but for flags and truths.
+-- The draft row of a phrase from the entries that it keeps (document 01, Rows; document 02, W-208). An entry is a mark, but for flags
+-- and truths.
 -- Assumes nothing.
 use Prim.Native.Nat.{ℕ, zero, suc, _+_, _*_, _/_, _%_, _^_}
 use mathlib.Core.Bool.{true, false, cond}
@@ -10,7 +11,7 @@ use Rattle.rows.specs.Codes as code
 use Rattle.rows.specs.Columns as column
 use Rattle.rows.specs.Cells.{Entry, _≔_}
 use Rattle.rows.specs.Flags as flag
-use Rattle.answers.specs.Rows.{Draft, withoutMarks, rowWith, operand}
+use Rattle.answers.specs.Rows.{Draft, withoutMarks, rowWith, operand, ABSENT-STEP}
 use Rattle.fields.specs.Sizes.{sizeEntry}
 
 -- the entries by their number, from 0 on; one that there is not is 0
@@ -49,6 +50,10 @@ module _ (number-at : ℕ → ℕ) where
   unfoldable pub markedValue : ℕ → ℕ
   markedValue zero = 0
   markedValue (suc p) = number-at p
+
+  -- a numeric's step by its mark: "An absent step is now 1; a written 0 stays 0"
+  unfoldable pub markedStep : ℕ → ℕ
+  markedStep mark = cond (eqb mark 0) ABSENT-STEP (markedValue mark)
 
   -- form formid = N , title = STR ;
   abbrev pub formDraft : ℕ → ℕ → (ℕ → ℕ) → Draft
@@ -110,7 +115,7 @@ module _ (number-at : ℕ → ℕ) where
       column.FLAGS ≔ (k 4 % 256 + setIf (k 8) flag.HAS-DEFAULT)
       ∷ column.A ≔ markedValue (k 5)
       ∷ column.B ≔ markedValue (k 6)
-      ∷ column.C ≔ markedValue (k 7)
+      ∷ column.C ≔ markedStep (k 7)
       ∷ column.D ≔ markedValue (k 8)
       ∷ column.SIZE ≔ sizeEntry (k 4)
       ∷ []))
@@ -173,7 +178,8 @@ module _ (number-at : ℕ → ℕ) where
 
   abbrev pub lowOf : (ℕ → ℕ) → ℕ
   lowOf k =
-      bitsOf 8 (k 0) * 2 ^ 56 + bitsOf 8 (k 1) * 2 ^ 48 + bitsOf 8 (k 2) * 2 ^ 40 + bitsOf 8 (k 3) * 2 ^ 32 + bitsOf 8 (k 4) * 2 ^ 24 + bitsOf 8 (k 5) * 2 ^ 16 + bitsOf 8 (k 6) * 2 ^ 8 + bitsOf 8 (k 7)
+      bitsOf 8 (k 0) * 2 ^ 56 + bitsOf 8 (k 1) * 2 ^ 48 + bitsOf 8 (k 2) * 2 ^ 40 + bitsOf 8 (k 3) * 2 ^ 32
+      + bitsOf 8 (k 4) * 2 ^ 24 + bitsOf 8 (k 5) * 2 ^ 16 + bitsOf 8 (k 6) * 2 ^ 8 + bitsOf 8 (k 7)
 
   abbrev pub formSetDraft : ℕ → (ℕ → ℕ) → (ℕ → ℕ) → Draft
   formSetDraft place high low =

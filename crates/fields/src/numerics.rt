@@ -1,10 +1,15 @@
-// A numeric's size, and whether its numbers fit it (document 02, W-204).
+// A numeric's size, and whether its numbers fit it (document 02, W-204); its step (W-208).
+use crate::parts::value;
 use elements::KEPT;
 use rows::displays::UNSIGNED_8;
 use values::Value;
 ghost use mathlib.Core.Path.{_≡_};
-ghost use Rattle.fields.specs.Phrases.{kept};
+ghost use Rattle.grammar.specs.Source.{numberAt};
+ghost use Rattle.fields.specs.Phrases.{kept, markedStep};
 ghost use Rattle.fields.specs.Sizes.{sizeEntry, oversized, firstOversized};
+
+// What an absent step is.
+const ABSENT_STEP: u64 = 1;
 
 // Column 12 of a numeric, from what its FL keeps: eight bytes and DISPLAY_UINT_DEC where it is absent.
 pub fn size_and_display(entry: u64) -> u64
@@ -12,6 +17,17 @@ pub fn size_and_display(entry: u64) -> u64
 {
     let named = entry / 256;
     if named == 0 { UNSIGNED_8 } else { named }
+}
+
+// A numeric's step by its mark; a written 0 stays 0.
+pub fn step(src: &[u8], mark: u64) -> u64
+    ensures { λ r. ⌜ r ≡ markedStep (numberAt (now (src .entry))) mark ⌝ }
+{
+    if mark == 0 {
+        ABSENT_STEP
+    } else {
+        value(src, mark)
+    }
 }
 
 // There is a number at the mark, and it does not fit the size.

@@ -1,5 +1,6 @@
 // The rows of questions. A question's HEAD keeps four entries: name, number, prompt, help.
 use crate::numerics::size_and_display;
+use crate::numerics::step;
 use crate::parts::plain_row;
 use crate::parts::set_if;
 use crate::parts::value;
@@ -73,7 +74,7 @@ pub fn numeric_row(src: &[u8], parent: usize, place: usize, k: [u64; KEPT]) -> [
     r[FLAGS] = k[4] % 256 + set_if(k[8], HAS_DEFAULT);
     r[A] = value(src, k[5]);
     r[B] = value(src, k[6]);
-    r[C] = value(src, k[7]);
+    r[C] = step(src, k[7]);
     r[D] = value(src, k[8]);
     r[SIZE] = size_and_display(k[4]);
     with_marks(r, k[1], k[6], k[8])

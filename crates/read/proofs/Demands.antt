@@ -1,8 +1,10 @@
 -- Demands 1 and 3 of the functions `read` and `quick_check`: what their contracts say of every source and every table lent, in document 01's terms
--- with W-202's to W-204's, which are those of `answers`' `specs/Demand3`; and document 02's requests W-201, W-203 and W-204 of `read`.
+-- with W-202's to W-204's, which are those of `answers`' `specs/Demand3`; and document 02's requests W-201, W-203, W-204 and W-208 of
+-- `read`.
 -- Assumes nothing.
 use Prim.Native.Nat.{ℕ, _+_, _-_, _*_, _/_, _^_, _≤_, _<_}
 use mathlib.Core.Path.{_≡_, sym, ap, _∙_}
+use mathlib.Core.Bool.{true}
 use mathlib.Core.Logic.{_↔_, _≢_}
 use mathlib.Core.List.{List, []}
 use lib.ListN.{length, getD, drop, replicate}
@@ -15,16 +17,22 @@ use Rattle.rows.specs.Codes as code
 use Rattle.rows.specs.Columns as column
 use Rattle.rows.specs.Columns.{ROW}
 use Rattle.rows.specs.Rows.{rowsFrom, laid}
-use Rattle.ll1.specs.Trees.{Trees}
+use Rattle.ll1.specs.Trees.{Trees, node}
+use Rattle.grammar.specs.Rules.{<item>}
+use Rattle.grammar.specs.Positions.{item·numeric}
+use Rattle.grammar.specs.Source.{numberAt}
 use Rattle.answers.specs.Stages.{placeOf, rowAmong, inVain, ownNumbers, finished}
 use Rattle.answers.specs.Answer as answers
 use Rattle.answers.specs.Answer.{LONGEST, refuses, drafts}
 use Rattle.answers.specs.WholeAnswer.{quickCheck, readAnswer, readTable}
 use Rattle.answers.specs.Demand3.{Sound, Early, Passes, Refuses, questionNumbers, GetsSmallest}
+use Rattle.answers.specs.Reached.{Reached}
 use Rattle.answers.specs.Forms.{columnOf, OfItsForm, Stray}
+use Rattle.answers.specs.AbsentStep.{Stepped, draftsBefore, answerBefore, writesSteps}
 use Rattle.answers.proofs.Answers.{passes-grammatical}
 use Rattle.answers.proofs.Demand3 as Demand3
 use Rattle.answers.proofs.OwnForm as OwnForm
+use Rattle.answers.proofs.AbsentStep as AbsentStep
 use Rattle.sound.specs.SizedRows.{ColumnTwelve}
 use Rattle.sound.proofs.SizedRows as SizedRows
 use Rattle.replies.specs.Replies.{positionOf, accepting, readReplied, readReply}
@@ -82,6 +90,12 @@ module _ {s : List ℕ} {n : ℕ} {r : Answer} {t′ : List ℕ} (v : Reading s 
       → told r ≡ readReplied s (refuses 11 (placeOf (rowAmong (drafts s tree) i .ownAt)))
   stray-refused p h w before = v .answer ∙ ap (readReplied s) (OwnForm.stray-refused p h w before)
 
+  -- ---- W-208: a missing step is 1
+
+  -- no answer has changed: nothing is checked against an absent step
+  pub answer-as-before : told r ≡ readReplied s (answerBefore s n)
+  answer-as-before = v .answer ∙ ap (readReplied s) (sym (AbsentStep.answer-as-before s n))
+
   -- ---- demand 3
 
   -- "For every source of at most 65,536 bytes and every table of at least as many whole rows as the source has bytes": accepted exactly when the
@@ -135,6 +149,19 @@ module _ {s : List ℕ} {n : ℕ} {r : Answer} {t′ : List ℕ} (v : Reading s 
       -- step and default must fit the size", and they stand in its order
       pub column-twelve : (i : ℕ) → ColumnTwelve (getD (rowsFrom t′ 0 (length (drafts s tree))) i [])
       column-twelve = rw rows-in-table (SizedRows.sized-row s tree sound short)
+
+      -- ---- W-208
+
+      -- "An absent step is now 1; a written 0 stays 0": in the row of each numeric of the derivation
+      pub step-in-table :
+          {c f : Trees} {parent at rules : ℕ}
+          → Reached (numberAt s) tree (node <item> item·numeric c f) parent at rules
+          → Stepped s (rowsFrom t′ 0 (length (drafts s tree))) at c
+      step-in-table q = rw rows-in-table (AbsentStep.stepped s tree q)
+
+      -- "Older resolved text writes every step and reads as before": where every numeric writes its step, the rows are those of before
+      pub rows-as-before : writesSteps tree ≡ true → rowsFrom t′ 0 (length (drafts s tree)) ≡ finished s (draftsBefore s tree)
+      rows-as-before h = rows-in-table ∙ sym (AbsentStep.rows-as-before s tree h)
 
     -- whatever table is lent, an accepted source has such a derivation, and its rows stand in the table
     pub accepted-rows :

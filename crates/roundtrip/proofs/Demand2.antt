@@ -1,4 +1,5 @@
--- Demand 2: the text of a source that resolves is read again to the same rows, and resolves to itself. The terms are those of `specs/Demand2`.
+-- Demand 2: the text of a source that resolves is read again to the same rows, and resolves to itself; it writes every step (document 02, W-208). The
+-- terms are those of `specs/Demand2`.
 -- Assumes nothing.
 use mathlib.Core.Path.{_≡_, refl, ap, ap₂, sym, _∙_, subst}
 use mathlib.Core.List.{List, [], _∷_, map}
@@ -14,6 +15,8 @@ use Rattle.numbers.specs.Numbers.{numbered, freeCount}
 use Rattle.rows.specs.Columns as column
 use Rattle.rows.specs.Columns.{ROW}
 use Rattle.ll1.specs.Trees.{Trees}
+use Rattle.grammar.specs.Derivation.{Derives}
+use Rattle.grammar.specs.Source.{sourceTokens}
 use Rattle.answers.specs.Rows.{Draft}
 use Rattle.answers.specs.Stages.{cell, ownNumbers, finished}
 use Rattle.answers.specs.Answer.{LONGEST, accepts, drafts}
@@ -21,8 +24,9 @@ use Rattle.answers.specs.WholeAnswer.{derived, checked, readAnswer, rowsOf, rea
 use Rattle.answers.specs.Text.{textOf, rowFirstAt, resolvedText}
 use Rattle.answers.specs.Resolution.{textOfSource, room, resolvedInto, resolution, resolvedTable, resolvedOutput}
 use Rattle.answers.specs.Demand3.{Sound, PassesAll}
+use Rattle.answers.specs.AbsentStep.{writesSteps}
 use Rattle.answers.proofs.Answers.{sound-passes, passes-grammatical, passes-room, passes-sound, passes-derived, passes-rows, passes-text, accepted-answer}
-use Rattle.answers.proofs.Demand3.{accepts-passing, table-rows, table-past-rows}
+use Rattle.answers.proofs.Demand3.{one-derivation-of-source, accepts-passing, table-rows, table-past-rows}
 use Rattle.sound.proofs.Lists.{All, none, more}
 use Rattle.answers.proofs.RowPlaces.{rows-by-place}
 use Rattle.again.specs.Matches.{final, Match, Pairs, no-pairs, pair}
@@ -190,6 +194,11 @@ module _ (s : List ℕ) (n m : ℕ) (r : Resolved s n m) where
         same-text = subst (λ x. textOfSource x ≡ x) e text′;
       }
 
+  steps-written : (tree : Trees) → Derives (sourceTokens (textOfSource s)) tree → writesSteps tree ≡ true
+  steps-written f d =
+      let g : Derives (sourceTokens t) f = subst (λ x. Derives (sourceTokens x) f) text-is d in
+      subst (λ x. writesSteps x ≡ true) (one-derivation-of-source t tree′ f (the-trip .derives) g) (the-trip .steps-written)
+
   same-resolution : resolution (textOfSource s) n m ≡ resolution s n m
   same-resolution = subst (λ x. resolution x n m ≡ resolution s n m) (sym text-is) resolution′
 
@@ -200,6 +209,10 @@ module _ (s : List ℕ) (n m : ℕ) (h : resolution s n m .number ≡ 0) where
 
   pub reads-again : ReadsAgain textOfSource s n
   reads-again = again s n m (resolved s n m h)
+
+  -- the text "writes every step" (W-208)
+  pub writes-steps : (tree : Trees) → Derives (sourceTokens (textOfSource s)) tree → writesSteps tree ≡ true
+  writes-steps = steps-written s n m (resolved s n m h)
 
   -- and resolving it ends with the same answer, table lent and output lent being as large
   pub resolves-again : resolution (textOfSource s) n m ≡ resolution s n m

@@ -125,7 +125,8 @@ numbers-fit r ha hb hc hd =
     record {
       minimum = fit (cell column.A r) ha;
       maximum = fit (cell column.B r) hb;
-      step = λ e. fit (cell column.C r) hc;
+      step-written = refl;
+      step = fit (cell column.C r) hc;
       default = default-fits w (hasFlag flag.HAS-DEFAULT r) (cell column.D r) (fit (cell column.D r) hd);
     }
 

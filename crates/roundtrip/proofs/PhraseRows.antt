@@ -2,7 +2,7 @@
 -- Assumes nothing.
 use mathlib.Core.Path.{_≡_, refl, ap, _∙_}
 use mathlib.Core.List.{List, [], _∷_}
-use mathlib.Core.Bool.{Bool, true, false}
+use mathlib.Core.Bool.{Bool, true, false, cond}
 use Prim.Native.Nat.{ℕ, suc, _+_, _*_, _/_, _%_, _^_}
 use native.Mathlib.Omega.{arith}
 use lib.Dec.{eqb, ltb}
@@ -19,7 +19,7 @@ use Rattle.rows.specs.Sizes.{NO-SIZE, UINT-DEC, sizeAndDisplay}
 use Rattle.ll1.specs.Trees.{Trees}
 use Rattle.grammar.specs.Source.{numberAt}
 use Rattle.grammar.specs.Parts.{child, chosen, placeAt}
-use Rattle.answers.specs.Rows.{Draft, rowWith, numeralAt, value, string, writtenNumber, writtenMark, nameMark, item, option, form, guidHigh, guidLow, guidBytes, formSet}
+use Rattle.answers.specs.Rows.{Draft, ABSENT-STEP, rowWith, numeralAt, value, string, writtenNumber, writtenMark, nameMark, item, option, form, guidHigh, guidLow, guidBytes, formSet}
 use Rattle.grammar.specs.Parts.{mark, when}
 use Rattle.grammar.specs.Flags.{FlagWord, flagWords, sizeWords, displayWords, classesOf, classes, total, flags, firstOf}
 use Rattle.grammar.proofs.FlagTotals.{PassesOver, noneOf, total-passes, first-passes}
@@ -187,7 +187,7 @@ module _ (t : List ℕ) where
       let hs = number-is {v = cell column.C r} (over-part 2 (over-part 12 o)) in
       let de = ap (λ k. eqb k 1) (over-taken 13 o) ∙ present-is (hasFlag flag.HAS-DEFAULT r) in
       let dv = ap (λ z. when z (value N 2 (child 13 T))) de ∙ default-is (hasFlag flag.HAS-DEFAULT r) (cell column.D r) (over-part 13 o) in
-      let hc : when (eqb (chosen 12 T) 1) (value N 2 (child 12 T)) ≡ cell column.C r = λ i. when (eqb (over-taken 12 o i) 1) (hs i) in (
+      let hc : cond (eqb (chosen 12 T) 1) (value N 2 (child 12 T)) ABSENT-STEP ≡ cell column.C r = λ i. cond (eqb (over-taken 12 o i) 1) (hs i) ABSENT-STEP in (
         record {
           row = λ i. questionRow code.NUMERIC parent (placeAt 0 T) (h .own i) (h .first i) (h .second i) (h .unnamed i) (column.FLAGS ≔ (fl i + when (de i) flag.HAS-DEFAULT) ∷ column.A ≔ ha i ∷ column.B ≔ hb i ∷ column.C ≔ hc i ∷ column.D ≔ dv i ∷ column.SIZE ≔ sizeAndDisplay (hz i) (hy i) ∷ []);
           written = h .written;

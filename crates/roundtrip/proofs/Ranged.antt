@@ -1,4 +1,5 @@
--- Shapes whose words can be read back, whose numbers keep their ranges and whose flags have no second size or display word; and the trees over them.
+-- Shapes whose words can be read back, whose numbers keep their ranges, whose flags have no second size or display word and whose numerics write their
+-- step; and the trees over them.
 -- Assumes nothing.
 use mathlib.Core.Path.{_≡_, refl, ap, sym, subst}
 use mathlib.Core.List.{List, [], _∷_, _++_}
@@ -14,6 +15,7 @@ use Rattle.sizes.specs.Sizes.{modulus, fits}
 use Rattle.rows.specs.Sizes.{NO-SIZE}
 use Rattle.grammar.specs.Rules.{<atom>, <large>, <item>, <numeric-fl>}
 use Rattle.answers.specs.Expression.{Operator, operatorClass, or, and, bit-or, bit-and, equal, not-equal, less, less-equal, greater, greater-equal, shift-left, shift-right, add, subtract, multiply, divide, modulo, Constant, constantClass, true′, false′, zero′, one′, ones′, undefined′}
+use Rattle.answers.specs.AbsentStep.{writesSteps}
 use Rattle.grammar.specs.Parts.{child, written, placeAt}
 use Rattle.grammar.specs.Positions.{numeric·flags, numeric·minimum, numeric·maximum, numeric·step, numeric·default, step·value, default·value}
 use Rattle.grammar.specs.Flags.{sizeWords, displayWords, classes, firstOf, sizeIn, secondsIn}
@@ -55,11 +57,12 @@ Keeps (digits n) (s-node A i c x) = ⊥
 abbrev pub sizeNamed : Shape → ℕ
 sizeNamed c = sizeIn (flat (part numeric·flags c))
 
--- its numbers fit it, step and default where they are written
+-- its numbers fit it, the default where it is written; the step always is
 pub record NumbersFit (c : Shape) : Type 0 where
   pub minimum : Keeps (bytes (sizeNamed c)) (part numeric·minimum c)
   pub maximum : Keeps (bytes (sizeNamed c)) (part numeric·maximum c)
-  pub step : eqb (taken numeric·step c) 1 ≡ true → Keeps (bytes (sizeNamed c)) (part step·value (part numeric·step c))
+  pub step-written : eqb (taken numeric·step c) 1 ≡ true
+  pub step : Keeps (bytes (sizeNamed c)) (part step·value (part numeric·step c))
   pub default : eqb (taken numeric·default c) 1 ≡ true → Keeps (bytes (sizeNamed c)) (part default·value (part numeric·default c))
 
 -- one size word and one display word at most
@@ -150,8 +153,7 @@ module _ (t : List ℕ) where
       let same : sizeIn (child numeric·flags T) ≡ sizeNamed x = ap (firstOf sizeWords NO-SIZE) (over-classes (over-part numeric·flags o)) in
       let minimum = over-keeps w (over-part numeric·minimum o) (h .minimum) in
       let maximum = over-keeps w (over-part numeric·maximum o) (h .maximum) in
-      let step = written-out w numeric·step step·value T (λ e.
-      over-keeps w (over-part step·value (over-part numeric·step o)) (h .step (subst (λ k. eqb k 1 ≡ true) (over-taken numeric·step o) e))) in
+      let step = written-out w numeric·step step·value T (λ e. over-keeps w (over-part step·value (over-part numeric·step o)) (h .step)) in
       let default = written-out w numeric·default default·value T (λ e.
       over-keeps w (over-part default·value (over-part numeric·default o)) (h .default (subst (λ k. eqb k 1 ≡ true) (over-taken numeric·default o) e))) in
       let others = none-out w (writtenPlace numeric·step step·value T) (writtenPlace numeric·default default·value T) step default in
@@ -193,6 +195,22 @@ module _ (t : List ℕ) where
   over-seconds over-nil h = refl
   over-seconds (over-leaf r o) h = over-seconds o (h .1)
   over-seconds (over-node {A = A} {i = i} o₁ o₂) h = rw (over-seconds o₁ (h .1), node-seconds A i o₁ (h .0), over-seconds o₂ (h .2))
+
+  -- ---- and every numeric in it writes its step
+
+  node-steps : (A i : ℕ) {T : Trees} {x : Shape} → Over t T x → NodeKeeps A i x → cond (isNumeric A i) (written numeric·step T) true ≡ true
+  node-steps A i {T} {x} o h = by (isNumeric A i) (eqb A <numeric-fl>) h
+    where
+      by : (numeric list : Bool) → KeepsAs numeric list (rangeOf A) x → cond numeric (written numeric·step T) true ≡ true
+      by false list h = refl
+      by true false h = subst (λ k. eqb k 1 ≡ true) (sym (over-taken numeric·step o)) (h .1 .step-written)
+      by true true h = absurd h
+
+  pub over-steps : {T : Trees} {x : Shape} → Over t T x → Ranged x → writesSteps T ≡ true
+  unfolding writesSteps
+  over-steps over-nil h = refl
+  over-steps (over-leaf r o) h = over-steps o (h .1)
+  over-steps (over-node {A = A} {i = i} o₁ o₂) h = rw (node-steps A i o₁ (h .0), over-steps o₁ (h .1), over-steps o₂ (h .2))
 
 -- ---- expressions
 

@@ -31,7 +31,7 @@ use Rattle.answers.specs.Rows.{Draft, rulesIn, draftsOf, expressionRows, item, 
 use Rattle.answers.specs.Stages.{cell, is, asks}
 use Rattle.answers.specs.Text.{numericList}
 use Rattle.sound.proofs.Lists.{All, none, more}
-use Rattle.sound.proofs.SizedRows.{when-below}
+use Rattle.sound.proofs.SizedRows.{when-below, one-below, step-below, named-some}
 use Rattle.sound.proofs.Kept.{Kept, kept-nil, kept-leaf, kept-node, Node, part, id-range, small-range, string-range, sized}
 use Rattle.formulas.specs.Expressions.{ruleAt}
 use Rattle.formulas.specs.Formula.{formula}
@@ -196,7 +196,7 @@ module _ (s : List ℕ) (look : ℕ → List ℕ) where
           numbers-fit (found c)
               (below _ _ (cell-is column.A z ∙ z .a-same refl) (fit .minimum))
               (below _ _ (cell-is column.B z) (fit .maximum))
-              (below _ _ (cell-is column.C z) (when-below written-step step (modulus n) (modulus-some n) (fit .step)))
+              (below _ _ (cell-is column.C z) (step-below written-step step (modulus n) (one-below n (named-some (child 3 c))) (fit .step)))
               (below _ _ (cell-is column.D z) (when-below written-default default (modulus n) (modulus-some n) (fit .default))),
         ),
         numeric-ranged (found c) (own-id z refl)
@@ -204,7 +204,7 @@ module _ (s : List ℕ) (look : ℕ → List ℕ) where
             (omega (arith, cell-is column.SECOND z, string-range s h 8 refl))
             (omega (arith, cell-is column.A z, z .a-same refl, number-small s (placeAt 0 (child 6 c))))
             (omega (arith, cell-is column.B z, number-small s (placeAt 0 (child 10 c))))
-            (omega (arith, cell-is column.C z, when-below written-step step (2 ^ 64) (omega arith) (λ e. number-small s (placeAt 0 (child 2 (child 12 c))))))
+            (omega (arith, cell-is column.C z, step-below written-step step (2 ^ 64) (omega arith) (λ e. number-small s (placeAt 0 (child 2 (child 12 c))))))
             (omega (arith, cell-is column.D z, when-below written-default default (2 ^ 64) (omega arith) (λ e. number-small s (placeAt 0 (child 2 (child 13 c)))))),
       )
 

@@ -1,6 +1,7 @@
 -- The derivation of a resolved text, from the source's derivation and its finished rows.
 -- Assumes nothing.
 use mathlib.Core.Path.{_≡_, ap}
+use mathlib.Core.Bool.{true}
 use mathlib.Core.List.{List, [], _∷_, _++_}
 use mathlib.Core.Option.{some}
 use Prim.Native.Nat.{ℕ, _≤_}
@@ -13,6 +14,7 @@ use Rattle.grammar.specs.Source.{sourceTokens, numberAt}
 use Rattle.grammar.specs.Ranges.{outOfRange, secondWords}
 use Rattle.answers.specs.Rows.{Draft, draftsOf}
 use Rattle.answers.specs.Answer.{LONGEST, drafts}
+use Rattle.answers.specs.AbsentStep.{writesSteps}
 use Rattle.answers.specs.Text.{wordsOf, textOf}
 use Rattle.sound.proofs.Lists.{All, none, more}
 use Rattle.sound.proofs.Places.{source-bounded}
@@ -28,7 +30,7 @@ use Rattle.again.specs.Matches.{Settled, Match, Pairs, no-pairs}
 use Rattle.roundtrip.proofs.Canon.{under, canon, Found, pairs-append}
 use Rattle.roundtrip.proofs.CanonSeq.{spell-node, Ok}
 use Rattle.roundtrip.proofs.CanonWalk.{source-ok}
-use Rattle.roundtrip.proofs.Ranged.{Ranged, ranged-valid, over-ranged, over-seconds}
+use Rattle.roundtrip.proofs.Ranged.{Ranged, ranged-valid, over-ranged, over-seconds, over-steps}
 use Rattle.roundtrip.proofs.RangedWalk.{Fit, source-ranged}
 
 -- the text of a derivation whose rows are found by `look`
@@ -43,6 +45,7 @@ pub record Trip (s : List ℕ) (look : ℕ → List ℕ) (tree : Trees) : Type 0
   pub depths : NowhereTooDeep tree′
   pub no-second : secondWords tree′ ≡ []
   pub kept-ranges : outOfRange (textFrom look tree) tree′ ≡ []
+  pub steps-written : writesSteps tree′ ≡ true
   -- its rows match the source's
   pub rows : Pairs (Match (textFrom look tree) look) (drafts (textFrom look tree) tree′) (drafts s tree)
   -- and where they are found by their places, its text is the same
@@ -89,6 +92,7 @@ module _ (s : List ℕ) (look : ℕ → List ℕ) where
               depths = to-allowed f;
               no-second = over-seconds t o ranged;
               kept-ranges = over-ranged t o ranged;
+              steps-written = over-steps t o ranged;
               rows = match-rows T o;
               again = λ look′ g. match-words look′ T o g;
             }

@@ -2,7 +2,7 @@
 -- Assumes nothing.
 use mathlib.Core.Path.{_≡_, refl}
 use mathlib.Core.List.{List, []}
-use mathlib.Core.Bool.{Bool, true, false, _&&_, _||_}
+use mathlib.Core.Bool.{Bool, true, false, cond, _&&_, _||_}
 use mathlib.Core.Logic.{_≢_}
 use Prim.Native.Nat.{ℕ, zero, suc, _+_, _/_, _%_, _≤_, _<_}
 use native.Mathlib.Omega.{arith}
@@ -21,7 +21,7 @@ use Rattle.ll1.specs.Trees.{Trees}
 use Rattle.ll1.specs.ParseTable.{member}
 use Rattle.ll1.proofs.Basics.{clash, append-empty, all-member}
 use Rattle.sizes.specs.Sizes as sizes
-use Rattle.sizes.proofs.Signed.{modulus-some}
+use Rattle.sizes.proofs.Signed.{half-some, modulus-some, two-halves}
 use Rattle.grammar.specs.Rules.{<source>, <form>, <rule>, <item>, <option>}
 use Rattle.grammar.specs.Source.{numberAt}
 use Rattle.grammar.specs.Parts.{when, mark, child, written, placeAt}
@@ -31,7 +31,7 @@ use Rattle.grammar.specs.Flags.{sizeWords, displayWords, classes, flags, sizeIn
 use Rattle.grammar.proofs.FlagTotals.{flags-le, first-tested}
 use Rattle.answers.specs.Expression.{Expression, number, constant, question-named, question-numbered, rule-named, negation, binary}
 use Rattle.answers.specs.Expression.{constantCode, operatorCode, expression}
-use Rattle.answers.specs.Rows.{Draft, value, item, operand, expressionRows, condition, otherwise, ownRows}
+use Rattle.answers.specs.Rows.{Draft, ABSENT-STEP, value, item, operand, expressionRows, condition, otherwise, ownRows}
 use Rattle.answers.specs.Stages as Stages
 use Rattle.answers.specs.Stages.{cell, is, refers, faultIf, outside, numericFaults, badChoices, finished}
 use Rattle.answers.specs.Answer.{LONGEST, drafts}
@@ -73,6 +73,17 @@ pub when-below : (t : Bool) (n m : ℕ) → 0 < m → (t ≡ true → n < m) →
 when-below true n m z h = h refl
 when-below false n m z h = z
 
+-- 1 fits every size, and so does an absent step
+pub one-below : (w : ℕ) → 1 ≤ w → 1 < sizes.modulus w
+one-below w some = omega (arith, two-halves w some, half-some w)
+
+pub step-below : (t : Bool) (n m : ℕ) → 1 < m → (t ≡ true → n < m) → cond t n ABSENT-STEP < m
+step-below true n m z h = h refl
+step-below false n m z h = z
+
+pub named-some : (f : Trees) → 1 ≤ sizeIn f
+named-some f = leb-true 1 (sizeIn f) (first-tested (λ n. leb 1 n) sizeWords NO-SIZE (classes f) refl refl)
+
 -- what is found of a default that is written
 written-test : (t o : Bool) (p : ℕ) → ltb 0 (when t (mark p)) && o ≡ false → t ≡ true → o ≡ false
 written-test true o p h e = rw (lt-ltb 0 (mark p) (omega arith)) at h
@@ -112,7 +123,7 @@ module _ (s : List ℕ) where
         one-of-displays = rw is-display shown;
         minimum = rw is-size (fit .minimum);
         maximum = rw is-size (fit .maximum);
-        step = rw is-size (when-below (written numeric·step c) (value number-at step·value (child numeric·step c)) _ some (fit .step));
+        step = rw is-size (step-below (written numeric·step c) (value number-at step·value (child numeric·step c)) _ (one-below _ (named-some f)) (fit .step));
         default = rw is-size (when-below default (value number-at default·value (child numeric·default c)) _ some (fit .default));
         ordered = rw (← below-row d (cell column.B d) (cell column.A d) named) (no-fault _ _ (faults .0));
         from-minimum = λ e. rw (← below-row d (cell column.D d) (cell column.A d) named) (inside e .0);

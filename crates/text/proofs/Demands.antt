@@ -1,8 +1,9 @@
 -- Demands 1 and 2 of the function `resolve`: what its contract says of every source, table and output lent, in document 01's terms, which are those of
--- `answers`' `specs/Demand3` and `roundtrip`'s `specs/Demand2`; and document 02's request W-201 of `resolve`.
+-- `answers`' `specs/Demand3` and `roundtrip`'s `specs/Demand2`; and document 02's requests W-201 and W-208 of `resolve`.
 -- Assumes nothing.
 use Prim.Native.Nat.{ℕ, _-_, _/_, _≤_}
 use mathlib.Core.Path.{_≡_, sym, ap, _∙_}
+use mathlib.Core.Bool.{true}
 use mathlib.Core.Logic.{_↔_, _≢_}
 use mathlib.Core.List.{List, _++_}
 use lib.ListN.{length, replicate}
@@ -19,7 +20,9 @@ use Rattle.answers.specs.Text.{resolvedText}
 use Rattle.answers.specs.WholeAnswer.{readAnswer, readTable}
 use Rattle.answers.specs.Resolution.{room, textOfSource, resolvedInto, resolution, resolvedTable, resolvedOutput}
 use Rattle.answers.specs.Demand3.{Sound, PassesAll}
+use Rattle.answers.specs.AbsentStep.{draftsBefore, writesSteps}
 use Rattle.answers.proofs.Answers.{passes-text, accepted-answer, laid-rows}
+use Rattle.answers.proofs.AbsentStep as AbsentStep
 use Rattle.replies.specs.Replies.{Reply, positionOf, accepting, readReplied, resolveReplied, resolveReply}
 use Rattle.replies.specs.Lines.{GivesLine}
 use Rattle.replies.proofs.Laws.{gives-line}
@@ -108,6 +111,17 @@ module _ {s : List ℕ} {n m : ℕ} {r : Answer} {t′ o′ : List ℕ} (v : Res
     -- "The resolved text reads again to the same rows (but the two columns of places), and resolving it again changes no byte"
     pub reads-again : ReadsAgain textOfSource s n
     reads-again = Demand2.reads-again s n m resolved
+
+    -- ---- W-208
+
+    -- the text "writes every step", so that it has the same rows before and after
+    pub text-as-before :
+        (tree : Trees) → Sound (textOfSource s) tree
+        → (writesSteps tree ≡ true) × (finished (textOfSource s) (draftsBefore (textOfSource s) tree) ≡ finished (textOfSource s) (drafts (textOfSource s) tree))
+    text-as-before tree sound =
+        let w = Demand2.writes-steps s n m resolved tree (sound .derives) in (w, AbsentStep.rows-as-before (textOfSource s) tree w)
+
+    -- ---- a second call
 
     read-counts : readAnswer s n ≡ accepts (told r .rows) (told r .free)
     read-counts = found .answer ∙ sym (ap (λ (a : Reply). accepts (a .rows) (a .free)) (counts (found .tree) (found .passes)))

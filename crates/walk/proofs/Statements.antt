@@ -16,13 +16,13 @@ use Rattle.grammar.specs.Rules.{<rule>, <item>, <option>, <form>, <str>, <large
 use Rattle.grammar.specs.Source.{numberAt}
 use Rattle.grammar.specs.Positions.{item·numeric}
 use Rattle.grammar.specs.Parts.{child, chosen, placeAt}
-use Rattle.answers.specs.Rows.{Draft}
+use Rattle.answers.specs.Rows.{Draft, ABSENT-STEP}
 use Rattle.grammar.specs.Parts.{mark, when}
 use Rattle.grammar.specs.Flags.{flags}
 use Rattle.grammar.proofs.FlagTotals.{flags-le}
 use Rattle.elements.specs.Entries.{entries}
 use Rattle.elements.specs.Symbols.{symbolsOf, phraseSymbols, SUBTITLE, TEXT, LABEL, GOTO, CHECKBOX, NUMERIC, ONE-OF-OPEN, OPTION, FORM-OPEN}
-use Rattle.fields.specs.Phrases.{markedValue, setIf, phraseDraft}
+use Rattle.fields.specs.Phrases.{markedValue, markedStep, setIf, phraseDraft}
 use Rattle.walk.specs.Meanings.{_⧺_, rowsOwn, keptOf, phraseRow, Rowed, Opening}
 use Rattle.walk.proofs.Kept.{id-keeps, small-keeps, large-keeps, str-keeps, head-keeps, flags-keeps}
 use Rattle.walk.proofs.Kept.{goto-flags-keeps, truth-keeps, option-flags-keeps}
@@ -34,6 +34,12 @@ value-there : (number-at : ℕ → ℕ) (b : Bool) (p : ℕ) → markedValue num
 unfolding markedValue
 value-there number-at true p = refl
 value-there number-at false p = refl
+
+-- an absent step is 1
+step-there : (number-at : ℕ → ℕ) (b : Bool) (p : ℕ) → markedStep number-at (when b (mark p)) ≡ cond b (number-at p) ABSENT-STEP
+unfolding markedValue markedStep
+step-there number-at true p = rw (ne-eqb (suc p) 0 (λ e. omega arith))
+step-there number-at false p = refl
 
 set-there : (b : Bool) (p bit : ℕ) → setIf (when b (mark p)) bit ≡ when b bit
 unfolding setIf
@@ -121,7 +127,7 @@ module _ (s : List ℕ) (parent at n : ℕ) where
             k .holds .column-is,
             own-number c₁,
             set-there (eqb j₃ 1) (placeAt 0 (child 2 d₃)) flag.HAS-DEFAULT,
-            value-there (numberAt s) (eqb j₂ 1) (placeAt 0 (child 2 d₂)),
+            step-there (numberAt s) (eqb j₂ 1) (placeAt 0 (child 2 d₂)),
             value-there (numberAt s) (eqb j₃ 1) (placeAt 0 (child 2 d₃)),
           )
 

@@ -49,7 +49,7 @@ specimens =
     ∷
     -- 18446744073709551615 as maximum kept
     specimen "formset guid={0x1,0x2,0x3,{0x4,0x5,0x6,0x7,0x8,0x9,0xA,0xB}},title=STRING_TOKEN(2),help=STRING_TOKEN(3),form formid=1,title=STRING_TOKEN(4);numeric prompt=STRING_TOKEN(0),help=STRING_TOKEN(0),minimum=0,maximum=18446744073709551615,endnumeric;endform;endformset;"
-    (accepts 3 65534) ((14 ∷ 0 ∷ 0 ∷ 2 ∷ 3 ∷ 0 ∷ 4295098371 ∷ 289644378304612875 ∷ 0 ∷ 0 ∷ 0 ∷ 0 ∷ 0 ∷ []) ∷ (1 ∷ 0 ∷ 1 ∷ 4 ∷ 0 ∷ 0 ∷ 0 ∷ 0 ∷ 0 ∷ 0 ∷ 0 ∷ 104 ∷ 0 ∷ []) ∷ (7 ∷ 1 ∷ 1 ∷ 0 ∷ 0 ∷ 0 ∷ 0 ∷ 18446744073709551615 ∷ 0 ∷ 0 ∷ 0 ∷ 140 ∷ 33 ∷ []) ∷ [])
+    (accepts 3 65534) ((14 ∷ 0 ∷ 0 ∷ 2 ∷ 3 ∷ 0 ∷ 4295098371 ∷ 289644378304612875 ∷ 0 ∷ 0 ∷ 0 ∷ 0 ∷ 0 ∷ []) ∷ (1 ∷ 0 ∷ 1 ∷ 4 ∷ 0 ∷ 0 ∷ 0 ∷ 0 ∷ 0 ∷ 0 ∷ 0 ∷ 104 ∷ 0 ∷ []) ∷ (7 ∷ 1 ∷ 1 ∷ 0 ∷ 0 ∷ 0 ∷ 0 ∷ 18446744073709551615 ∷ 1 ∷ 0 ∷ 0 ∷ 140 ∷ 33 ∷ []) ∷ [])
     ∷
     -- one more: 5
     specimen "formset guid={0x1,0x2,0x3,{0x4,0x5,0x6,0x7,0x8,0x9,0xA,0xB}},title=STRING_TOKEN(2),help=STRING_TOKEN(3),form formid=1,title=STRING_TOKEN(4);numeric prompt=STRING_TOKEN(0),help=STRING_TOKEN(0),minimum=0,maximum=18446744073709551616,endnumeric;endform;endformset;"
@@ -61,7 +61,7 @@ specimens =
     ∷
     -- minimum 5, maximum 5, default 5 kept
     specimen "formset guid={0x1,0x2,0x3,{0x4,0x5,0x6,0x7,0x8,0x9,0xA,0xB}},title=STRING_TOKEN(2),help=STRING_TOKEN(3),form formid=1,title=STRING_TOKEN(4);numeric prompt=STRING_TOKEN(0),help=STRING_TOKEN(0),minimum=5,maximum=5,default=5,endnumeric;endform;endformset;"
-    (accepts 3 65534) ((14 ∷ 0 ∷ 0 ∷ 2 ∷ 3 ∷ 0 ∷ 4295098371 ∷ 289644378304612875 ∷ 0 ∷ 0 ∷ 0 ∷ 0 ∷ 0 ∷ []) ∷ (1 ∷ 0 ∷ 1 ∷ 4 ∷ 0 ∷ 0 ∷ 0 ∷ 0 ∷ 0 ∷ 0 ∷ 0 ∷ 104 ∷ 0 ∷ []) ∷ (7 ∷ 1 ∷ 1 ∷ 0 ∷ 0 ∷ 256 ∷ 5 ∷ 5 ∷ 0 ∷ 5 ∷ 0 ∷ 140 ∷ 33 ∷ []) ∷ [])
+    (accepts 3 65534) ((14 ∷ 0 ∷ 0 ∷ 2 ∷ 3 ∷ 0 ∷ 4295098371 ∷ 289644378304612875 ∷ 0 ∷ 0 ∷ 0 ∷ 0 ∷ 0 ∷ []) ∷ (1 ∷ 0 ∷ 1 ∷ 4 ∷ 0 ∷ 0 ∷ 0 ∷ 0 ∷ 0 ∷ 0 ∷ 0 ∷ 104 ∷ 0 ∷ []) ∷ (7 ∷ 1 ∷ 1 ∷ 0 ∷ 0 ∷ 256 ∷ 5 ∷ 5 ∷ 1 ∷ 5 ∷ 0 ∷ 140 ∷ 33 ∷ []) ∷ [])
     ∷
     -- default 6: 12
     specimen "formset guid={0x1,0x2,0x3,{0x4,0x5,0x6,0x7,0x8,0x9,0xA,0xB}},title=STRING_TOKEN(2),help=STRING_TOKEN(3),form formid=1,title=STRING_TOKEN(4);numeric prompt=STRING_TOKEN(0),help=STRING_TOKEN(0),minimum=5,maximum=5,default=6,endnumeric;endform;endformset;"
@@ -73,7 +73,7 @@ specimens =
     ∷
     -- W-204: size 1, "minimum 251 and maximum 5 is good"
     specimen "formset guid={0x1,0x2,0x3,{0x4,0x5,0x6,0x7,0x8,0x9,0xA,0xB}},title=STRING_TOKEN(2),help=STRING_TOKEN(3),form formid=1,title=STRING_TOKEN(4);numeric prompt=STRING_TOKEN(0),help=STRING_TOKEN(0),flags=NUMERIC_SIZE_1|DISPLAY_INT_DEC,minimum=251,maximum=5,endnumeric;endform;endformset;"
-    (accepts 3 65534) ((14 ∷ 0 ∷ 0 ∷ 2 ∷ 3 ∷ 0 ∷ 4295098371 ∷ 289644378304612875 ∷ 0 ∷ 0 ∷ 0 ∷ 0 ∷ 0 ∷ []) ∷ (1 ∷ 0 ∷ 1 ∷ 4 ∷ 0 ∷ 0 ∷ 0 ∷ 0 ∷ 0 ∷ 0 ∷ 0 ∷ 104 ∷ 0 ∷ []) ∷ (7 ∷ 1 ∷ 1 ∷ 0 ∷ 0 ∷ 0 ∷ 251 ∷ 5 ∷ 0 ∷ 0 ∷ 0 ∷ 140 ∷ 4 ∷ []) ∷ [])
+    (accepts 3 65534) ((14 ∷ 0 ∷ 0 ∷ 2 ∷ 3 ∷ 0 ∷ 4295098371 ∷ 289644378304612875 ∷ 0 ∷ 0 ∷ 0 ∷ 0 ∷ 0 ∷ []) ∷ (1 ∷ 0 ∷ 1 ∷ 4 ∷ 0 ∷ 0 ∷ 0 ∷ 0 ∷ 0 ∷ 0 ∷ 0 ∷ 104 ∷ 0 ∷ []) ∷ (7 ∷ 1 ∷ 1 ∷ 0 ∷ 0 ∷ 0 ∷ 251 ∷ 5 ∷ 1 ∷ 0 ∷ 0 ∷ 140 ∷ 4 ∷ []) ∷ [])
     ∷
     -- "minimum 127 and maximum 128 is not": 12
     specimen "formset guid={0x1,0x2,0x3,{0x4,0x5,0x6,0x7,0x8,0x9,0xA,0xB}},title=STRING_TOKEN(2),help=STRING_TOKEN(3),form formid=1,title=STRING_TOKEN(4);numeric prompt=STRING_TOKEN(0),help=STRING_TOKEN(0),flags=NUMERIC_SIZE_1|DISPLAY_INT_DEC,minimum=127,maximum=128,endnumeric;endform;endformset;"
@@ -89,7 +89,7 @@ specimens =
     ∷
     -- 255 at size 1 kept
     specimen "formset guid={0x1,0x2,0x3,{0x4,0x5,0x6,0x7,0x8,0x9,0xA,0xB}},title=STRING_TOKEN(2),help=STRING_TOKEN(3),form formid=1,title=STRING_TOKEN(4);numeric prompt=STRING_TOKEN(0),help=STRING_TOKEN(0),flags=NUMERIC_SIZE_1,minimum=0,maximum=255,endnumeric;endform;endformset;"
-    (accepts 3 65534) ((14 ∷ 0 ∷ 0 ∷ 2 ∷ 3 ∷ 0 ∷ 4295098371 ∷ 289644378304612875 ∷ 0 ∷ 0 ∷ 0 ∷ 0 ∷ 0 ∷ []) ∷ (1 ∷ 0 ∷ 1 ∷ 4 ∷ 0 ∷ 0 ∷ 0 ∷ 0 ∷ 0 ∷ 0 ∷ 0 ∷ 104 ∷ 0 ∷ []) ∷ (7 ∷ 1 ∷ 1 ∷ 0 ∷ 0 ∷ 0 ∷ 0 ∷ 255 ∷ 0 ∷ 0 ∷ 0 ∷ 140 ∷ 5 ∷ []) ∷ []) ∷ []
+    (accepts 3 65534) ((14 ∷ 0 ∷ 0 ∷ 2 ∷ 3 ∷ 0 ∷ 4295098371 ∷ 289644378304612875 ∷ 0 ∷ 0 ∷ 0 ∷ 0 ∷ 0 ∷ []) ∷ (1 ∷ 0 ∷ 1 ∷ 4 ∷ 0 ∷ 0 ∷ 0 ∷ 0 ∷ 0 ∷ 0 ∷ 0 ∷ 104 ∷ 0 ∷ []) ∷ (7 ∷ 1 ∷ 1 ∷ 0 ∷ 0 ∷ 0 ∷ 0 ∷ 255 ∷ 1 ∷ 0 ∷ 0 ∷ 140 ∷ 5 ∷ []) ∷ []) ∷ []
 
 pub specimens-hold : map (λ x. outcome (bytes (x .text))) specimens ≡ map (λ x. x .expected) specimens
 unfolding specimens outcomeIn

@@ -56,20 +56,20 @@ value-requires-2 c κs = search needs
 array-write-r-3 : tie.Need-array-write-r-3
 array-write-r-3 c = search needs
 
+array-read-step : tie.Need-array-read-step
+array-read-step c = search needs
+
+step-requires : tie.Need-step-requires
+step-requires c κs = search needs
+
+array-write-r-4 : tie.Need-array-write-r-4
+array-write-r-4 c = search needs
+
 array-read-value-3 : tie.Need-array-read-value-3
 array-read-value-3 c = search needs
 
 value-requires-3 : tie.Need-value-requires-3
 value-requires-3 c κs = search needs
-
-array-write-r-4 : tie.Need-array-write-r-4
-array-write-r-4 c = search needs
-
-array-read-value-4 : tie.Need-array-read-value-4
-array-read-value-4 c = search needs
-
-value-requires-4 : tie.Need-value-requires-4
-value-requires-4 c κs = search needs
 
 array-write-r-5 : tie.Need-array-write-r-5
 array-write-r-5 c = search needs
@@ -109,8 +109,8 @@ returns c =
       flags .set-if .ensures,
       minimum .value .ensures,
       maximum .value2 .ensures,
-      step .value3 .ensures,
-      default .value4 .ensures,
+      step .step .ensures,
+      default .value3 .ensures,
       size .size-and-display .ensures,
     )
 
@@ -134,11 +134,11 @@ numeric-row-spec =
     array-read-value-2
     value-requires-2
     array-write-r-3
+    array-read-step
+    step-requires
+    array-write-r-4
     array-read-value-3
     value-requires-3
-    array-write-r-4
-    array-read-value-4
-    value-requires-4
     array-write-r-5
     array-read-size-and-display
     size-and-display-requires

@@ -111,9 +111,6 @@ unfolding any
 any-bare p q h [] = refl
 any-bare p q h (d ∷ ds) = rw (h d, any-bare p q h ds)
 
-any-kept : (p : Draft → Bool) → ((d : Draft) → p (bare d) ≡ p d) → (ds : List Draft) → any p (map bare ds) ≡ any p ds
-any-kept p h ds = any-bare p p h ds
-
 faults-bare :
     (f g : List Draft → Draft → List ℕ)
     → ((before : List Draft) (d : Draft) → f (map bare before) (bare d) ≡ g before d)
@@ -127,7 +124,7 @@ abbrev formOf : ℕ → Draft → Bool
 formOf k e = is code.FORM e && eqb (cell column.OWN e) k
 
 form-kept : (k : ℕ) (ds : List Draft) → any (formOf k) (map bare ds) ≡ any (formOf k) ds
-form-kept k ds = any-kept (formOf k) (λ e. rw (code-kept e, own-kept e)) ds
+form-kept k ds = any-bare (formOf k) (formOf k) (λ e. rw (code-kept e, own-kept e)) ds
 
 forms-bare : (ds : List Draft) → repeatedForms (map bare ds) ≡ repeatedForms ds
 unfolding repeatedForms
@@ -141,7 +138,7 @@ abbrev questionOf : ℕ → Draft → Bool
 questionOf k e = writes e && eqb (cell column.OWN e) k
 
 question-kept : (k : ℕ) (ds : List Draft) → any (questionOf k) (map bare ds) ≡ any (questionOf k) ds
-question-kept k ds = any-kept (questionOf k) (λ e. rw (writes-kept e, own-kept e)) ds
+question-kept k ds = any-bare (questionOf k) (questionOf k) (λ e. rw (writes-kept e, own-kept e)) ds
 
 questions-bare : (ds : List Draft) → repeatedQuestions (map bare ds) ≡ repeatedQuestions ds
 unfolding repeatedQuestions
@@ -161,7 +158,7 @@ module _ (s : List ℕ) where
   namesake d p e = sameSort s d e && declares s p e
 
   named-kept : (d : Draft) (p : ℕ) (ds : List Draft) → any (namesake d p) (map bare ds) ≡ any (namesake d p) ds
-  named-kept d p ds = any-kept (namesake d p) (λ e. rw (code-kept e, name-kept e)) ds
+  named-kept d p ds = any-bare (namesake d p) (namesake d p) (λ e. rw (code-kept e, name-kept e)) ds
 
   names-bare : (ds : List Draft) → repeatedNames s (map bare ds) ≡ repeatedNames s ds
   unfolding repeatedNames

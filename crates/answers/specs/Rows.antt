@@ -42,7 +42,7 @@ rowWith code parent place entries = filled (column.CODE ≔ code ∷ column.PARE
 abbrev pub withoutMarks : List ℕ → Draft
 withoutMarks r = record { row = r; ownAt = 0; limitAt = 0; defaultAt = 0 }
 
--- "An absent step is now 1" (W-208). Document 01 has 0 here
+-- "An absent step is now 1" (W-208); document 01 has 0 here
 abbrev pub ABSENT-STEP : ℕ
 ABSENT-STEP = 1
 
@@ -96,7 +96,7 @@ module _ (number-at : ℕ → ℕ) where
 
   -- ---- the statements, each row under its line of the grammar; c are the trees under it
 
-  -- an item, where a numeric whose step is not written has that of `absent`
+  -- an item; `absent` is the step of a numeric that writes none
   abbrev pub itemBy : ℕ → ℕ → ℕ → Trees → Draft
   itemBy absent parent i c =
       let p = placeAt 0 c in
@@ -140,6 +140,7 @@ module _ (number-at : ℕ → ℕ) where
       ∷ [])
       i (withoutMarks [])
 
+  -- with W-208's step
   abbrev pub item : ℕ → ℕ → Trees → Draft
   item = itemBy ABSENT-STEP
 
@@ -228,7 +229,7 @@ module _ (number-at : ℕ → ℕ) where
   abbrev pub condition : ℕ → ℕ → Trees → List Draft
   condition at i c = elim (ltb 6 i) [ true ↦ expressionRows at (expression (child condition·expression c)) | false ↦ [] ]
 
-  -- a tree's own rows, a condition's and a rule's with their expression: the parent, the row's number, the rules before
+  -- a tree's own rows, a condition's and a rule's with their expression: an absent step, the parent, the row's number, the rules before
   abbrev pub ownRowsBy : ℕ → ℕ → ℕ → ℕ → ℕ → Own
   ownRowsBy absent parent at n A =
       otherwise A <item> (λ i c. itemBy absent parent i c ∷ condition at i c)
@@ -246,7 +247,7 @@ module _ (number-at : ℕ → ℕ) where
   parentIn parent at [] = parent
   parentIn parent at (d ∷ ds) = at
 
-  -- the rows of trees beside one another: the parent, the next row's number, the rules before
+  -- the rows of trees beside one another: an absent step, the parent, the next row's number, the rules before
   abbrev pub draftsBy : ℕ → Trees → ℕ → ℕ → ℕ → List Draft
   draftsBy absent nil parent at n = []
   draftsBy absent (leaf t f) parent at n = draftsBy absent f parent at n

@@ -3,8 +3,8 @@ pub mod Demand3
 -- Document 02's W-203.
 pub mod OwnForm
 -- Document 02's W-208.
-pub mod AbsentStep
-pub mod AnyStep
+pub mod MissingStep
+pub mod UncheckedStep
 -- Decided points of document 01, by computation.
 pub mod Computed
 pub mod Decided

@@ -16,4 +16,4 @@ pub mod Reached
 -- The form that a row stands in, and document 02's W-203.
 pub mod Forms
 -- Document 02's W-208.
-pub mod AbsentStep
+pub mod MissingStep

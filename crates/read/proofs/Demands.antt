@@ -28,11 +28,11 @@ use Rattle.answers.specs.WholeAnswer.{quickCheck, readAnswer, readTable}
 use Rattle.answers.specs.Demand3.{Sound, Early, Passes, Refuses, questionNumbers, GetsSmallest}
 use Rattle.answers.specs.Reached.{Reached}
 use Rattle.answers.specs.Forms.{columnOf, OfItsForm, Stray}
-use Rattle.answers.specs.AbsentStep.{Stepped, draftsBefore, answerBefore, writesSteps}
+use Rattle.answers.specs.MissingStep.{Stepped, draftsBefore, answerBefore, writesSteps}
 use Rattle.answers.proofs.Answers.{passes-grammatical}
 use Rattle.answers.proofs.Demand3 as Demand3
 use Rattle.answers.proofs.OwnForm as OwnForm
-use Rattle.answers.proofs.AbsentStep as AbsentStep
+use Rattle.answers.proofs.MissingStep as MissingStep
 use Rattle.sound.specs.SizedRows.{ColumnTwelve}
 use Rattle.sound.proofs.SizedRows as SizedRows
 use Rattle.replies.specs.Replies.{positionOf, accepting, readReplied, readReply}
@@ -94,7 +94,7 @@ module _ {s : List ℕ} {n : ℕ} {r : Answer} {t′ : List ℕ} (v : Reading s 
 
   -- no answer has changed: nothing is checked against an absent step
   pub answer-as-before : told r ≡ readReplied s (answerBefore s n)
-  answer-as-before = v .answer ∙ ap (readReplied s) (sym (AbsentStep.answer-as-before s n))
+  answer-as-before = v .answer ∙ ap (readReplied s) (sym (MissingStep.answer-as-before s n))
 
   -- ---- demand 3
 
@@ -157,11 +157,11 @@ module _ {s : List ℕ} {n : ℕ} {r : Answer} {t′ : List ℕ} (v : Reading s 
           {c f : Trees} {parent at rules : ℕ}
           → Reached (numberAt s) tree (node <item> item·numeric c f) parent at rules
           → Stepped s (rowsFrom t′ 0 (length (drafts s tree))) at c
-      step-in-table q = rw rows-in-table (AbsentStep.stepped s tree q)
+      step-in-table q = rw rows-in-table (MissingStep.stepped s tree q)
 
       -- "Older resolved text writes every step and reads as before": where every numeric writes its step, the rows are those of before
       pub rows-as-before : writesSteps tree ≡ true → rowsFrom t′ 0 (length (drafts s tree)) ≡ finished s (draftsBefore s tree)
-      rows-as-before h = rows-in-table ∙ sym (AbsentStep.rows-as-before s tree h)
+      rows-as-before h = rows-in-table ∙ sym (MissingStep.rows-as-before s tree h)
 
     -- whatever table is lent, an accepted source has such a derivation, and its rows stand in the table
     pub accepted-rows :

@@ -24,7 +24,7 @@ use Rattle.answers.specs.WholeAnswer.{derived, checked, readAnswer, rowsOf, rea
 use Rattle.answers.specs.Text.{textOf, rowFirstAt, resolvedText}
 use Rattle.answers.specs.Resolution.{textOfSource, room, resolvedInto, resolution, resolvedTable, resolvedOutput}
 use Rattle.answers.specs.Demand3.{Sound, PassesAll}
-use Rattle.answers.specs.AbsentStep.{writesSteps}
+use Rattle.answers.specs.MissingStep.{writesSteps}
 use Rattle.answers.proofs.Answers.{sound-passes, passes-grammatical, passes-room, passes-sound, passes-derived, passes-rows, passes-text, accepted-answer}
 use Rattle.answers.proofs.Demand3.{one-derivation-of-source, accepts-passing, table-rows, table-past-rows}
 use Rattle.sound.proofs.Lists.{All, none, more}

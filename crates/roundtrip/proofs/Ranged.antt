@@ -15,7 +15,7 @@ use Rattle.sizes.specs.Sizes.{modulus, fits}
 use Rattle.rows.specs.Sizes.{NO-SIZE}
 use Rattle.grammar.specs.Rules.{<atom>, <large>, <item>, <numeric-fl>}
 use Rattle.answers.specs.Expression.{Operator, operatorClass, or, and, bit-or, bit-and, equal, not-equal, less, less-equal, greater, greater-equal, shift-left, shift-right, add, subtract, multiply, divide, modulo, Constant, constantClass, true′, false′, zero′, one′, ones′, undefined′}
-use Rattle.answers.specs.AbsentStep.{writesSteps}
+use Rattle.answers.specs.MissingStep.{everyNumeric, writesSteps}
 use Rattle.grammar.specs.Parts.{child, written, placeAt}
 use Rattle.grammar.specs.Positions.{numeric·flags, numeric·minimum, numeric·maximum, numeric·step, numeric·default, step·value, default·value}
 use Rattle.grammar.specs.Flags.{sizeWords, displayWords, classes, firstOf, sizeIn, secondsIn}
@@ -207,7 +207,7 @@ module _ (t : List ℕ) where
       by true true h = absurd h
 
   pub over-steps : {T : Trees} {x : Shape} → Over t T x → Ranged x → writesSteps T ≡ true
-  unfolding writesSteps
+  unfolding everyNumeric
   over-steps over-nil h = refl
   over-steps (over-leaf r o) h = over-steps o (h .1)
   over-steps (over-node {A = A} {i = i} o₁ o₂) h = rw (node-steps A i o₁ (h .0), over-steps o₁ (h .1), over-steps o₂ (h .2))

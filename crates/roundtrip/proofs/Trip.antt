@@ -14,7 +14,7 @@ use Rattle.grammar.specs.Source.{sourceTokens, numberAt}
 use Rattle.grammar.specs.Ranges.{outOfRange, secondWords}
 use Rattle.answers.specs.Rows.{Draft, draftsOf}
 use Rattle.answers.specs.Answer.{LONGEST, drafts}
-use Rattle.answers.specs.AbsentStep.{writesSteps}
+use Rattle.answers.specs.MissingStep.{writesSteps}
 use Rattle.answers.specs.Text.{wordsOf, textOf}
 use Rattle.sound.proofs.Lists.{All, none, more}
 use Rattle.sound.proofs.Places.{source-bounded}

@@ -20,9 +20,9 @@ use Rattle.answers.specs.Text.{resolvedText}
 use Rattle.answers.specs.WholeAnswer.{readAnswer, readTable}
 use Rattle.answers.specs.Resolution.{room, textOfSource, resolvedInto, resolution, resolvedTable, resolvedOutput}
 use Rattle.answers.specs.Demand3.{Sound, PassesAll}
-use Rattle.answers.specs.AbsentStep.{draftsBefore, writesSteps}
+use Rattle.answers.specs.MissingStep.{draftsBefore, writesSteps}
 use Rattle.answers.proofs.Answers.{passes-text, accepted-answer, laid-rows}
-use Rattle.answers.proofs.AbsentStep as AbsentStep
+use Rattle.answers.proofs.MissingStep as MissingStep
 use Rattle.replies.specs.Replies.{Reply, positionOf, accepting, readReplied, resolveReplied, resolveReply}
 use Rattle.replies.specs.Lines.{GivesLine}
 use Rattle.replies.proofs.Laws.{gives-line}
@@ -119,7 +119,7 @@ module _ {s : List ℕ} {n m : ℕ} {r : Answer} {t′ o′ : List ℕ} (v : Res
         (tree : Trees) → Sound (textOfSource s) tree
         → (writesSteps tree ≡ true) × (finished (textOfSource s) (draftsBefore (textOfSource s) tree) ≡ finished (textOfSource s) (drafts (textOfSource s) tree))
     text-as-before tree sound =
-        let w = Demand2.writes-steps s n m resolved tree (sound .derives) in (w, AbsentStep.rows-as-before (textOfSource s) tree w)
+        let w = Demand2.writes-steps s n m resolved tree (sound .derives) in (w, MissingStep.rows-as-before (textOfSource s) tree w)
 
     -- ---- a second call
 

@@ -16,70 +16,103 @@ use Rattle.numbers.specs.Numbers.{numbered, freeCount}
 use Rattle.rule_steps.proofs.Same.{SameCells, SameRows, no-rows, add-row, steps-same}
 use Rattle.rule_steps.proofs.Same as Same
 use Rattle.ll1.specs.Trees.{Trees, nil, leaf, node}
+use Rattle.ll1.proofs.Basics.{clash, both}
 use Rattle.grammar.specs.Rules.{<item>}
+use Rattle.grammar.specs.Positions.{item·numeric}
 use Rattle.grammar.specs.Source.{numberAt}
+use Rattle.grammar.specs.Ranges.{isNumeric}
 use Rattle.answers.specs.Rows.{Draft, itemBy, otherwise, ownRowsBy, parentIn, draftsBy, rulesIn}
 use Rattle.answers.specs.Stages.{cell, is, asks, writes, any, faultsAfter, repeatedForms, repeatedQuestions, sameSort, declares, repeatedNames}
 use Rattle.answers.specs.Stages.{placeOf, rulesOverLimit, formRound, finds, refers, inVain, unfound, below, beside, numericFaults, optionFaults}
 use Rattle.answers.specs.Stages.{badChoices, ownNumbers, withCell, withNumbers, numberedRows, draftRows, ownOfFirst, withReferences, settled, finished}
 use Rattle.answers.specs.Stages.{onCircle, circularReferences}
 use Rattle.answers.specs.Answer.{accepts, needs, stage, answerOf}
-use Rattle.answers.specs.AbsentStep.{withoutStep}
+use Rattle.answers.specs.MissingStep.{withoutStep, everyNumeric}
 use Rattle.answers.proofs.FoundRows.{map-append}
 use Rattle.answers.proofs.Forms.{round-same}
 
--- the draft with nothing in column C
+-- ---- the rows of trees, for two values of an absent step: what is the same of each numeric is the same of all rows
+
+module _ {X : Type 0} (g : Draft → X) where
+  -- drafts of which g tells the same, one by one
+  abbrev pub Alike : List Draft → List Draft → Type 0
+  Alike ds es = map g ds ≡ map g es
+
+  alike-append : (ds es ds′ es′ : List Draft) → Alike ds es → Alike ds′ es′ → Alike (ds ++ ds′) (es ++ es′)
+  alike-append ds es ds′ es′ e h = map-append g ds ds′ ∙ ap₂ _++_ e h ∙ sym (map-append g es es′)
+
+  same-count : (ds es : List Draft) → Alike ds es → length ds ≡ length es
+  same-count ds es e = sym (length-map ds g) ∙ ap length e ∙ length-map es g
+
+  same-parent : (number-at : ℕ → ℕ) (parent at : ℕ) (ds es : List Draft) → Alike ds es → parentIn number-at parent at ds ≡ parentIn number-at parent at es
+  same-parent number-at parent at [] [] e = refl
+  same-parent number-at parent at (d ∷ ds) (x ∷ es) e = refl
+  same-parent number-at parent at [] (x ∷ es) e = clash cc
+  same-parent number-at parent at (d ∷ ds) [] e = clash cc
+
+module _
+    (number-at : ℕ → ℕ) (a b : ℕ) {X : Type 0} (g : Draft → X) (p : Trees → Bool)
+    (same : (parent : ℕ) (c : Trees) → p c ≡ true → g (itemBy number-at a parent item·numeric c) ≡ g (itemBy number-at b parent item·numeric c))
+  where
+    item-alike :
+        (parent i : ℕ) (c : Trees)
+        → cond (eqb i item·numeric) (p c) true ≡ true → g (itemBy number-at a parent i c) ≡ g (itemBy number-at b parent i c)
+    item-alike parent zero c h = refl
+    item-alike parent (suc zero) c h = refl
+    item-alike parent (suc (suc zero)) c h = refl
+    item-alike parent (suc (suc (suc zero))) c h = refl
+    item-alike parent (suc (suc (suc (suc zero)))) c h = refl
+    item-alike parent (suc (suc (suc (suc (suc zero))))) c h = same parent c h
+    item-alike parent (suc (suc (suc (suc (suc (suc i)))))) c h = refl
+
+    own-alike :
+        (parent at n A i : ℕ) (c : Trees)
+        → cond (isNumeric A i) (p c) true ≡ true → Alike g (ownRowsBy number-at a parent at n A i c) (ownRowsBy number-at b parent at n A i c)
+    own-alike parent at n A i c h =
+        either (eqb A <item>) (λ e. rw (e, otherwise, item-alike parent i c (rw e at h))) (λ e. rw (e, otherwise))
+
+    pub drafts-alike :
+        (f : Trees) (parent at n : ℕ)
+        → everyNumeric p f ≡ true → Alike g (draftsBy number-at a f parent at n) (draftsBy number-at b f parent at n)
+    unfolding everyNumeric
+    drafts-alike nil parent at n h = refl
+    drafts-alike (leaf t f) parent at n h = drafts-alike f parent at n h
+    drafts-alike (node A i c f) parent at n h =
+        let here = both _ _ h in
+        let rest = both (everyNumeric p c) (everyNumeric p f) (here .1) in
+        let own = ownRowsBy number-at a parent at n A i c in
+        let own′ = ownRowsBy number-at b parent at n A i c in
+        let e = own-alike parent at n A i c (here .0) in
+        let under = draftsBy number-at a c (parentIn number-at parent at own) (at + length own) n in
+        let under′ = draftsBy number-at b c (parentIn number-at parent at own′) (at + length own′) n in
+        let h : Alike g under under′ = rw (same-parent g number-at parent at own own′ e, same-count g own own′ e) (drafts-alike c _ _ n (rest .0)) in
+        let within = alike-append g own own′ under under′ e h in
+        let m = n + rulesIn (node A i c nil) in
+        let later : Alike g (draftsBy number-at a f parent (at + length (own ++ under)) m) (draftsBy number-at b f parent (at + length (own′ ++ under′)) m) =
+        rw (same-count g (own ++ under) (own′ ++ under′) within) (drafts-alike f _ _ m (rest .1)) in
+        alike-append g (own ++ under) (own′ ++ under′) _ _ within later
+
+-- ---- all rows but for column C
+
+-- the draft with nothing there
 unfoldable pub bare : Draft → Draft
 bare d = withCell column.C 0 d
 
--- drafts that are the same but for column C
-abbrev pub Besides : List Draft → List Draft → Type 0
-Besides ds es = map bare ds ≡ map bare es
+every-tree : (f : Trees) → everyNumeric (λ c. true) f ≡ true
+unfolding everyNumeric
+every-tree nil = refl
+every-tree (leaf t f) = every-tree f
+every-tree (node A i c f) = rw (any-test (isNumeric A i), every-tree c, every-tree f)
+  where
+    any-test : (t : Bool) → cond t true true ≡ true
+    any-test true = refl
+    any-test false = refl
 
-join : (ds es ds′ es′ : List Draft) → Besides ds es → Besides ds′ es′ → Besides (ds ++ ds′) (es ++ es′)
-join ds es ds′ es′ e h = map-append bare ds ds′ ∙ ap₂ _++_ e h ∙ sym (map-append bare es es′)
-
-same-count : (ds es : List Draft) → Besides ds es → length ds ≡ length es
-same-count ds es e = sym (length-map ds bare) ∙ ap length e ∙ length-map es bare
-
--- ---- the rows of trees
-
-module _ (number-at : ℕ → ℕ) (a b : ℕ) where
-  item-besides : (parent i : ℕ) (c : Trees) → bare (itemBy number-at a parent i c) ≡ bare (itemBy number-at b parent i c)
-  unfolding bare
-  item-besides parent zero c = refl
-  item-besides parent (suc zero) c = refl
-  item-besides parent (suc (suc zero)) c = refl
-  item-besides parent (suc (suc (suc zero))) c = refl
-  item-besides parent (suc (suc (suc (suc zero)))) c = refl
-  item-besides parent (suc (suc (suc (suc (suc zero))))) c = refl
-  item-besides parent (suc (suc (suc (suc (suc (suc i)))))) c = refl
-
-  own-besides : (parent at n A i : ℕ) (c : Trees) → Besides (ownRowsBy number-at a parent at n A i c) (ownRowsBy number-at b parent at n A i c)
-  own-besides parent at n A i c = either (eqb A <item>) (λ e. rw (e, otherwise, item-besides parent i c)) (λ e. rw (e, otherwise))
-
-  parent-bare : (parent at : ℕ) (ds : List Draft) → parentIn number-at parent at (map bare ds) ≡ parentIn number-at parent at ds
-  parent-bare parent at [] = refl
-  parent-bare parent at (d ∷ ds) = refl
-
-  same-parent : (parent at : ℕ) (ds es : List Draft) → Besides ds es → parentIn number-at parent at ds ≡ parentIn number-at parent at es
-  same-parent parent at ds es e = sym (parent-bare parent at ds) ∙ ap (parentIn number-at parent at) e ∙ parent-bare parent at es
-
-  pub drafts-besides : (f : Trees) (parent at n : ℕ) → Besides (draftsBy number-at a f parent at n) (draftsBy number-at b f parent at n)
-  drafts-besides nil parent at n = refl
-  drafts-besides (leaf t f) parent at n = drafts-besides f parent at n
-  drafts-besides (node A i c f) parent at n =
-      let own = ownRowsBy number-at a parent at n A i c in
-      let own′ = ownRowsBy number-at b parent at n A i c in
-      let e = own-besides parent at n A i c in
-      let under = draftsBy number-at a c (parentIn number-at parent at own) (at + length own) n in
-      let under′ = draftsBy number-at b c (parentIn number-at parent at own′) (at + length own′) n in
-      let h : Besides under under′ = rw (same-parent parent at own own′ e, same-count own own′ e) (drafts-besides c _ _ n) in
-      let within = join own own′ under under′ e h in
-      let m = n + rulesIn (node A i c nil) in
-      let later : Besides (draftsBy number-at a f parent (at + length (own ++ under)) m) (draftsBy number-at b f parent (at + length (own′ ++ under′)) m) =
-      rw (same-count (own ++ under) (own′ ++ under′) within) (drafts-besides f _ _ m) in
-      join (own ++ under) (own′ ++ under′) _ _ within later
+drafts-besides :
+    (number-at : ℕ → ℕ) (a b : ℕ) (f : Trees) (parent at n : ℕ)
+    → Alike bare (draftsBy number-at a f parent at n) (draftsBy number-at b f parent at n)
+unfolding bare
+drafts-besides number-at a b f parent at n = drafts-alike number-at a b bare (λ c. true) (λ parent c h. refl) f parent at n (every-tree f)
 
 -- ---- what the stages look at
 

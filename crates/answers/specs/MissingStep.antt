@@ -38,8 +38,12 @@ withoutStep r = set r column.C 0
 
 -- "Older resolved text writes every step and reads as before."
 
--- every numeric among the trees writes its step
-unfoldable pub writesSteps : Trees → Bool
-writesSteps nil = true
-writesSteps (leaf t f) = writesSteps f
-writesSteps (node A i c f) = cond (isNumeric A i) (written numeric·step c) true && (writesSteps c && writesSteps f)
+-- every numeric among the trees passes the test of the trees under it
+unfoldable pub everyNumeric : (Trees → Bool) → Trees → Bool
+everyNumeric p nil = true
+everyNumeric p (leaf t f) = everyNumeric p f
+everyNumeric p (node A i c f) = cond (isNumeric A i) (p c) true && (everyNumeric p c && everyNumeric p f)
+
+-- every numeric among them writes its step
+abbrev pub writesSteps : Trees → Bool
+writesSteps f = everyNumeric (written numeric·step) f

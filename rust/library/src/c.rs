@@ -26,6 +26,18 @@ extern "C" {
         answer: *mut u64,
         answer_len: usize,
     );
+    fn vfr_read_family(
+        buffer: *const u8,
+        buffer_len: usize,
+        ends: *const u64,
+        ends_len: usize,
+        table: *mut u64,
+        table_len: usize,
+        answers: *mut u64,
+        answers_len: usize,
+        answer: *mut u64,
+        answer_len: usize,
+    );
     fn vfr_token(
         src: *const u8,
         src_len: usize,
@@ -82,6 +94,26 @@ pub fn show_into(source: &[u8], answers: &[u64], table: &mut [u64], out: &mut [u
             table.len(),
             out.as_mut_ptr(),
             out.len(),
+            answer.as_mut_ptr(),
+            answer.len(),
+        )
+    }
+}
+
+/// Reads the sources of a buffer, which these ends part, into one table, and writes an answer of six numbers for each;
+/// every number of the call's own answer is written, 0 past the layout.
+pub fn read_family_into(buffer: &[u8], ends: &[u64], table: &mut [u64], answers: &mut [u64], answer: &mut [u64]) {
+    // As above.
+    unsafe {
+        vfr_read_family(
+            buffer.as_ptr(),
+            buffer.len(),
+            ends.as_ptr(),
+            ends.len(),
+            table.as_mut_ptr(),
+            table.len(),
+            answers.as_mut_ptr(),
+            answers.len(),
             answer.as_mut_ptr(),
             answer.len(),
         )

@@ -2,10 +2,13 @@
 
 mod c;
 
-pub use c::{quick_check, read_into, resolve_into, show_into, token_into};
+pub use c::{quick_check, read_family_into, read_into, resolve_into, show_into, token_into};
 
 /// How many numbers the layout of an answer has.
 pub const ANSWER: usize = 7;
+
+/// How many numbers the answer to one source of a family has: the first of the layout.
+pub const FAMILY_ANSWER: usize = 6;
 
 /// How many numbers the layout of a token has.
 pub const TOKEN: usize = 7;
@@ -76,6 +79,14 @@ pub fn resolve(source: &[u8], table: &mut [u64], out: &mut [u8]) -> Answer {
 pub fn show(source: &[u8], answers: &[u64], table: &mut [u64], out: &mut [u8]) -> Answer {
     let mut numbers = [u64::MAX; ANSWER];
     show_into(source, answers, table, out, &mut numbers);
+    Answer::of(numbers)
+}
+
+/// Reads the sources of a buffer, which these ends part, each alone: the rows of those that are accepted into a lent table,
+/// one after another, and six numbers for each into lent answers.
+pub fn read_family(buffer: &[u8], ends: &[u64], table: &mut [u64], answers: &mut [u64]) -> Answer {
+    let mut numbers = [u64::MAX; ANSWER];
+    read_family_into(buffer, ends, table, answers, &mut numbers);
     Answer::of(numbers)
 }
 

@@ -1,9 +1,10 @@
 //! A plain reader, resolver, quick check and screen for VFR sources, written from document 01 ("VFR sources to rows and
-//! resolved text", with the readings of docs/DECISIONS.md) and document 02's W-201 to W-204, and not from the library.
-//! The library is compared with it.
+//! resolved text", with the readings of docs/DECISIONS.md) and document 02's W-201 to W-204, W-206 and W-208, and not from
+//! the library. The library is compared with it.
 
 #![forbid(unsafe_code)]
 
+mod family;
 mod format;
 mod lexer;
 mod parser;
@@ -16,6 +17,7 @@ mod text;
 mod value;
 mod walk;
 
+pub use family::{parted, read_family, Family, SourceAnswer, FAMILY_ANSWER, MOST_SOURCES};
 pub use lexer::{Kind, Lexer, Token};
 pub use position::Position;
 pub use row::{column, Row, ROW};
@@ -58,8 +60,12 @@ pub const TEXT_REFUSAL: u64 = 13;
 pub const ANSWERS_REFUSAL: u64 = 15;
 pub const BYTES_REFUSAL: u64 = 30;
 
+/// The refusal of a whole family.
+pub const FAMILY_REFUSAL: u64 = 17;
+
 /// The refusals whose place is always 0 or not in the source, so that they have no line and column.
-pub const PLACELESS_REFUSALS: &[u64] = &[1, TABLE_REFUSAL, TEXT_REFUSAL, ANSWERS_REFUSAL, BYTES_REFUSAL];
+pub const PLACELESS_REFUSALS: &[u64] =
+    &[1, TABLE_REFUSAL, TEXT_REFUSAL, ANSWERS_REFUSAL, FAMILY_REFUSAL, BYTES_REFUSAL];
 
 /// A refusal's number and place, the place's line and column, and the need that 6 (rows) and 13 (bytes) tell.
 #[derive(Clone, Copy, PartialEq, Eq, Debug)]

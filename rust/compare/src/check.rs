@@ -1,11 +1,15 @@
-//! One source and the buffers lent for it: the library's answer against the reference's. Each check gives what both
-//! answered, or how they differ.
+//! One source, or one family of them, and the buffers lent for it: the library's answer against the reference's. Each check
+//! gives what both answered, or how they differ.
+
+mod family;
 
 use crate::tally::Met;
 use library::{Answer, ANSWER, TOKEN};
 use reference::{Placed, Position, Reading, Refusal, Walk, ROW};
 use std::fmt::Debug;
 use std::hint::black_box;
+
+pub use family::{alone_difference, family, Read};
 
 /// What buffers hold before a call.
 const OLD: u64 = 0x5ea1_5ea1_5ea1_5ea1;
@@ -60,12 +64,9 @@ fn numbers_difference<T: Debug>(given: &[u64], layout: &[u64], told: T) -> Optio
     Some(format!("number {at} of {}: library {numbers:?}, reference {told:?}", numbers.len()))
 }
 
-fn source_difference(lent: &[u8], source: &[u8]) -> Option<String> {
-    (black_box(lent) != source).then(|| "the library changes the source".to_string())
-}
-
-fn answers_difference(lent: &[u64], answers: &[u64]) -> Option<String> {
-    (black_box(lent) != answers).then(|| "the library changes the answers".to_string())
+/// That the library changes what it is lent to be read alone.
+fn change<T: PartialEq>(what: &str, lent: &[T], before: &[T]) -> Option<String> {
+    (black_box(lent) != before).then(|| format!("the library changes the {what}"))
 }
 
 /// How an output with the guard past its end differs from what was written to it and the zeros past that.
@@ -94,7 +95,7 @@ pub fn reading(source: &[u8], table_len: usize, answer_len: usize) -> Result<Ans
     library::read_into(black_box(&lent), &mut buffer[..table_len], &mut answer[..answer_len]);
     let difference = numbers_difference(&answer, &wanted.numbers(), wanted)
         .or_else(|| table_difference(&buffer, &table))
-        .or_else(|| source_difference(&lent, source));
+        .or_else(|| change("source", &lent, source));
     agreed(Answered { met: Met::of(reading.as_ref(), source), line: wanted.line }, difference)
 }
 
@@ -120,7 +121,7 @@ pub fn resolving(source: &[u8], table_len: usize, out_len: usize, answer_len: us
     let difference = numbers_difference(&answer, &wanted.numbers(), wanted)
         .or_else(|| table_difference(&buffer, &table))
         .or_else(|| output_difference(&out, text.as_bytes()))
-        .or_else(|| source_difference(&lent, source));
+        .or_else(|| change("source", &lent, source));
     agreed(Answered { met, line: wanted.line }, difference)
 }
 
@@ -152,8 +153,8 @@ pub fn showing(
     let difference = numbers_difference(&answer, &wanted.numbers(), wanted)
         .or_else(|| table_difference(&buffer, &table))
         .or_else(|| output_difference(&out, &bytes))
-        .or_else(|| source_difference(&lent, source))
-        .or_else(|| answers_difference(&lent_answers, answers));
+        .or_else(|| change("source", &lent, source))
+        .or_else(|| change("answers", &lent_answers, answers));
     agreed(Shown { answered: Answered { met, line: wanted.line }, bytes }, difference)
 }
 
@@ -202,6 +203,6 @@ pub fn token(source: &[u8], at: usize, position: Position, token_len: usize) -> 
     library::token_into(black_box(&lent), at, line, column, &mut whole[..TOKEN]);
     let difference = numbers_difference(&numbers, &wanted.numbers(), wanted)
         .or_else(|| numbers_difference(&whole, &wanted.numbers(), wanted))
-        .or_else(|| source_difference(&lent, source));
+        .or_else(|| change("source", &lent, source));
     agreed((), difference)
 }

@@ -32,7 +32,7 @@ fn lexeme(random: &mut Random) -> String {
 }
 
 /// Statements with a fault, from stage 2 to stage 14, whatever stands before them.
-const FAULTY: [&str; 15] = [
+pub const FAULTY: [&str; 15] = [
     "label 0X1 ;",
     "label ;",
     "suppressif NOT NOT NOT NOT NOT NOT NOT NOT NOT NOT NOT NOT NOT NOT NOT NOT NOT NOT NOT NOT NOT NOT NOT NOT NOT NOT NOT \

@@ -1,6 +1,6 @@
-//! What the programs of this crate share: the checks of the library against the reference, the sources and answers for
-//! them, the tally of the answers met, the references into other forms, the numerics of a source, and the count of checks of
-//! given cases.
+//! What the programs of this crate share: the checks of the library against the reference, the sources, families and
+//! answers for them, the tally of the answers met, the references into other forms, the numerics of a source, and the count
+//! of checks of given cases.
 
 #![forbid(unsafe_code)]
 
@@ -8,6 +8,7 @@ pub mod answers;
 pub mod check;
 mod damage;
 pub mod edits;
+pub mod families;
 mod grammar;
 pub mod json;
 mod limits;

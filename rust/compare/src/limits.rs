@@ -9,10 +9,7 @@ pub fn at_a_limit(random: &mut Random) -> Vec<u8> {
     match random.below(18) {
         0 => padded(random),
         1 => longest_chain(random),
-        2 => {
-            let count = random.between(253, 258);
-            framed(&(0..count).map(|at| format!("rule A{at},1 endrule;")).collect::<String>())
-        }
+        2 => many_rules(random),
         3 => {
             let count = random.between(1, 36);
             framed(&format!("rule A,{}1{}endrule;", "(".repeat(count), ")".repeat(count)))
@@ -41,6 +38,12 @@ pub fn at_a_limit(random: &mut Random) -> Vec<u8> {
             ))
         }
     }
+}
+
+/// About as many rules as there may be.
+pub fn many_rules(random: &mut Random) -> Vec<u8> {
+    let count = random.between(253, 258);
+    framed(&(0..count).map(|at| format!("rule A{at},1 endrule;")).collect::<String>())
 }
 
 /// A source of one form with these items.

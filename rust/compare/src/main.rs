@@ -1,14 +1,16 @@
 //! `compare SECONDS [SEED]`: the library against the reference on every edit of one source, which takes
-//! about twenty seconds, then on random sources for so long. It prints how often each call gave each answer, how many
-//! tokens were compared, how many accepted numerics have no step, 0, 1 or another, and how many rows of screens were
-//! hidden, grey, both or neither; a run of at least a minute fails where an answer that a call can give, a token, a
-//! sort of step or a byte of a screen was never met, a shorter one only says so.
+//! about twenty seconds, then on random sources and families of them for so long. It prints how often each call gave each
+//! answer, how many tokens were compared, how many accepted numerics have no step, 0, 1 or another, how many rows of
+//! screens were hidden, grey, both or neither, and which families were met; a run of at least a minute fails where an
+//! answer that a call can give, a token, a sort of step or of families or a byte of a screen was never met, a shorter one
+//! only says so.
 
 #![forbid(unsafe_code)]
 
 use compare::answers::answers;
 use compare::check::{self, Answered, Shown, MOST_NUMBERS};
 use compare::edits::every_edit;
+use compare::families::{family, Family};
 use compare::random::Random;
 use compare::sources;
 use compare::tally::{Call, Tally};
@@ -20,6 +22,9 @@ use std::time::{Duration, Instant, SystemTime, UNIX_EPOCH};
 
 /// The seconds from which on every answer has to be met; the gate's run is as long.
 const WHOLE_RUN: u64 = 60;
+
+/// One family for so many sources.
+const FAMILY: usize = 6;
 
 /// How long a source that fails is made shorter.
 const SHRINKING: Duration = Duration::from_secs(20);
@@ -228,10 +233,33 @@ fn report(seed: u64, source: &[u8], check: &Check) {
     println!("{}", outcome(&least, check).err().unwrap_or_default());
 }
 
+/// A family of fewer sources that fails the same check.
+fn fewer_sources(family: &Family, answer: usize) -> Family {
+    let fails = |fewer: &Family| check::family(fewer, answer).is_err();
+    let mut least = family.clone();
+    let mut at = 0;
+    while at < least.ends.len() {
+        match least.without(at).filter(fails) {
+            Some(fewer) => least = fewer,
+            None => at += 1,
+        }
+    }
+    least
+}
+
+fn report_family(seed: u64, family: &Family, answer: usize, fault: &str) {
+    let Family { buffer, ends, table_len, answers_len } = fewer_sources(family, answer);
+    println!("DISAGREEMENT at seed {seed}, a family of {} sources, of which these are left:", family.ends.len());
+    println!("{}", buffer.escape_ascii());
+    println!("ends {ends:?}, lent {table_len} numbers for rows, {answers_len} for answers, {answer} for the answer");
+    println!("{fault}");
+}
+
 /// What was compared.
 #[derive(Default)]
 struct Run {
     sources: u64,
+    families: u64,
     bytes: u64,
     checks: u64,
     tally: Tally,
@@ -272,6 +300,15 @@ impl Run {
         }
     }
 
+    /// Compares on a random family. Answers whether all agrees.
+    fn compare_family(&mut self, seed: u64, random: &mut Random) -> bool {
+        let family = family(random);
+        let answer = random.between(0, MOST_NUMBERS);
+        self.families += 1;
+        let agreed = check::family(&family, answer).and_then(|read| self.tally.note_family(&family, &read));
+        agreed.inspect_err(|fault| report_family(seed, &family, answer, fault)).is_ok()
+    }
+
     /// Every edit of one source.
     fn compare_edits(&mut self, seed: u64) -> bool {
         let mut random = Random::new(seed);
@@ -280,7 +317,7 @@ impl Run {
         good
     }
 
-    /// Random sources for so many seconds.
+    /// Random sources, and families now and then, for so many seconds.
     fn compare_random(&mut self, first: u64, seconds: u64) -> bool {
         let start = Instant::now();
         let mut seed = first;
@@ -289,6 +326,9 @@ impl Run {
             let mut random = Random::new(seed.wrapping_mul(0x2545_f491_4f6c_dd1d));
             let source = sources::source(&mut random);
             good = self.compare(seed, &source, &mut random);
+            if random.once_in(FAMILY) {
+                good = good && self.compare_family(seed, &mut random);
+            }
             seed += 1;
         }
         good
@@ -296,7 +336,8 @@ impl Run {
 
     /// Prints the tally; answers whether the run, if it was long enough, met all that it should.
     fn print(&self, seconds: u64) -> bool {
-        println!("{} sources of {} bytes, {} checks, no disagreement", self.sources, self.bytes, self.checks);
+        let Run { sources, bytes, checks, families, .. } = self;
+        println!("{sources} sources of {bytes} bytes, {checks} checks, {families} families, no disagreement");
         println!("{}", self.tally);
         let missing = self.tally.missing();
         let is_whole = seconds >= WHOLE_RUN;

@@ -1,13 +1,22 @@
-//! Which answers were met, call by call, and which tokens, steps and bytes of screens; and which should have been.
+//! Which answers were met, call by call, and which tokens, steps, bytes of screens and families; and which should have
+//! been.
 
+mod family;
+
+use crate::check::Read;
+use crate::families::Family;
 use crate::numerics::{numerics, Numeric};
 use crate::strays::strays;
-use reference::{Kind, Refusal, ANSWERS_REFUSAL, BYTES_REFUSAL, CHOICE_REFUSAL, LONGEST, LOST_REFUSAL};
+use family::Families;
+use reference::{
+    parted, Kind, Refusal, SourceAnswer, ANSWERS_REFUSAL, BYTES_REFUSAL, CHOICE_REFUSAL, LONGEST, LOST_REFUSAL,
+};
 use reference::{PLACELESS_REFUSALS, QUICK_REFUSALS, RANGE_REFUSAL, READ_REFUSALS, TEXT_REFUSAL};
 use std::collections::BTreeMap;
 use std::fmt;
 
-/// The calls that are compared and have answers. Reading is counted once more where its refusal has a line past the first.
+/// The calls that are compared and have answers. Reading is counted once more where its refusal has a line past the first;
+/// of a family each source is counted.
 #[derive(Clone, Copy, PartialEq, Eq, PartialOrd, Ord, Debug)]
 pub enum Call {
     Reading,
@@ -15,9 +24,13 @@ pub enum Call {
     Quick,
     Resolving,
     Showing,
+    Family,
 }
 
-const CALLS: [Call; 5] = [Call::Reading, Call::ReadingLater, Call::Quick, Call::Resolving, Call::Showing];
+const CALLS: [Call; 6] = [Call::Reading, Call::ReadingLater, Call::Quick, Call::Resolving, Call::Showing, Call::Family];
+
+/// The refusal of a source that is too long, which no source of an accepted family is.
+const LENGTH_REFUSAL: u64 = 1;
 
 /// How many classes of tokens there are.
 const CLASSES: usize = Kind::End as usize + 1;
@@ -30,6 +43,7 @@ impl fmt::Display for Call {
             Call::Quick => "quick check",
             Call::Resolving => "resolving",
             Call::Showing => "showing",
+            Call::Family => "in a family",
         })
     }
 }
@@ -40,15 +54,19 @@ impl Call {
         let first: &[Met] = match self {
             Call::ReadingLater => &[],
             Call::Quick => &[Met::Accepted],
-            Call::Reading | Call::Resolving | Call::Showing => &[Met::Accepted, Met::AcceptedSigned],
+            Call::Reading | Call::Resolving | Call::Showing | Call::Family => &[Met::Accepted, Met::AcceptedSigned],
         };
         let last: &[Met] = match self {
             Call::Resolving => &[Met::OutputShort, Met::TextLong],
             Call::Showing => &LAST_OF_SHOWING,
-            Call::Reading | Call::ReadingLater | Call::Quick => &[],
+            Call::Reading | Call::ReadingLater | Call::Quick | Call::Family => &[],
         };
         let refusals = if self == Call::Quick { QUICK_REFUSALS } else { READ_REFUSALS };
-        let is_given = |number: &&u64| self != Call::ReadingLater || !PLACELESS_REFUSALS.contains(number);
+        let is_given = |number: &&u64| match self {
+            Call::ReadingLater => !PLACELESS_REFUSALS.contains(number),
+            Call::Family => **number != LENGTH_REFUSAL,
+            Call::Reading | Call::Quick | Call::Resolving | Call::Showing => true,
+        };
         let refused = refusals.iter().filter(is_given).flat_map(|&number| Met::of_refusal(number));
         first.iter().copied().chain(refused).chain(last.iter().copied()).collect()
     }
@@ -109,11 +127,18 @@ impl Met {
         matches!(self, Met::Accepted | Met::AcceptedSigned)
     }
 
+    /// What an acceptance of reading is; the source tells why it is accepted.
+    fn accepted(source: &[u8]) -> Met {
+        match numerics(source).iter().any(Numeric::is_signed_alone) {
+            true => Met::AcceptedSigned,
+            false => Met::Accepted,
+        }
+    }
+
     /// What an answer is; the need of a text tells why it is refused.
     pub fn of<T>(answer: Result<T, &Refusal>, source: &[u8]) -> Met {
         match answer {
-            Ok(_) if numerics(source).iter().any(Numeric::is_signed_alone) => Met::AcceptedSigned,
-            Ok(_) => Met::Accepted,
+            Ok(_) => Met::accepted(source),
             Err(Refusal { number: TEXT_REFUSAL, need, .. }) if *need > LONGEST => Met::TextLong,
             Err(Refusal { number: TEXT_REFUSAL, .. }) => Met::OutputShort,
             Err(refusal) => Met::refused(refusal.number, refusal.place, source),
@@ -132,6 +157,14 @@ impl Met {
                 }
             }
             other => Met::of(other, source),
+        }
+    }
+
+    /// The same of a source of a family, by its numbers.
+    fn of_source([number, place, ..]: SourceAnswer, source: &[u8]) -> Met {
+        match number {
+            0 => Met::accepted(source),
+            _ => Met::refused(number, place as usize, source),
         }
     }
 
@@ -168,14 +201,15 @@ const BYTES: [&str; 4] = ["neither", "hidden", "grey", "both"];
 /// What a numeric may write for its step, in the order of `Step`.
 const STEPS: [&str; 4] = ["absent", "zero", "one", "other"];
 
-/// How often each call gave each answer, and how often each class of tokens, each sort of step and each byte of screens
-/// was met.
+/// How often each call gave each answer, and how often each class of tokens, each sort of step, each byte of screens and
+/// each sort of family was met.
 #[derive(Default)]
 pub struct Tally {
     counts: BTreeMap<(Met, Call), u64>,
     classes: BTreeMap<u64, u64>,
     steps: [u64; STEPS.len()],
     bytes: [u64; BYTES.len()],
+    families: Families,
 }
 
 impl Tally {
@@ -197,12 +231,24 @@ impl Tally {
         bytes.iter().for_each(|&byte| self.bytes[usize::from(byte)] += 1);
     }
 
+    /// Notes a family and each of its sources. It is at fault if what the reference read has no cause.
+    pub fn note_family(&mut self, family: &Family, read: &Read) -> Result<(), String> {
+        self.families.note(family, read)?;
+        if let Ok(read) = read {
+            let sources = parted(&family.buffer, &family.ends).expect("the call is accepted");
+            for (source, &answer) in sources.into_iter().zip(&read.answers) {
+                self.note(Call::Family, Met::of_source(answer, source));
+            }
+        }
+        Ok(())
+    }
+
     fn count(&self, call: Call, met: Met) -> u64 {
         self.counts.get(&(met, call)).copied().unwrap_or(0)
     }
 
-    /// The answers that a call can give and never gave, and the classes of tokens, sorts of steps and bytes of screens
-    /// that were never met.
+    /// The answers that a call can give and never gave, and the classes of tokens, sorts of steps, bytes of screens and
+    /// sorts of families that were never met.
     pub fn missing(&self) -> Vec<String> {
         let all = CALLS.into_iter().flat_map(|call| call.answers().into_iter().map(move |met| (call, met)));
         let answers = all.filter(|&(call, met)| self.count(call, met) == 0).map(|(call, met)| format!("{call}, {met}"));
@@ -210,7 +256,7 @@ impl Tally {
         let tokens = classes.map(|class| format!("tokens of class {class}"));
         let steps = unmet(&STEPS, &self.steps).map(|name| format!("steps of numerics: {name}"));
         let bytes = unmet(&BYTES, &self.bytes).map(|name| format!("bytes of screens: {name}"));
-        answers.chain(tokens).chain(steps).chain(bytes).collect()
+        answers.chain(tokens).chain(steps).chain(bytes).chain(self.families.missing()).collect()
     }
 }
 
@@ -220,7 +266,7 @@ fn unmet<'a>(names: &'a [&str], counts: &'a [u64]) -> impl Iterator<Item = &'a s
 }
 
 /// A line for each answer, a column for each call; `-` where the call cannot give it. Then lines for the tokens, the
-/// steps and the bytes of screens.
+/// steps, the bytes of screens and the families.
 impl fmt::Display for Tally {
     fn fmt(&self, f: &mut fmt::Formatter) -> fmt::Result {
         write!(f, "{:32}", "")?;
@@ -240,6 +286,7 @@ impl fmt::Display for Tally {
         write!(f, "\n  steps of numerics that are accepted:")?;
         STEPS.iter().zip(self.steps).try_for_each(|(name, count)| write!(f, " {count} {name}"))?;
         write!(f, "\n  rows of screens:")?;
-        BYTES.iter().zip(self.bytes).try_for_each(|(name, count)| write!(f, " {count} {name}"))
+        BYTES.iter().zip(self.bytes).try_for_each(|(name, count)| write!(f, " {count} {name}"))?;
+        write!(f, "{}", self.families)
     }
 }

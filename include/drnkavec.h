@@ -2,16 +2,16 @@
  *
  * Refusal numbers, rows, codes and limits are those of document 01, "VFR sources to rows and resolved text"; lines,
  * columns and the 0 in all that is lent past a result are those of document 02, the change requests (W-201), and so are
- * the screen and the refusals 14, 15 and 30 (W-202), that a rule serves its own form alone (W-203), and the sizes,
- * displays and signed numbers of numerics with refusal 16 (W-204).
+ * the screen and the refusals 14, 15 and 30 (W-202), that a rule serves its own form alone (W-203), the sizes,
+ * displays and signed numbers of numerics with refusal 16 (W-204), and families of sources with refusal 17 (W-206).
  * The library is target/staticlib/libface.a, which `rt staticlib face` writes; it is for Linux on x86-64.
  *
  * Every function takes every input. It reads the source without changing it, writes nowhere but to the
  * buffers lent for results, keeps no pointer and allocates nothing. A buffer of length 0 is not touched, and its
  * pointer may be NULL. Two things are left to the caller: the buffers of one call do not overlap, and there is stack
- * enough. vfr_read and vfr_resolve take about 140 KB of it for a source that is not deep and 295 KB for the
- * deepest, vfr_show 45 KB more of either, so that a thread wants 320 KB, or 370 KB for vfr_show; vfr_quick_check
- * takes about 180 KB at most, vfr_token under 1 KB.
+ * enough. vfr_read, vfr_read_family and vfr_resolve take about 140 KB of it for a source that is not deep and 295 KB
+ * for the deepest, vfr_show 45 KB more of either, so that a thread wants 320 KB, or 370 KB for vfr_show;
+ * vfr_quick_check takes about 180 KB at most, vfr_token under 1 KB.
  */
 #ifndef DRNKAVEC_H
 #define DRNKAVEC_H
@@ -31,13 +31,14 @@ enum {
     VFR_MAX_CONDITIONS = 16,  /* conditions open at once */
     VFR_MAX_GROUPS = 32,      /* unfinished grouping parentheses and NOTs in one expression */
     VFR_MAX_RULES = 255,      /* rules of a form set */
-    VFR_MAX_ID = 65535        /* form, question, string and label numbers */
+    VFR_MAX_ID = 65535,       /* form, question, string and label numbers */
+    VFR_MAX_FAMILY = 64       /* sources of a family; their joined bytes are at most VFR_MAX_SOURCE */
 };
 
 /* ---- Refusal numbers, in the order of checking ---- */
 
-/* Each has the line and column of its place, but for 1, 6, 13 and 30, whose place is always 0, and 15, whose place is
- * not in the source. */
+/* Each has the line and column of its place, but for 1, 6, 13, 17 and 30, whose place is always 0, and 15, whose place
+ * is not in the source. 17 stands apart: it is of a family's whole call, and given before any source is read. */
 
 enum {
     VFR_ACCEPTED = 0,
@@ -64,7 +65,10 @@ enum {
                                    VFR_MAX_TEXT, no output is long enough */
     VFR_BAD_ANSWER = 15,        /* showing alone; place: which answer, from 0, is the first that is not above the one
                                    before it, has no value, or has a number that no question bears */
-    VFR_SCREEN_SHORT = 30       /* showing alone; place 0; fewer bytes are lent than there are rows */
+    VFR_SCREEN_SHORT = 30,      /* showing alone; place 0; fewer bytes are lent than there are rows */
+    VFR_BAD_FAMILY = 17         /* a family's call alone; place 0; there are more than 64 ends, one is below the one
+                                   before it, the last (0 if there is none) is not the buffer's length, the buffer is
+                                   over 65,536 bytes, or fewer whole answers are lent than there are ends */
 };
 
 /* ---- Rows: VFR_COLUMNS numbers each; fields that a code does not use are 0 ---- */
@@ -170,14 +174,20 @@ enum {
 enum {
     VFR_ANSWER_NUMBER = 0,   /* VFR_ACCEPTED or a refusal number */
     VFR_ANSWER_PLACE = 1,    /* of a refusal: byte in the source, or at 15 which answer to a question, from 0; 0 if the
-                                source is accepted */
-    VFR_ANSWER_ROWS = 2,     /* row count, or the need at 6 and 13; 0 on other refusals */
-    VFR_ANSWER_FREE = 3,     /* how many of 1 to 65,535 no question bears; 0 on a refusal */
+                                source or family is accepted */
+    VFR_ANSWER_ROWS = 2,     /* row count, of a family all rows written, or the need at 6 and 13; 0 on other refusals */
+    VFR_ANSWER_FREE = 3,     /* how many of 1 to 65,535 no question bears; 0 on a refusal, and of a family as a whole */
     VFR_ANSWER_LINE = 4,     /* of the place, from 1: one more than the LF bytes before it */
     VFR_ANSWER_COLUMN = 5,   /* of the place, from 1: one more than the bytes since the last LF or the start. Line and
-                                column are 0 if the source is accepted, and at 1, 6, 13, 15 and 30 */
-    VFR_ANSWER_WRITTEN = 6,  /* bytes of the resolved text; 0 from reading and showing and on a refusal */
+                                column are 0 if the source or family is accepted, and at 1, 6, 13, 15, 17 and 30 */
+    VFR_ANSWER_WRITTEN = 6,  /* bytes of the resolved text; 0 from the other calls and on a refusal */
     VFR_ANSWER = 7           /* numbers of an answer */
+};
+
+/* A family's list of answers has the first six of these numbers for each source, VFR_ANSWER_NUMBER to
+ * VFR_ANSWER_COLUMN. */
+enum {
+    VFR_FAMILY_ANSWER = 6  /* numbers of the answer to one source */
 };
 
 /* ---- Tokens ---- */
@@ -244,6 +254,22 @@ void vfr_resolve(const uint8_t *src, size_t src_len, uint64_t *table, size_t tab
  * question without an answer, are undefined. Each rule is evaluated once, however often it is referred to. */
 void vfr_show(const uint8_t *src, size_t src_len, const uint64_t *answers, size_t answers_len, uint64_t *table,
               size_t table_len, uint8_t *out, size_t out_len, uint64_t *answer, size_t answer_len);
+
+/* Reads up to VFR_MAX_FAMILY sources that are joined in one buffer. The ends say where each of them ends: a source is
+ * the bytes from the end before its own, 0 for the first, to its own. Equal ends have an empty source between them, and
+ * ends know nothing of tokens. Each source is read as vfr_read reads it alone, with the whole rows of the table that the
+ * accepted sources before it left over; a refused source takes none, and does not refuse the call. Afterwards
+ * - the ends are as they were;
+ * - the table holds the rows of the accepted sources, one after another from its start on, and 0 past them. Parents and
+ *   places count from the source's own start: the parent 0 is its form set, wherever in the table that stands;
+ * - the answers hold VFR_FAMILY_ANSWER numbers for each source, in order, which are those of vfr_read, and 0 past them.
+ *   The rows of an accepted source begin where those of the accepted ones before it end, by their row counts;
+ * - if the call is refused (17), no source was read, and all of the table and of the answers is 0;
+ * - the answer holds the numbers above, and 0 past them. If the call is accepted, VFR_ANSWER_ROWS counts all rows
+ *   written, and all others are 0.
+ * There may be no ends if there are no bytes. As many rows as bytes are always enough. */
+void vfr_read_family(const uint8_t *buffer, size_t buffer_len, const uint64_t *ends, size_t ends_len, uint64_t *table,
+                     size_t table_len, uint64_t *answers, size_t answers_len, uint64_t *answer, size_t answer_len);
 
 /* The token that stands first from the place `at` on, after blanks and comments, where `at` has that line and column.
  * Afterwards the token holds the numbers above, and 0 past them. Line and column are counted on from those given over

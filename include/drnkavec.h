@@ -257,8 +257,8 @@ void vfr_show(const uint8_t *src, size_t src_len, const uint64_t *answers, size_
 
 /* Reads up to VFR_MAX_FAMILY sources that are joined in one buffer. The ends say where each of them ends: a source is
  * the bytes from the end before its own, 0 for the first, to its own. Equal ends have an empty source between them, and
- * ends know nothing of tokens. Each source is read as vfr_read reads it alone, with the whole rows of the table that the
- * accepted sources before it left over; a refused source takes none, and does not refuse the call. Afterwards
+ * ends know nothing of tokens. Each source is read as vfr_read reads it alone, with the whole rows of the table that
+ * the accepted sources before it left over; a refused source takes none, and does not refuse the call. Afterwards
  * - the ends are as they were;
  * - the table holds the rows of the accepted sources, one after another from its start on, and 0 past them. Parents and
  *   places count from the source's own start: the parent 0 is its form set, wherever in the table that stands;

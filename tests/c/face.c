@@ -29,10 +29,12 @@ static void check(const char *what, bool good)
 
 #define MOST_ANSWER (VFR_ANSWER + 5)
 #define MOST_TOKEN (VFR_SEEN + 2)
+#define MOST_FAMILY ((VFR_MAX_FAMILY + 2) * VFR_FAMILY_ANSWER)
 
 static uint64_t table[NUMBERS + 1];
 static uint64_t answer[MOST_ANSWER + 1];
 static uint64_t token[MOST_TOKEN + 1];
+static uint64_t family[MOST_FAMILY + 1];
 static uint8_t out[VFR_MAX_TEXT + 2];
 
 static void fill(uint64_t *numbers, size_t count)
@@ -67,6 +69,7 @@ static void fill_all(void)
     fill(table, NUMBERS + 1);
     fill(answer, MOST_ANSWER + 1);
     fill(token, MOST_TOKEN + 1);
+    fill(family, MOST_FAMILY + 1);
     memset(out, OLD_BYTE, sizeof out);
 }
 
@@ -1144,6 +1147,335 @@ static void check_show_null(void)
           out[EXAMPLE_ROWS - 1] == VFR_HIDDEN && all(answer, 0, MOST_ANSWER + 1, OLD));
 }
 
+/* ---- Families: document 02, W-206 ---- */
+
+/* The frame of the readings, on one line: the items begin at 140. */
+#define FRAMED(items) \
+    "formset " GUID ",title=STRING_TOKEN(2),help=STRING_TOKEN(3),form formid=1,title=STRING_TOKEN(4);" items FRAME_END
+
+/* Sources of 3 rows and of 5, and what they are answered with; one that is refused when its rows are there. */
+#define THREE FRAMED("label 1;")
+#define FIVE FRAMED("checkbox " STRINGS ",endcheckbox;" SECOND_FORM "label 2;")
+#define LOST FRAMED("goto 7," STRINGS ";label 2;")
+#define OF_EXAMPLE 0, 0, EXAMPLE_ROWS, EXAMPLE_FREE, 0, 0
+#define OF_THREE 0, 0, 3, 65535, 0, 0
+#define OF_FIVE 0, 0, 5, 65534, 0, 0
+#define OF_LOST VFR_NOT_FOUND, 145, 0, 0, 1, 146
+#define OF_NOTHING VFR_NOT_GRAMMAR, 0, 0, 0, 1, 1
+#define SHORT_OF(rows) VFR_TABLE_SHORT, 0, rows, 0, 0, 0
+
+/* Where the sources end that are put together. */
+static uint64_t ends[VFR_MAX_FAMILY + 2];
+static size_t end_count;
+
+/* A family of these sources, NULL after the last. */
+static void join(const char *part, ...)
+{
+    va_list parts;
+
+    length = 0;
+    end_count = 0;
+    va_start(parts, part);
+    for (; part != NULL; part = va_arg(parts, const char *)) {
+        add(part);
+        ends[end_count++] = length;
+    }
+    va_end(parts);
+}
+
+/* A family of so many sources, all the same. */
+static void join_times(const char *part, size_t times)
+{
+    length = 0;
+    for (end_count = 0; end_count < times; end_count++) {
+        add(part);
+        ends[end_count] = length;
+    }
+}
+
+/* A buffer of so many blanks, with these ends. */
+static void join_blanks(size_t bytes, struct list list)
+{
+    memset(source, ' ', bytes);
+    length = bytes;
+    end_count = list.count;
+    memcpy(ends, list.numbers, list.count * sizeof *ends);
+}
+
+static void read_family(size_t table_len, size_t answers_len)
+{
+    fill_all();
+    vfr_read_family((const uint8_t *)source, length, ends, end_count, table, table_len, family, answers_len, answer,
+                    VFR_ANSWER);
+}
+
+/* These numbers at the start of the lent answers, 0 past them, and nothing past what is lent. */
+static bool has_told(struct list told, size_t answers_len)
+{
+    return memcmp(family, told.numbers, told.count * sizeof *family) == 0 && all(family, told.count, answers_len, 0) &&
+           all(family, answers_len, MOST_FAMILY + 1, OLD);
+}
+
+/* Reads each source alone, with the rows that are left for it: the same answers, the same rows one after another, 0
+ * past them, and nothing past the table. */
+static bool each_alone(size_t table_len)
+{
+    static uint64_t joined[NUMBERS + 1], told[MOST_FAMILY];
+    size_t start = 0, used = 0;
+    bool good = true;
+
+    memcpy(joined, table, sizeof joined);
+    memcpy(told, family, sizeof told);
+    for (size_t i = 0; i < end_count; i++) {
+        read_source(source + start, ends[i] - start, table_len - used);
+        good = good && memcmp(told + i * VFR_FAMILY_ANSWER, answer, VFR_FAMILY_ANSWER * sizeof *told) == 0;
+        if (answer[VFR_ANSWER_NUMBER] == VFR_ACCEPTED) {
+            const size_t numbers = answer[VFR_ANSWER_ROWS] * VFR_COLUMNS;
+
+            good = good && memcmp(joined + used, table, numbers * sizeof *joined) == 0;
+            used += numbers;
+        }
+        start = ends[i];
+    }
+    return good && all(joined, used, table_len, 0) && all(joined, table_len, NUMBERS + 1, OLD);
+}
+
+/* The call is accepted with so many rows and these answers. The other buffers are lent anew for each source alone, so
+ * this comes last. */
+static bool has_joined(uint64_t rows, struct list told, size_t table_len, size_t answers_len)
+{
+    return has_read(rows, 0) && has_told(told, answers_len) && each_alone(table_len);
+}
+
+static bool has_refused_family(size_t table_len, size_t answers_len)
+{
+    return has_refused(VFR_BAD_FAMILY, NOWHERE) && cleared_table(table_len) && all(family, 0, answers_len, 0) &&
+           all(family, answers_len, MOST_FAMILY + 1, OLD);
+}
+
+static void check_family(void)
+{
+    static const uint64_t parents[] = {0, 0, 1, 0, 3};
+    bool good = true;
+
+    join(THREE, "formset\n @", FIVE, NULL);
+    read_family(122, 20);
+    for (size_t i = 0; i < 5; i++) {
+        good = good && cell(3 + i, VFR_COL_PARENT) == parents[i];
+    }
+    check("parents count from the source's own form set", good && cell(3, VFR_COL_CODE) == VFR_FORMSET);
+    check("and places from its own start", cell(3, VFR_COL_PLACE) == 0 && cell(5, VFR_COL_PLACE) == 140);
+    check("a family of three, the second refused, with numbers over: each as if it were alone",
+          has_joined(8, LIST(OF_THREE, VFR_BAD_TOKEN, 9, 0, 0, 2, 2, OF_FIVE), 122, 20));
+    join("\n\n\n", "\n" FRAMED("\n  rule A,ruleref(A) endrule;"), THREE, NULL);
+    read_family(NUMBERS, MOST_FAMILY);
+    check("lines and columns count from the source's own start",
+          has_joined(3, LIST(VFR_NOT_GRAMMAR, 3, 0, 0, 4, 1, VFR_RULE_CIRCLE, 159, 0, 0, 3, 18, OF_THREE), NUMBERS,
+                     MOST_FAMILY));
+    join(EXAMPLE, EXAMPLE, NULL);
+    read_family(NUMBERS, 12);
+    check("nothing goes from one source to another",
+          has_joined(2 * EXAMPLE_ROWS, LIST(OF_EXAMPLE, OF_EXAMPLE), NUMBERS, 12));
+}
+
+static void check_family_rows(void)
+{
+    const size_t rows = 11 * VFR_COLUMNS;
+
+    join(THREE, FIVE, THREE, NULL);
+    read_family(rows, 18);
+    check("a table of just the rows of all", has_joined(11, LIST(OF_THREE, OF_FIVE, OF_THREE), rows, 18));
+    read_family(rows - 1, 18);
+    check("a number fewer: the last is refusal 6 with the need",
+          has_joined(8, LIST(OF_THREE, OF_FIVE, SHORT_OF(3)), rows - 1, 18));
+    read_family(7 * VFR_COLUMNS, 18);
+    check("one that does not fit takes no rows, and a smaller one behind it is accepted",
+          has_joined(6, LIST(OF_THREE, SHORT_OF(5), OF_THREE), 7 * VFR_COLUMNS, 18));
+    read_family(0, 18);
+    check("without a table each has its need", has_joined(0, LIST(SHORT_OF(3), SHORT_OF(5), SHORT_OF(3)), 0, 18));
+    join(THREE, FIVE, NULL);
+    read_family(103, 12);
+    check("numbers that make no row are not lent", has_joined(3, LIST(OF_THREE, SHORT_OF(5)), 103, 12));
+    join(THREE, LOST, NULL);
+    read_family(7 * VFR_COLUMNS, 12);
+    check("a source that is refused late leaves no trace", has_joined(3, LIST(OF_THREE, OF_LOST), 7 * VFR_COLUMNS, 12));
+    join(LOST, THREE, LOST, FIVE, LOST, NULL);
+    read_family(9 * VFR_COLUMNS, 31);
+    check("nor among others",
+          has_joined(8, LIST(OF_LOST, OF_THREE, OF_LOST, OF_FIVE, SHORT_OF(4)), 9 * VFR_COLUMNS, 31));
+}
+
+static void check_family_ends(void)
+{
+    join("", "", NULL);
+    read_family(100, 12);
+    check("equal ends part an empty source: refusal 3 at 0, line 1, column 1",
+          has_joined(0, LIST(OF_NOTHING, OF_NOTHING), 100, 12));
+    join("", THREE, "", "", THREE, "", NULL);
+    read_family(NUMBERS, 40);
+    check("among others too",
+          has_joined(6, LIST(OF_NOTHING, OF_THREE, OF_NOTHING, OF_NOTHING, OF_THREE, OF_NOTHING), NUMBERS, 40));
+    join(THREE, NULL);
+    ends[0] = 20;
+    ends[end_count++] = 167;
+    read_family(100, 12);
+    check("a source ends where its end says, in a token too",
+          has_joined(0, LIST(VFR_BAD_TOKEN, 18, 0, 0, 1, 19, OF_NOTHING), 100, 12));
+    end_count = 0;
+    length = 0;
+    read_family(100, 10);
+    check("no ends with no bytes are accepted",
+          has_read(0, 0) && cleared_table(100) && all(family, 0, 10, 0) && all(family, 10, MOST_FAMILY + 1, OLD));
+}
+
+/* Ends that do not part so many blanks. */
+static void check_bad_ends(const char *what, size_t bytes, struct list list)
+{
+    join_blanks(bytes, list);
+    read_family(100, MOST_FAMILY);
+    check(what, has_refused_family(100, MOST_FAMILY));
+}
+
+static void check_family_refusals(void)
+{
+    check_bad_ends("ends that fall are refusal 17", 5, LIST(3, 2, 5));
+    check_bad_ends("so they are at the last", 5, LIST(5, 4));
+    check_bad_ends("and from past the buffer", 5, LIST(6, 5));
+    check_bad_ends("a last end past the buffer is refusal 17", 5, LIST(6));
+    check_bad_ends("however far", 5, LIST(2, UINT64_MAX));
+    check_bad_ends("and by 2^32", 5, LIST(5 + (UINT64_C(1) << 32)));
+    check_bad_ends("a last end short of the buffer is refusal 17", 5, LIST(4));
+    check_bad_ends("bytes without an end are refusal 17", 1, (struct list){ends, 0});
+    check_bad_ends("a buffer of 65,537 bytes is refusal 17", VFR_MAX_SOURCE + 1, LIST(VFR_MAX_SOURCE + 1));
+    check_bad_ends("however it is parted", VFR_MAX_SOURCE + 1, LIST(1, 2, VFR_MAX_SOURCE + 1));
+    join_times("", VFR_MAX_FAMILY + 1);
+    read_family(100, MOST_FAMILY);
+    check("65 ends are refusal 17", has_refused_family(100, MOST_FAMILY));
+    join(THREE, FIVE, NULL);
+    read_family(NUMBERS, 11);
+    check("a number fewer than the answers need is refusal 17, and nothing is read", has_refused_family(NUMBERS, 11));
+    read_family(NUMBERS, 0);
+    check("so are no answers", has_refused_family(NUMBERS, 0));
+}
+
+/* The most sources and the most bytes. */
+static void check_family_limits(void)
+{
+    const size_t answers_len = VFR_MAX_FAMILY * VFR_FAMILY_ANSWER;
+    bool good = true;
+
+    join_times(THREE, VFR_MAX_FAMILY);
+    read_family(NUMBERS, answers_len);
+    for (size_t i = 0; i < VFR_MAX_FAMILY; i++) {
+        good = good && memcmp(family + i * VFR_FAMILY_ANSWER, (const uint64_t[]){OF_THREE}, 48) == 0;
+    }
+    good = good && has_read(3 * VFR_MAX_FAMILY, 0) && all(family, answers_len, MOST_FAMILY + 1, OLD);
+    check("64 sources are accepted", good && each_alone(NUMBERS));
+    join_times("", VFR_MAX_FAMILY);
+    read_family(0, answers_len);
+    check("empty ones too", has_read(0, 0) && each_alone(0));
+    join_blanks(VFR_MAX_SOURCE, LIST(VFR_MAX_SOURCE));
+    read_family(100, 6);
+    check("a buffer of 65,536 bytes is accepted",
+          has_joined(0, LIST(VFR_NOT_GRAMMAR, 65536, 0, 0, 1, 65537), 100, 6));
+    make_blanks(VFR_MAX_SOURCE - 167);
+    ends[0] = length;
+    ends[1] = VFR_MAX_SOURCE;
+    end_count = 2;
+    add(THREE);
+    read_family(NUMBERS, 12);
+    check("in two sources too", has_joined(5, LIST(0, 0, FRAME_ROWS, 65535, 0, 0, OF_THREE), NUMBERS, 12));
+}
+
+/* Answers of any length: the first numbers of the whole one, 0 past its layout, and nothing past what is lent. */
+static void check_family_lengths(const char *what, size_t answers_len)
+{
+    const uint8_t *bytes = (const uint8_t *)source;
+    uint64_t whole[VFR_ANSWER], told[MOST_FAMILY + 1];
+    bool good = true;
+
+    read_family(NUMBERS, answers_len);
+    memcpy(whole, answer, sizeof whole);
+    memcpy(told, family, sizeof told);
+    for (size_t room = 0; room <= MOST_ANSWER; room++) {
+        fill_all();
+        vfr_read_family(bytes, length, ends, end_count, table, NUMBERS, family, answers_len, answer, room);
+        good = good && answer_of_length(whole, room) && memcmp(told, family, sizeof told) == 0;
+    }
+    check(what, good);
+}
+
+/* A family lent the middle of every buffer, 122 numbers for rows and so many for answers; the marks on both sides. */
+static bool keeps_marks(size_t answers_len)
+{
+    fill_all();
+    vfr_read_family((const uint8_t *)source, length, ends, end_count, table + 5, 122, family + 3, answers_len,
+                    answer + 2, VFR_ANSWER);
+    return all(table, 0, 5, OLD) && all(table, 5 + 122, NUMBERS + 1, OLD) && all(family, 0, 3, OLD) &&
+           all(family, 3 + answers_len, MOST_FAMILY + 1, OLD) && all(answer, 0, 2, OLD) &&
+           all(answer, 2 + VFR_ANSWER, MOST_ANSWER + 1, OLD);
+}
+
+static void check_family_marks(void)
+{
+    join(LOST, THREE, LOST, FIVE, THREE, NULL);
+    check("families: nothing is written before what is lent, or past it",
+          keeps_marks(31) && answer[2 + VFR_ANSWER_NUMBER] == VFR_ACCEPTED && answer[2 + VFR_ANSWER_ROWS] == 8);
+    check("nor is it where the call is refused", keeps_marks(29) && answer[2 + VFR_ANSWER_NUMBER] == VFR_BAD_FAMILY);
+}
+
+/* A length of 0 may come with a null pointer, in every argument. */
+static void check_family_null(void)
+{
+    const uint8_t *const bytes = (const uint8_t *)THREE;
+    const uint64_t end = sizeof THREE - 1;
+
+    join(THREE, NULL);
+    fill_all();
+    vfr_read_family(NULL, 0, NULL, 0, table, 100, family, 10, answer, VFR_ANSWER);
+    check("families: no bytes and no ends are accepted", has_read(0, 0) && cleared_table(100) && all(family, 0, 10, 0));
+    fill_all();
+    vfr_read_family(NULL, 0, (const uint64_t[]){0}, 1, NULL, 0, family, 6, answer, VFR_ANSWER);
+    check("families: no bytes with an end", has_read(0, 0) && has_told(LIST(OF_NOTHING), 6));
+    fill_all();
+    vfr_read_family(bytes, end, &end, 1, NULL, 0, family, 6, answer, VFR_ANSWER);
+    check("families: no table is refusal 6 of the source", has_read(0, 0) && has_told(LIST(SHORT_OF(3)), 6));
+    fill_all();
+    vfr_read_family(bytes, end, &end, 1, table, 100, NULL, 0, answer, VFR_ANSWER);
+    check("families: no answers are refusal 17", has_refused_family(100, 0));
+    fill_all();
+    vfr_read_family(bytes, end, NULL, 0, table, 100, family, 6, answer, VFR_ANSWER);
+    check("families: no ends are refusal 17", has_refused_family(100, 6));
+    fill_all();
+    vfr_read_family(bytes, end, &end, 1, table, NUMBERS, family, 6, NULL, 0);
+    check("families: no answer of the call, and those of the sources all the same",
+          all(answer, 0, MOST_ANSWER + 1, OLD) && has_told(LIST(OF_THREE), 6) && each_alone(NUMBERS));
+    vfr_read_family(NULL, 0, NULL, 0, NULL, 0, NULL, 0, NULL, 0);
+    check("families: nothing at all is lent, and the call returns", true);
+}
+
+/* All of these; last that what is lent to be read is as it was. */
+static void check_families(void)
+{
+    static char copy[sizeof source];
+    uint64_t copied[sizeof ends / sizeof *ends];
+
+    check_family();
+    check_family_rows();
+    check_family_ends();
+    check_family_refusals();
+    check_family_limits();
+    check_family_marks();
+    check_family_null();
+    join(THREE, "\n\n@", FIVE, NULL);
+    memcpy(copy, source, sizeof copy);
+    memcpy(copied, ends, sizeof copied);
+    check_family_lengths("families: answers of 0 to 12 numbers: accepted", 18);
+    check_family_lengths("families: answers of 0 to 12 numbers: refused", 17);
+    check("the buffer of a family is untouched", memcmp(copy, source, sizeof copy) == 0);
+    check("and so are its ends", memcmp(copied, ends, sizeof copied) == 0);
+}
+
 /* ---- Tokens ---- */
 
 static void token_from(const char *bytes, size_t count, size_t at, size_t line, size_t column)
@@ -1371,6 +1703,7 @@ int main(void)
     check_faults();
     check_shown_rules();
     check_show_null();
+    check_families();
     check_source_untouched();
     printf("%d checks passed, %d failed\n", passed, failed);
     return failed != 0;

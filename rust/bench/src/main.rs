@@ -2,9 +2,11 @@
 
 #![forbid(unsafe_code)]
 
+mod families;
 mod inputs;
 mod screens;
 
+use families::families;
 use inputs::{EXAMPLE, KINDS};
 use reference::{Position, Walk, ROW};
 use screens::{screens, Screen};
@@ -258,5 +260,6 @@ fn main() {
     growth();
     resolving();
     showing();
+    families();
     walking();
 }

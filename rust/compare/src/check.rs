@@ -1,5 +1,5 @@
-//! One source, or one family of them, and the buffers lent for it: the library's answer against the reference's. Each check
-//! gives what both answered, or how they differ.
+//! One source, or one family of them, and the buffers lent for it: the library's answer against the reference's. Each
+//! check gives what both answered, or how they differ.
 
 mod family;
 

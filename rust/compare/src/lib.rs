@@ -1,6 +1,6 @@
 //! What the programs of this crate share: the checks of the library against the reference, the sources, families and
-//! answers for them, the tally of the answers met, the references into other forms, the numerics of a source, and the count
-//! of checks of given cases.
+//! answers for them, the tally of the answers met, the references into other forms, the numerics of a source, and the
+//! count of checks of given cases.
 
 #![forbid(unsafe_code)]
 

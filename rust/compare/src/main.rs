@@ -1,9 +1,9 @@
 //! `compare SECONDS [SEED]`: the library against the reference on every edit of one source, which takes
-//! about twenty seconds, then on random sources and families of them for so long. It prints how often each call gave each
-//! answer, how many tokens were compared, how many accepted numerics have no step, 0, 1 or another, how many rows of
-//! screens were hidden, grey, both or neither, and which families were met; a run of at least a minute fails where an
-//! answer that a call can give, a token, a sort of step or of families or a byte of a screen was never met, a shorter one
-//! only says so.
+//! about twenty seconds, then on random sources and families of them for so long. It prints how often each call gave
+//! each answer, how many tokens were compared, how many accepted numerics have no step, 0, 1 or another, how many rows
+//! of screens were hidden, grey, both or neither, and which families were met; a run of at least a minute fails where
+//! an answer that a call can give, a token, a sort of step or of families or a byte of a screen was never met, a
+//! shorter one only says so.
 
 #![forbid(unsafe_code)]
 

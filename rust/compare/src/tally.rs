@@ -15,8 +15,8 @@ use reference::{PLACELESS_REFUSALS, QUICK_REFUSALS, RANGE_REFUSAL, READ_REFUSALS
 use std::collections::BTreeMap;
 use std::fmt;
 
-/// The calls that are compared and have answers. Reading is counted once more where its refusal has a line past the first;
-/// of a family each source is counted.
+/// The calls that are compared and have answers. Reading is counted once more where its refusal has a line past the
+/// first; of a family each source is counted.
 #[derive(Clone, Copy, PartialEq, Eq, PartialOrd, Ord, Debug)]
 pub enum Call {
     Reading,
@@ -201,8 +201,8 @@ const BYTES: [&str; 4] = ["neither", "hidden", "grey", "both"];
 /// What a numeric may write for its step, in the order of `Step`.
 const STEPS: [&str; 4] = ["absent", "zero", "one", "other"];
 
-/// How often each call gave each answer, and how often each class of tokens, each sort of step, each byte of screens and
-/// each sort of family was met.
+/// How often each call gave each answer, and how often each class of tokens, each sort of step, each byte of screens
+/// and each sort of family was met.
 #[derive(Default)]
 pub struct Tally {
     counts: BTreeMap<(Met, Call), u64>,

@@ -82,8 +82,8 @@ pub fn show(source: &[u8], answers: &[u64], table: &mut [u64], out: &mut [u8]) -
     Answer::of(numbers)
 }
 
-/// Reads the sources of a buffer, which these ends part, each alone: the rows of those that are accepted into a lent table,
-/// one after another, and six numbers for each into lent answers.
+/// Reads the sources of a buffer, which these ends part, each alone: the rows of those that are accepted into a lent
+/// table, one after another, and six numbers for each into lent answers.
 pub fn read_family(buffer: &[u8], ends: &[u64], table: &mut [u64], answers: &mut [u64]) -> Answer {
     let mut numbers = [u64::MAX; ANSWER];
     read_family_into(buffer, ends, table, answers, &mut numbers);

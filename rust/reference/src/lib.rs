@@ -1,6 +1,6 @@
 //! A plain reader, resolver, quick check and screen for VFR sources, written from document 01 ("VFR sources to rows and
-//! resolved text", with the readings of docs/DECISIONS.md) and document 02's W-201 to W-204, W-206 and W-208, and not from
-//! the library. The library is compared with it.
+//! resolved text", with the readings of docs/DECISIONS.md) and document 02's W-201 to W-204, W-206 and W-208, and not
+//! from the library. The library is compared with it.
 
 #![forbid(unsafe_code)]
 

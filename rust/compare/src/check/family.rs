@@ -18,8 +18,8 @@ fn expected(read: &Read) -> Answer {
     }
 }
 
-/// How the answer to a source, and its rows at the start of a table, differ from what the library gives for it alone, with
-/// this many rows lent.
+/// How the answer to a source, and its rows at the start of a table, differ from what the library gives for it alone,
+/// with this many rows lent.
 fn one_difference(source: &[u8], answer: &[u64], table: &[u64], rows_lent: usize) -> Option<String> {
     let mut alone = vec![OLD; ROW * rows_lent];
     let told = library::read(source, &mut alone);

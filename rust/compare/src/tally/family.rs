@@ -2,7 +2,7 @@
 
 use crate::check::Read;
 use crate::families::Family;
-use reference::{parted, FAMILY_ANSWER, LONGEST, MOST_SOURCES, ROW, TABLE_REFUSAL};
+use reference::{parted, CIRCLE_REFUSAL, FAMILY_ANSWER, LONGEST, MOST_SOURCES, ROW, TABLE_REFUSAL};
 use std::fmt;
 
 /// A cause to refuse a family, and whether one has it; a sort of accepted families, and whether one is of it.
@@ -62,7 +62,7 @@ fn is_short(number: u64) -> bool {
 
 /// Refused after the rows are there.
 fn is_late(number: u64) -> bool {
-    (TABLE_REFUSAL + 1..=14).contains(&number)
+    (TABLE_REFUSAL + 1..=CIRCLE_REFUSAL).contains(&number)
 }
 
 fn in_word(byte: Option<&u8>) -> bool {

@@ -1,14 +1,14 @@
-//! `given FILE..`: the reference and the library, each against given answers, whole tables, whole outputs, quick checks and
-//! tokens with their lines and columns. A file has a case on each line: of reading and resolving
+//! `given FILE..`: the reference and the library, each against given answers, whole tables, whole outputs, quick checks
+//! and tokens with their lines and columns. A file has a case on each line: of reading and resolving
 //! (`tests/cases/given.jsonl`), of showing (`tests/cases/given-show.jsonl`) or of families
-//! (`tests/cases/given-family.jsonl`), each of whose sources the library also reads alone. Zeros at the end of a table,
-//! output or list of answers are left off, and long sources come without tokens.
+//! (`tests/cases/given-family.jsonl`), each of whose sources the library also reads alone. Zeros at the end of a
+//! table, output or list of answers are left off, and long sources come without tokens.
 //!
-//! The cases of reading are given for W-208. Those of showing were given for W-202, and no reader had a part in what was
-//! changed of them: each row has W-204's column, 33 for a numeric and 0 otherwise; as many whole rows are lent as before;
-//! 27 cases that were refused with 3 at a word of W-204 are left out, as nothing given says what they show now; the
-//! step of five numerics that write none is 1 (W-208). Those of families were given for W-206 without W-208; by the words
-//! of the sources alone, the step of 409 of their 445 numerics, which write none, is 1.
+//! The cases of reading are given for W-208. Those of showing were given for W-202, and no reader had a part in what
+//! was changed of them: each row has W-204's column, 33 for a numeric and 0 otherwise; as many whole rows are lent as
+//! before; 27 cases that were refused with 3 at a word of W-204 are left out, as nothing given says what they show now;
+//! the step of five numerics that write none is 1 (W-208). Those of families were given for W-206 without W-208, and
+//! changed likewise: 409 of their 445 numerics write no step, which is 1.
 
 #![forbid(unsafe_code)]
 

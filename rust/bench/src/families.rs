@@ -96,8 +96,8 @@ fn line(name: &str, family: &Family, rows: usize) {
 /// Reading a family in one call, beside a call for each source with just the rows that it needs, a call for each with
 /// all rows that are left, and the reference.
 pub fn families() {
-    println!("\nA family, microseconds for all sources. Beside the one call: a call for each source, with just its own");
-    println!("rows or with all rows that are left; and the reference's one call. Ratios: the one call over these.\n");
+    println!("\nA family, microseconds for all sources. Beside the one call: a call for each source, with just its");
+    println!("own rows or with all rows that are left; the reference's one call. Ratios: the one call over these.\n");
     println!(
         "{:38} {:>6} {:>6} | {:>9} | {:>9} {:>6} | {:>9} {:>6} | {:>9} {:>6}",
         "sources", "bytes", "lent", "one call", "own rows", "ratio", "rows left", "ratio", "reference", "ratio"

@@ -248,7 +248,9 @@ fn fewer_sources(family: &Family, answer: usize) -> Family {
 }
 
 fn report_family(seed: u64, family: &Family, answer: usize, fault: &str) {
-    let Family { buffer, ends, table_len, answers_len } = fewer_sources(family, answer);
+    let least = fewer_sources(family, answer);
+    let fault = check::family(&least, answer).err().unwrap_or(fault.to_string());
+    let Family { buffer, ends, table_len, answers_len } = least;
     println!("DISAGREEMENT at seed {seed}, a family of {} sources, of which these are left:", family.ends.len());
     println!("{}", buffer.escape_ascii());
     println!("ends {ends:?}, lent {table_len} numbers for rows, {answers_len} for answers, {answer} for the answer");

@@ -1,21 +1,11 @@
--- The numbers of an answer and of a token in lent memory (document 02, W-201).
+-- The numbers of a token in lent memory (document 02, W-201).
 -- Assumes nothing.
 use Prim.Native.Nat.{ℕ}
 use mathlib.Core.Bool.{cond}
-use mathlib.Core.List.{List, [], _∷_, _++_}
+use mathlib.Core.List.{List, [], _∷_}
 use lib.Dec.{ltb}
-use lib.ListN.{take, replicate}
 use Rattle.lexemes.specs.Classes.{BAD}
-use Rattle.replies.specs.Replies.{Reply}
 use Rattle.viewer.specs.declared.Seen.{Seen}
-
--- in memory of n numbers: these as far as there is room, and 0 past them
-unfoldable pub inLent : ℕ → List ℕ → List ℕ
-inLent n l = take n (l ++ replicate n 0)
-
--- number, place, row count, free count, line, column, and the bytes written besides rows
-abbrev pub replyNumbers : Reply → List ℕ
-replyNumbers r = r .number ∷ r .place ∷ r .rows ∷ r .free ∷ r .line ∷ r .column ∷ r .written ∷ []
 
 -- 1 where no further token comes: at a bad token and at the end
 abbrev pub isLast : ℕ → ℕ

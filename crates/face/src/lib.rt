@@ -1,52 +1,21 @@
-// The interface for C: the quick check, reading, resolving, showing and the token reader, on slices and numbers. A slice passes as a
-// pointer and a length. Every number of a lent answer or token is written.
+// The interface for C: the quick check, reading, reading a family, resolving, showing and the token reader, on slices and
+// numbers. A slice passes as a pointer and a length. Every number of a lent answer or token is written.
+use lent::put_answer;
+use lent::put_numbers;
 use lexemes::classes::BAD;
-use read::Answer;
 use text::TOO_FEW_ROWS;
 use text::TOO_LONG;
 ghost use mathlib.Core.Path.{_≡_};
-ghost use lib.ListN.{length, getD};
+ghost use lib.ListN.{length};
 ghost use Rattle.answers.specs.WholeAnswer.{quickCheck, readTable};
 ghost use Rattle.answers.specs.Resolution.{resolvedTable, resolvedOutput};
 ghost use Rattle.replies.specs.Replies.{readReply, resolveReply};
-ghost use Rattle.read.specs.Answers.{told};
+ghost use Rattle.family.specs.Family.{familyReply, familyTable, familyAnswers};
+ghost use Rattle.lent.specs.Numbers.{inLent, replyNumbers};
 ghost use Rattle.show.specs.Show.{showReply, showTable, showOutput};
 ghost use Rattle.text.specs.Answers as text;
 ghost use Rattle.viewer.specs.Viewed.{seenFrom};
-ghost use Rattle.face.specs.Numbers.{inLent, isLast, replyNumbers, tokenNumbers};
-
-// The number at an index, and 0 past the end.
-fn number_at(numbers: &[u64], k: usize) -> u64
-    ensures { λ r. ⌜ r ≡ getD (now (numbers .entry)) k 0 ⌝ }
-{
-    if k < numbers.len() {
-        return numbers[k];
-    }
-    0
-}
-
-// The numbers as far as there is room, and 0 past them.
-fn put_numbers(out: &mut [u64], numbers: &[u64])
-    ensures { λ _. ⌜ now (out .exit) ≡ inLent (length (now (out .entry))) (now (numbers .entry)) ⌝ }
-{
-    for k in 0..out.len() {
-        out[k] = number_at(numbers, k);
-    }
-}
-
-// The numbers of reading's answer.
-fn put_answer(out: &mut [u64], answer: Answer)
-    ensures { λ _. ⌜ now (out .exit) ≡ inLent (length (now (out .entry))) (replyNumbers (told answer)) ⌝ }
-{
-    match answer {
-        Answer::Accepted(rows, free) => put_numbers(out, &[0, 0, rows as u64, free, 0, 0, 0]),
-        Answer::Refused(number, place, line, column) => put_numbers(
-            out,
-            &[number, place as u64, 0, 0, line as u64, column as u64, 0],
-        ),
-        Answer::Short(need) => put_numbers(out, &[TOO_FEW_ROWS, 0, need as u64, 0, 0, 0, 0]),
-    }
-}
+ghost use Rattle.face.specs.Numbers.{isLast, tokenNumbers};
 
 // Stages 1 to 5 alone: the refusal's number times 2^32 plus its place, or 0.
 #[no_mangle]
@@ -63,6 +32,27 @@ pub extern "C" fn vfr_read(src: &[u8], table: &mut [u64], answer: &mut [u64])
     ensures { λ _. ⌜ now (answer .exit) ≡ inLent (length (now (answer .entry))) (replyNumbers (readReply (now (src .entry)) (length (now (table .entry))))) ⌝ }
 {
     let a = read::read(src, table);
+    put_answer(answer, a);
+}
+
+// Reads the sources of a family, joined in one buffer and parted by their ends, into one table, with an answer for each.
+#[no_mangle]
+pub extern "C" fn vfr_read_family(
+    buffer: &[u8],
+    ends: &[u64],
+    table: &mut [u64],
+    answers: &mut [u64],
+    answer: &mut [u64],
+)
+    ensures { λ _. ⌜ now (table .exit) ≡ familyTable (now (buffer .entry)) (now (ends .entry)) (length (now (table .entry))) (length (now (answers .entry))) ⌝ }
+    ensures { λ _. ⌜ now (answers .exit) ≡ familyAnswers (now (buffer .entry)) (now (ends .entry)) (length (now (table .entry))) (length (now (answers .entry))) ⌝ }
+    ensures { λ _. ⌜
+        now (answer .exit)
+        ≡ inLent (length (now (answer .entry)))
+        (replyNumbers (familyReply (now (buffer .entry)) (now (ends .entry)) (length (now (table .entry))) (length (now (answers .entry)))))
+        ⌝ }
+{
+    let a = family::read_family(buffer, ends, table, answers);
     put_answer(answer, a);
 }
 

@@ -1,6 +1,6 @@
 -- The passes one after the other: sound drafts that no stage refuses become grammar's settled drafts, and then its finished rows; and the map
 -- counts the free numbers.
-use Prim.Native.Nat.{ℕ, suc, _+_, _*_, _≤_, _<_}
+use Prim.Native.Nat.{ℕ, suc, _+_, _≤_, _<_}
 use mathlib.Core.Path.{_≡_, refl, sym, ap, ap₂, _∙_}
 use mathlib.Core.Bool.{Bool, true, false, cond, or-true, true≢false}
 use mathlib.Core.List.{List, [], _∷_, map}
@@ -15,11 +15,10 @@ use Rattle.numbers.proofs.Numbering.{numbering}
 use Rattle.rows.specs.Codes as code
 use Rattle.rows.specs.Codes.{isQuestion, questions, member}
 use Rattle.rows.specs.Columns as column
-use Rattle.rows.specs.Table.{wholeRows, cleared}
-use Rattle.rows.specs.Rows.{AreRows, rowsFrom, put, laid}
+use Rattle.rows.specs.Table.{wholeRows}
+use Rattle.rows.specs.Rows.{AreRows, rowsFrom, put}
 use Rattle.rows.proofs.FlatLaws.{are-rows-map}
 use Rattle.rows.proofs.RunLaws.{length-put, rows-put, put-twice}
-use Rattle.rows.proofs.LaidLaws.{put-cleared}
 use Rattle.answers.specs.Rows.{Draft}
 use Rattle.answers.specs.Stages.{cell, is, asks, writes, any, placeOf, faultsAfter, repeatedNames, ruleNamed, finds, refers, inVain, unfound}
 use Rattle.answers.specs.Stages.{ownNumbers, withCell, withNumbers, numberedRows, ownOfFirst, withReferences, settled, finished}
@@ -174,16 +173,6 @@ module _ {t : List ℕ} {ds : List Draft} (v : DraftsIn t ds) where
   pub drafts-in : draftsFrom t 0 (length ds) ≡ ds
   drafts-in = drafts-held (v .fit) t 0 (v .held)
 
-  -- after `strip` and `rows::clear_past`
-  pub rows-laid : {t₁ t₂ : List ℕ} → t₁ ≡ put t 0 (map stripped (rowsFrom t 0 (length ds))) → t₂ ≡ cleared t₁ (length ds * column.ROW)
-      → t₂ ≡ laid (map (λ d. d .row) ds) (length t)
-  rows-laid {t₁} {t₂} one two =
-      let rs : List (List ℕ) = map stripped (map encoded ds) in
-      let many : length rs ≡ length ds = length-map (map encoded ds) stripped ∙ length-map ds encoded in
-      let made : t₁ ≡ put t 0 rs = one ∙ rw (v .held) in
-      two ∙ rw (made, ← many) (put-cleared (are-rows-map stripped length-stripped (are-encoded (v .fit))) t (rw many (v .room)))
-      ∙ ap (λ (l : List (List ℕ)). laid l (length t)) (stripped-rows (v .fit))
-
 -- ---- all passes
 
 -- the drafts with their numbers
@@ -234,6 +223,9 @@ module _ {ds : List Draft} (v : SoundRows ds) (s : List ℕ) (names : repeatedNa
   unfolding settled withReferences numberedRows
   fit-settled = fit-found (refers s) (λ d. ownOfFirst s (finds s (withTheirs ds) d) (withTheirs ds)) fit
 
+  all-settled : length (map encoded (settled s ds)) ≡ length ds
+  all-settled = length-map (settled s ds) encoded ∙ settled-count s ds
+
   -- after `settle`
   module _ {t₂ : List ℕ} (two : t₂ ≡ tableSettled s es ws t (length ds)) where
     pub table-settled : t₂ ≡ put t 0 (map encoded (settled s ds))
@@ -246,18 +238,18 @@ module _ {ds : List Draft} (v : SoundRows ds) (s : List ℕ) (names : repeatedNa
     -- its first rows are the settled drafts
     pub settled-in : DraftsIn t₂ (settled s ds)
     settled-in =
-        let all : length (map encoded (settled s ds)) ≡ length ds = length-map (settled s ds) encoded ∙ settled-count s ds in
         record {
           fit = fit-settled;
           room = rw (settled-count s ds) (omega (arith, settled-long, room));
-          held = rw (← length-map (settled s ds) encoded) (rows-held t (are-encoded fit-settled) (rw all room) table-settled);
+          held = rw (← length-map (settled s ds) encoded) (rows-held t (are-encoded fit-settled) (rw all-settled room) table-settled);
         }
 
-    -- after `strip` and `rows::clear_past`
-    pub finished-table : {t₃ t₄ : List ℕ} → t₃ ≡ put t₂ 0 (map stripped (rowsFrom t₂ 0 (length ds)))
-        → t₄ ≡ cleared t₃ (length ds * column.ROW) → t₄ ≡ laid (finished s ds) (length t)
+    -- after `strip`
+    pub finished-table : {t₃ : List ℕ} → t₃ ≡ put t₂ 0 (map stripped (rowsFrom t₂ 0 (length ds))) → t₃ ≡ put t 0 (finished s ds)
     unfolding finished
-    finished-table {t₃} three four = rw (← settled-long) (rows-laid settled-in {t₁ = t₃} (rw (settled-count s ds) three) (rw (settled-count s ds) four))
+    finished-table three =
+        passed t (are-encoded fit-settled) (rw all-settled room) table-settled stripped length-stripped (rw all-settled three)
+        ∙ ap (put t 0) (stripped-rows fit-settled)
 
   -- the numbers that the map leaves free
   pub free-finished : {ws₁ : List ℕ} → ws₁ ≡ givenMap ws 1 (ownsIn (rowsFrom t 0 (length ds))) → usedCount ws₁ + freeCount (numbered (ownNumbers ds)) ≡ 65535

@@ -1,9 +1,9 @@
 -- From drafts that pass stages 7 to 12 to 14, or to the finished rows and the free count.
 -- Assumes nothing.
-use Prim.Native.Nat.{ℕ, zero, suc, _+_, _*_, _-_, _≤_, _<_}
+use Prim.Native.Nat.{ℕ, zero, suc, _+_, _-_, _≤_}
 use native.Mathlib.Omega.{arith}
 use mathlib.Core.Path.{_≡_, refl, sym, ap, _∙_}
-use mathlib.Core.Bool.{true, cond, or-true}
+use mathlib.Core.Bool.{cond, or-true}
 use lib.Dec.{eqb}
 use mathlib.Core.Logic.{_≢_}
 use mathlib.Core.List.{List, [], _∷_, map}
@@ -12,23 +12,22 @@ use borrow.Author.Tests.{eq-eqb, ne-eqb}
 use Rattle.numbers.specs.Numbers.{numbered, freeCount, usedCount, givenMap}
 use Rattle.rows.specs.Codes as code
 use Rattle.rows.specs.Columns as column
-use Rattle.rows.specs.Columns.{ROW}
 use Rattle.rows.specs.Table.{cleared}
-use Rattle.rows.specs.Rows.{rowsFrom, put, laid}
+use Rattle.rows.specs.Rows.{rowsFrom, put}
 use Rattle.rows.proofs.ClearLaws.{cleared-whole}
 use Rattle.answers.specs.Rows.{Draft}
-use Rattle.answers.specs.Stages.{cell, is, placeOf, ownNumbers, settled, finished, circularReferences}
+use Rattle.answers.specs.Stages.{cell, is, placeOf, ownNumbers, settled, circularReferences}
 use Rattle.answers.specs.Drafts.{draftsFrom}
 use Rattle.answers.specs.Answer.{Answer, refuses, accepts, answerPast12}
 use Rattle.answers.proofs.Settling.{settled-column, settled-own-marks, settled-count}
-use Rattle.drafts.specs.Sound.{SoundRow, AllSound, no-rows, add-row, First}
+use Rattle.drafts.specs.Sound.{AllSound, no-rows, add-row, First}
 use Rattle.drafts.proofs.CodingLaws.{drafts-held}
 use Rattle.drafts.proofs.Firsts.{stage-first}
 use Rattle.circle_stage.specs.Circular.{circleFault, firstBy}
 use Rattle.circle_stage.proofs.Theorems.{Marked, none-marked, add-marked, circle-first}
 use Rattle.finish.specs.Finish.{ownsIn, stripped, tableSettled, DraftsIn}
 use Rattle.finish.proofs.Finished.{settled-in, settled-long, finished-table, free-finished}
-use Rattle.read.specs.Drafted.{Ready, tableFor, tablePast12}
+use Rattle.read.specs.Drafted.{Ready, tablePast12}
 
 pub length-drafts : (t : List ℕ) (i n : ℕ) → length (draftsFrom t i n) ≡ n
 unfolding draftsFrom
@@ -110,7 +109,7 @@ module _ {s es ws t : List ℕ} {count : ℕ} (pre : Ready s es ws t count) wher
         pub circle-answer : refuses 14 (m - 1) ≡ answerPast12 s ds
         circle-answer = sym (answer-is ∙ rw (ne-eqb m 0 h))
 
-        pub circle-table : {u : List ℕ} → u ≡ cleared t₁ 0 → u ≡ tablePast12 s ds (length t)
+        pub circle-table : {u : List ℕ} → u ≡ cleared t₁ 0 → u ≡ tablePast12 s t count
         unfolding tablePast12
         circle-table e = e ∙ rw (← circle-answer) (cleared-whole t₁ ∙ rw long)
 
@@ -118,15 +117,13 @@ module _ {s es ws t : List ℕ} {count : ℕ} (pre : Ready s es ws t count) wher
         free-is : answerPast12 s ds ≡ acceptance
         free-is = answer-is ∙ rw (eq-eqb m 0 z)
 
-        -- after `strip` and `rows::clear_past` the finished rows
-        pub table-accepted :
-            {t₂ t₃ : List ℕ} → t₂ ≡ put t₁ 0 (map stripped (rowsFrom t₁ 0 count)) → t₃ ≡ cleared t₂ (count * ROW)
-            → t₃ ≡ tablePast12 s ds (length t)
+        -- after `strip` the finished rows
+        pub table-accepted : {t₂ : List ℕ} → t₂ ≡ put t₁ 0 (map stripped (rowsFrom t₁ 0 count)) → t₂ ≡ tablePast12 s t count
         unfolding tablePast12
-        table-accepted {t₂} {t₃} two three =
+        table-accepted {t₂} two =
             finished-table (pre .drafted .sound) s (pre .named) (pre .found) (pre .index) (pre .written) t
             (rw many (pre .drafted .room)) (rw many (pre .drafted .held))
-            {t₂ = t₁} (rw many one) {t₃ = t₂} {t₄ = t₃} (rw many two) (rw many three)
+            {t₂ = t₁} (rw many one) {t₃ = t₂} (rw many two)
             ∙ rw free-is
 
         pub free-accepted :

@@ -2,7 +2,7 @@
 -- Assumes nothing.
 use Prim.Native.Nat.{ℕ, _+_, _/_, _≤_}
 use native.Mathlib.Omega.{arith}
-use mathlib.Core.Path.{_≡_, sym, ap, _∙_}
+use mathlib.Core.Path.{_≡_, sym, _∙_}
 use mathlib.Core.Logic.{_≢_}
 use mathlib.Core.List.{List}
 use lib.ListN.{length, replicate, length-replicate, getD-replicate}
@@ -43,7 +43,7 @@ module _ {s xs t : List ℕ} {count : ℕ} (pre : Drafted t count) (index : Inde
     pub refused-answer : refuses (f .number) (f .place) ≡ answerOf s ds (length t / ROW)
     refused-answer = sym (answer-is ∙ rw (ne-eqb (f .number) 0 h))
 
-    pub refused-table : {u : List ℕ} → u ≡ cleared t 0 → u ≡ tableAfter s ds (length t)
+    pub refused-table : {u : List ℕ} → u ≡ cleared t 0 → u ≡ tableAfter s t count
     unfolding tableAfter
     refused-table e = e ∙ rw (← refused-answer, ne-eqb (f .number) 0 h) (cleared-whole t)
 
@@ -62,7 +62,7 @@ module _ {s xs t : List ℕ} {count : ℕ} (pre : Drafted t count) (index : Inde
     pub answer-past-12 : {a : Answer} → a ≡ answerPast12 s ds → a ≡ answerOf s ds (length t / ROW)
     answer-past-12 e = e ∙ past-12
 
-    pub table-past-12 : {u : List ℕ} → u ≡ tablePast12 s ds (length t) → u ≡ tableAfter s ds (length t)
+    pub table-past-12 : {u : List ℕ} → u ≡ tablePast12 s t count → u ≡ tableAfter s t count
     unfolding tableAfter tablePast12
     table-past-12 e = e ∙ rw (← past-12)
 

@@ -1,3 +1,4 @@
+pub mod AcceptedRows
 pub mod SurveyLaws
 pub mod FaultLaws
 pub mod AcceptLaws

@@ -5,12 +5,11 @@ use mathlib.Core.Path.{_≡_}
 use mathlib.Core.Bool.{cond}
 use mathlib.Core.List.{List, [], map}
 use lib.Dec.{eqb}
-use lib.ListN.{replicate}
+use lib.ListN.{length, replicate}
 use Rattle.numbers.specs.Numbers.{Holds}
 use Rattle.rows.specs.Columns.{ROW}
 use Rattle.rows.specs.Table.{wholeRows}
-use Rattle.rows.specs.Rows.{rowsFrom, laid}
-use Rattle.answers.specs.Rows.{Draft}
+use Rattle.rows.specs.Rows.{rowsFrom, put}
 use Rattle.answers.specs.Drafts.{encoded, draftsFrom}
 use Rattle.answers.specs.Stages.{repeatedNames, unfound, ownNumbers, finished}
 use Rattle.answers.specs.Answer.{Answer, answerPast12, answerOf}
@@ -37,14 +36,14 @@ pub record Ready (s es ws t : List ℕ) (count : ℕ) : Type 0 where
   pub found : unfound s (draftsFrom t 0 count) ≡ []
   pub written : Holds ws (ownNumbers (draftsFrom t 0 count))
 
--- a table of n numbers after an answer: the finished rows of the drafts and then zeros, or all zeros where it refuses
-abbrev pub tableFor : Answer → List ℕ → List Draft → ℕ → List ℕ
-tableFor a s ds n = cond (eqb (a .number) 0) (laid (finished s ds) n) (replicate n 0)
+-- the table t, with so many drafts in its first rows, after an answer: these rows finished and the rest as it was, or all zeros where it refuses
+abbrev pub tableFor : Answer → List ℕ → List ℕ → ℕ → List ℕ
+tableFor a s t count = cond (eqb (a .number) 0) (put t 0 (finished s (draftsFrom t 0 count))) (replicate (length t) 0)
 
 -- after all stages
-unfoldable pub tableAfter : List ℕ → List Draft → ℕ → List ℕ
-tableAfter s ds n = tableFor (answerOf s ds (n / ROW)) s ds n
+unfoldable pub tableAfter : List ℕ → List ℕ → ℕ → List ℕ
+tableAfter s t count = tableFor (answerOf s (draftsFrom t 0 count) (length t / ROW)) s t count
 
 -- of drafts that pass stages 7 to 12
-unfoldable pub tablePast12 : List ℕ → List Draft → ℕ → List ℕ
-tablePast12 s ds n = tableFor (answerPast12 s ds) s ds n
+unfoldable pub tablePast12 : List ℕ → List ℕ → ℕ → List ℕ
+tablePast12 s t count = tableFor (answerPast12 s (draftsFrom t 0 count)) s t count

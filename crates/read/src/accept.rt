@@ -34,7 +34,7 @@ fn refuse(table: &mut [u64], number: u64, place: usize) -> Outcome
     Outcome::Refused(number, place)
 }
 
-// 14, which the settled drafts tell; or the finished rows, and 0 past them.
+// 14, which the settled drafts tell; or the finished rows. What lies past them stays.
 fn accept(
     src: &[u8],
     table: &mut [u64],
@@ -44,7 +44,7 @@ fn accept(
 ) -> Outcome
     requires { ⌜ Ready (now src) (now index) (now used) (now table) count ⌝ }
     ensures { λ r. ⌜ found r ≡ answerPast12 (now (src .entry)) (draftsFrom (now (table .entry)) 0 count) ⌝ }
-    ensures { λ _. ⌜ now (table .exit) ≡ tablePast12 (now (src .entry)) (draftsFrom (now (table .entry)) 0 count) (length (now (table .entry))) ⌝ }
+    ensures { λ _. ⌜ now (table .exit) ≡ tablePast12 (now (src .entry)) (now (table .entry)) count ⌝ }
 {
     settle(src, table, count, index, used);
     let circle = circular_reference(table, count);
@@ -52,7 +52,6 @@ fn accept(
         return refuse(table, CIRCLE, (circle - 1) as usize);
     }
     strip(table, count);
-    rows::clear_past(table, count);
     Outcome::Accepted(count, numbers::LIMIT - 1 - numbers::used_count(used))
 }
 
@@ -60,7 +59,7 @@ fn accept(
 fn finish_with(src: &[u8], table: &mut [u64], count: usize, index: &[u64]) -> Outcome
     requires { ⌜ Drafted (now table) count × Indexes (now src) (draftsFrom (now table) 0 count) (now index) ⌝ }
     ensures { λ r. ⌜ found r ≡ answerOf (now (src .entry)) (draftsFrom (now (table .entry)) 0 count) (length (now (table .entry)) / ROW) ⌝ }
-    ensures { λ _. ⌜ now (table .exit) ≡ tableAfter (now (src .entry)) (draftsFrom (now (table .entry)) 0 count) (length (now (table .entry))) ⌝ }
+    ensures { λ _. ⌜ now (table .exit) ≡ tableAfter (now (src .entry)) (now (table .entry)) count ⌝ }
 {
     let mut used = numbers::empty();
     let fault = first_fault(src, table, count, index, &mut used);
@@ -74,7 +73,7 @@ fn finish_with(src: &[u8], table: &mut [u64], count: usize, index: &[u64]) -> Ou
 fn finish_large(src: &[u8], table: &mut [u64], count: usize) -> Outcome
     requires { ⌜ Drafted (now table) count ⌝ }
     ensures { λ r. ⌜ found r ≡ answerOf (now (src .entry)) (draftsFrom (now (table .entry)) 0 count) (length (now (table .entry)) / ROW) ⌝ }
-    ensures { λ _. ⌜ now (table .exit) ≡ tableAfter (now (src .entry)) (draftsFrom (now (table .entry)) 0 count) (length (now (table .entry))) ⌝ }
+    ensures { λ _. ⌜ now (table .exit) ≡ tableAfter (now (src .entry)) (now (table .entry)) count ⌝ }
 {
     let mut index = [0u64; LARGE];
     names::index_names(src, table, count, &mut index);
@@ -85,7 +84,7 @@ fn finish_large(src: &[u8], table: &mut [u64], count: usize) -> Outcome
 pub fn finish(src: &[u8], table: &mut [u64], count: usize) -> Outcome
     requires { ⌜ Drafted (now table) count ⌝ }
     ensures { λ r. ⌜ found r ≡ answerOf (now (src .entry)) (draftsFrom (now (table .entry)) 0 count) (length (now (table .entry)) / ROW) ⌝ }
-    ensures { λ _. ⌜ now (table .exit) ≡ tableAfter (now (src .entry)) (draftsFrom (now (table .entry)) 0 count) (length (now (table .entry))) ⌝ }
+    ensures { λ _. ⌜ now (table .exit) ≡ tableAfter (now (src .entry)) (now (table .entry)) count ⌝ }
 {
     let mut index = [0u64; SMALL];
     let named = names::index_names(src, table, count, &mut index);

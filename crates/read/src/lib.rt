@@ -11,6 +11,7 @@ ghost use lib.ListN.{length};
 ghost use Rattle.answers.specs.WholeAnswer.{readTable, quickCheck};
 ghost use Rattle.replies.specs.Replies.{readReplied, readReply};
 ghost use Rattle.read.specs.Answers.{found, told};
+ghost use Rattle.read.specs.Over.{readOver};
 
 // What reading answers: rows and free numbers; a refusal's number and place, and that place's line and column (0 and 0 at
 // No. 1, whose place is always 0); or, where fewer whole rows are lent than the source needs, the need (No. 6).
@@ -40,6 +41,9 @@ pub struct Fault {
     pub place: usize,
 }
 
+// The number of a table with fewer whole rows than are needed (document 01, Refusal numbers).
+pub const TOO_FEW_ROWS: u64 = 6;
+
 // What the quick check counts places below.
 const PLACES: u64 = 4294967296;
 
@@ -66,11 +70,32 @@ fn answered(src: &[u8], outcome: Outcome) -> Answer
     }
 }
 
+// Reads a source over the first rows of a table, and leaves what lies past them; where it is refused, the table is all zeros.
+pub fn read_over(src: &[u8], table: &mut [u64]) -> Answer
+    ensures { λ r. ⌜ told r ≡ readReply (now (src .entry)) (length (now (table .entry))) ⌝ }
+    ensures { λ _. ⌜ now (table .exit) ≡ readOver (now (src .entry)) (now (table .entry)) ⌝ }
+{
+    let outcome = read_rows(src, table);
+    answered(src, outcome)
+}
+
 // Reads a source into a table.
 pub fn read(src: &[u8], table: &mut [u64]) -> Answer
     ensures { λ r. ⌜ told r ≡ readReply (now (src .entry)) (length (now (table .entry))) ⌝ }
     ensures { λ _. ⌜ now (table .exit) ≡ readTable (now (src .entry)) (length (now (table .entry))) ⌝ }
 {
-    let outcome = read_rows(src, table);
-    answered(src, outcome)
+    let answer = read_over(src, table);
+    match answer {
+        Answer::Accepted(rows, free) => {
+            rows::clear_past(table, rows);
+            Answer::Accepted(rows, free)
+        }
+        Answer::Refused(number, place, line, column) => Answer::Refused(
+            number,
+            place,
+            line,
+            column,
+        ),
+        Answer::Short(need) => Answer::Short(need),
+    }
 }

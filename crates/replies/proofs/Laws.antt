@@ -29,7 +29,8 @@ has-none n (inr (inl e)) = rw e
 has-none n (inr (inr (inl e))) = rw e
 has-none n (inr (inr (inr (inl e)))) = rw e
 has-none n (inr (inr (inr (inr (inl e))))) = rw e
-has-none n (inr (inr (inr (inr (inr e))))) = rw e
+has-none n (inr (inr (inr (inr (inr (inl e)))))) = rw e
+has-none n (inr (inr (inr (inr (inr (inr e)))))) = rw e
 
 has-place : (n : ℕ) → (Unplaced n → ⊥) → hasPlace n ≡ true
 has-place n h =
@@ -39,7 +40,8 @@ has-place n h =
       ne-eqb n 6 (λ e. h (inr (inr (inl e)))),
       ne-eqb n 13 (λ e. h (inr (inr (inr (inl e))))),
       ne-eqb n 15 (λ e. h (inr (inr (inr (inr (inl e)))))),
-      ne-eqb n 30 (λ e. h (inr (inr (inr (inr (inr e)))))),
+      ne-eqb n 17 (λ e. h (inr (inr (inr (inr (inr (inl e))))))),
+      ne-eqb n 30 (λ e. h (inr (inr (inr (inr (inr (inr e))))))),
     )
 
 pub gives-line : (s : List ℕ) (number place rows free written : ℕ) → GivesLine s (replied s number place rows free written)

@@ -1,4 +1,4 @@
--- What a call answers in full: document 01's number, place and counts, and the line and column beside the place (document 02, W-201, W-202).
+-- What a call answers in full: document 01's number, place and counts, and the line and column beside the place (document 02, W-201, W-202, W-206).
 -- Assumes nothing.
 use Prim.Native.Nat.{ℕ}
 use mathlib.Core.Bool.{Bool, cond, not, _||_}
@@ -20,10 +20,10 @@ pub record Reply : Type 0 where
   pub column : ℕ
   pub written : ℕ
 
--- "an accepting answer, and a place that is always 0 or not in a source" have no place in the source: 0; 1, 6, 13 and 30; and 15, whose place is an
--- answer (W-202)
+-- "an accepting answer, and a place that is always 0 or not in a source" have no place in the source: 0; 1, 6, 13 and 30; 15, whose place is an
+-- answer (W-202); and 17, "place 0" (W-206)
 abbrev pub hasPlace : ℕ → Bool
-hasPlace number = not (eqb number 0 || eqb number 1 || eqb number 6 || eqb number 13 || eqb number 15 || eqb number 30)
+hasPlace number = not (eqb number 0 || eqb number 1 || eqb number 6 || eqb number 13 || eqb number 15 || eqb number 17 || eqb number 30)
 
 -- "Every refusal with a place gives both beside it, at the end of the source too"; the others "give line 0, column 0"
 unfoldable pub positionOf : List ℕ → ℕ → ℕ → Position

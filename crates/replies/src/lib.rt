@@ -1,9 +1,9 @@
-// Line and column of an answer (document 02, W-201, W-202).
+// Line and column of an answer (document 02, W-201, W-202, W-206).
 use positions::Position;
 ghost use mathlib.Core.Path.{_≡_};
 ghost use Rattle.replies.specs.Replies.{hasPlace, positionOf};
 
-// Whether an answer with this number has a place in the source: not one that accepts, nor 1, 6, 13, 15 and 30.
+// Whether an answer with this number has a place in the source: not one that accepts, nor 1, 6, 13, 15, 17 and 30.
 fn has_place(number: u64) -> bool
     ensures { λ r. ⌜ r ≡ hasPlace number ⌝ }
 {
@@ -12,6 +12,7 @@ fn has_place(number: u64) -> bool
         | (number == 6)
         | (number == 13)
         | (number == 15)
+        | (number == 17)
         | (number == 30))
 }
 

@@ -1,7 +1,6 @@
 -- What showing answers, and what the table and the output hold, after each answer of reading.
 -- Assumes nothing.
-use Prim.Native.Nat.{ℕ, _-_, _*_, _<_}
-use native.Mathlib.Omega.{arith}
+use Prim.Native.Nat.{ℕ, _-_, _*_}
 use mathlib.Core.Path.{_≡_, refl, sym, ap, _∙_}
 use mathlib.Core.Logic.{_≢_}
 use mathlib.Core.Bool.{Bool, false}
@@ -22,10 +21,9 @@ use Rattle.answers.proofs.Answers.{passes-sound, passes-derived, passes-rows}
 use Rattle.answers.proofs.Demand3.{accepts-passing}
 use Rattle.replies.specs.Replies.{Reply, positionOf, accepting, readReplied, readReply}
 use Rattle.replies.proofs.Laws.{accepting-only}
+use Rattle.read.proofs.AcceptedRows.{no-rows-refused, short-refused}
 use Rattle.saved_answers.specs.Good.{goodAnswers}
 use Rattle.saved_answers.proofs.GoodTheorems.{all-ascend}
-use Rattle.screen.specs.Screen.{sourceScreen}
-use Rattle.screen.specs.Bytes.{bytes}
 use Rattle.question_kinds.proofs.Marks.{kinds-held}
 use Rattle.table_screen.specs.Questions.{mapRead}
 use Rattle.table_screen.specs.SourceScreen.{borne, screenBytes}
@@ -92,11 +90,6 @@ module _ (s answers : List ℕ) (n : ℕ) (accepted : readAnswer s n .number ≡
   bytes-same all =
       source-screen s n accepted tree (passes-sound passes) answers (all-ascend (used (mapRead s n isQuestion)) answers all) ∙ sym bytes-are
 
-  -- it has a row: the form set's
-  pub some-row : 0 < count
-  unfolding shownBytes screenBytes sourceScreen bytes
-  some-row = omega (arith, bytes-count s n accepted tree (passes-sound passes) answers)
-
 module _ (s answers : List ℕ) (n : ℕ) {count free : ℕ} (e : accepts count free ≡ readAnswer s n) (m : ℕ) where
   accepted : readAnswer s n .number ≡ 0
   accepted = ap (λ (a : Answer). a .number) (sym e)
@@ -162,8 +155,7 @@ module _ (s answers : List ℕ) (n : ℕ) (o : List ℕ) {t o′ : List ℕ} {r 
 
   -- a refusal has no rows, as no accepted source has
   pub unshown-refused : r .rows ≡ 0 → Shows s answers n (length o) r t o′
-  unshown-refused none =
-      unshown (λ z. let rows : readAnswer s n .rows ≡ 0 = sym (ap (λ (x : Reply). x .rows) e) ∙ none in absurd (omega (arith, some-row s answers n z)))
+  unshown-refused none = unshown (no-rows-refused s n e none)
 
   pub unshown-short : r .number ≡ 6 → Shows s answers n (length o) r t o′
-  unshown-short six = unshown (λ z. let never : 6 ≡ 0 = sym six ∙ ap (λ (x : Reply). x .number) e ∙ z in omega arith)
+  unshown-short six = unshown (short-refused s n e six)

@@ -3,7 +3,6 @@
 use Prim.Native.Nat.{ℕ, _+_, _*_, _^_, _≤_, _<_}
 use native.Mathlib.Omega.{arith}
 use mathlib.Core.Path.{_≡_, sym, ap, _∙_}
-use mathlib.Core.Logic.{_≢_}
 use mathlib.Core.List.{List, [], _∷_, _++_}
 use lib.ListN.{length, getD}
 use Rattle.lexemes.proofs.Lists.{either-less}
@@ -12,7 +11,7 @@ use Rattle.rows.specs.Columns as column
 use Rattle.rows.specs.Table.{wholeRows, cellAt}
 use Rattle.rows.specs.Rows.{laid}
 use Rattle.rows.proofs.CellLaws.{cell-inside, cell-outside, cell-past}
-use Rattle.ll1.specs.Trees.{Trees, nonterminal, Fits, fits-nil, fits-node}
+use Rattle.ll1.specs.Trees.{Trees, nonterminal, Fits}
 use Rattle.grammar.specs.Rules.{<source>}
 use Rattle.grammar.specs.Grammar.{rules}
 use Rattle.grammar.specs.Parts.{child, placeAt}
@@ -118,15 +117,3 @@ accepted-text s n count free t e f small =
     let is : textOfSource s ≡ resolvedText tree (finished s (drafts s tree)) = passes-text passes in
     let few = rows-few s tree (g .derives) in
     (moved table many is (whole-text .0), omega (arith, ap length is, whole-text .1, few, g .short))
-
--- ---- a refusal has a number: an accepted source has a row
-
-some-row : (s : List ℕ) {tree : Trees} → Fits rules (nonterminal 0 ∷ []) tree → 1 ≤ length (drafts s tree)
-unfolding drafts
-some-row s (fits-node e r₁ fits-nil) = omega arith
-
-pub refused-some : (s : List ℕ) (n : ℕ) → readAnswer s n .rows ≡ 0 → readAnswer s n .number ≢ 0
-refused-some s n none z =
-    let found = accepts-passing s n .0 z in
-    let many : readAnswer s n .rows ≡ length (drafts s (found .0)) = ap (λ (a : Answer). a .rows) (accepted-answer s n (found .0) (found .1)) in
-    omega (arith, some-row s (passes-grammatical (found .1) .derives .fits))

@@ -1,7 +1,6 @@
 -- What resolving answers, and what the table and the output hold, after each answer of reading.
 -- Assumes nothing.
 use Prim.Native.Nat.{ℕ, _-_, _^_, _<_}
-use native.Mathlib.Omega.{arith}
 use mathlib.Core.Path.{_≡_, sym, ap, _∙_}
 use mathlib.Core.Logic.{_≢_}
 use mathlib.Core.Bool.{true, false, cond}
@@ -17,9 +16,10 @@ use Rattle.answers.specs.WholeAnswer.{readAnswer, readTable, rowsOf}
 use Rattle.answers.specs.Resolution.{Resolution, textOfSource, resolvedInto, resolution, resolvedTable, resolvedOutput}
 use Rattle.replies.specs.Replies.{Reply, accepting, readReply, resolveReplied, resolveReply}
 use Rattle.replies.proofs.Laws.{accepting-only}
+use Rattle.read.proofs.AcceptedRows.{no-rows-refused, short-refused}
 use Rattle.text.specs.declared.Answer as text
 use Rattle.text.specs.Answers.{told, RowsPrinted}
-use Rattle.text.proofs.AcceptedText.{accepted-text, refused-some}
+use Rattle.text.proofs.AcceptedText.{accepted-text}
 
 -- the answer, the table and the output
 abbrev pub Resolves : List ℕ → ℕ → ℕ → Reply → List ℕ → List ℕ → Type 0
@@ -86,10 +86,10 @@ unresolved s n o e h f g =
 pub unresolved-refused :
     (s : List ℕ) (n : ℕ) (o : List ℕ) {t o′ : List ℕ} {r : Reply}
     → r ≡ readReply s n → r .rows ≡ 0 → t ≡ readTable s n → o′ ≡ cleared o 0 → Resolves s n (length o) r t o′
-unresolved-refused s n o e none f g = unresolved s n o e (refused-some s n (sym (ap (λ (x : Reply). x .rows) e) ∙ none)) f g
+unresolved-refused s n o e none f g = unresolved s n o e (no-rows-refused s n e none) f g
 
 pub unresolved-short :
     (s : List ℕ) (n : ℕ) (o : List ℕ) {t o′ : List ℕ} {r : Reply}
     → r ≡ readReply s n → r .number ≡ 6 → t ≡ readTable s n → o′ ≡ cleared o 0 → Resolves s n (length o) r t o′
 unresolved-short s n o e six f g =
-    unresolved s n o e (λ z. let never : 6 ≡ 0 = sym six ∙ ap (λ (x : Reply). x .number) e ∙ z in omega arith) f g
+    unresolved s n o e (short-refused s n e six) f g

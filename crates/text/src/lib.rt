@@ -15,7 +15,7 @@ const LONGEST: usize = 65536;
 
 // The number of a table with fewer whole rows than are needed, and that of an output or a longest text that is shorter
 // than the text (document 01, Refusal numbers).
-pub const TOO_FEW_ROWS: u64 = 6;
+pub const TOO_FEW_ROWS: u64 = read::TOO_FEW_ROWS;
 
 pub const TOO_LONG: u64 = 13;
 

@@ -34,18 +34,15 @@ returns c =
 strip-requires : tie.Need-strip-requires
 strip-requires c κs = search needs
 
-clear-past-requires : tie.Need-clear-past-requires
-clear-past-requires c κs = search needs
-
-sub-t22 : tie.Need-sub-t22
-sub-t22 c = search needs
+sub-t20 : tie.Need-sub-t20
+sub-t20 c = search needs
 
 used-count-requires : tie.Need-used-count-requires
 used-count-requires c κs = search needs
 
-sub-t25 : tie.Need-sub-t25
-sub-t25 c =
-    let start = c .before .before .before .before .before .before .before .before .before .before .before .before .before .before .before in
+sub-t23 : tie.Need-sub-t23
+sub-t23 c =
+    let start = c .before .before .before .before .before .before .before .before .before .before .before in
     used-few (start .before .before .before .before .before .before .pre) (start .settle .ensures .1) (c .used-count .ensures)
 
 same-length-2 : tie.Need-same-length-2
@@ -53,14 +50,14 @@ same-length-2 c = search needs
 
 returns-2 : tie.Need-returns-2
 returns-2 c =
-    let start = c .before .before .before .before .before .before .before .before .before .before .before .before .before .before .before in
+    let start = c .before .before .before .before .before .before .before .before .before .before .before in
     let pre = start .before .before .before .before .before .before .pre in
     let settled = start .settle .ensures in
-    let circle = c .before .before .before .before .before .before .before .before .before .before .before .circular-reference .ensures in
-    let free = c .before .before .before .before .before .before .before .before .before .before .if1 .left in
-    let strip = c .before .before .before .before .before .before .before .before .strip .ensures in (
+    let circle = c .before .before .before .before .before .before .before .circular-reference .ensures in
+    let free = c .before .before .before .before .before .before .if1 .left in
+    let strip = c .before .before .before .before .strip .ensures in (
       free-accepted pre (settled .0) circle free (settled .1) (c .used-count .ensures),
-      table-accepted pre (settled .0) circle free strip (c .before .before .before .before .clear-past .ensures),
+      table-accepted pre (settled .0) circle free strip,
     )
 
 pub accept-spec : {M : Type 1} → statement M
@@ -74,9 +71,8 @@ accept-spec =
     same-length
     returns
     strip-requires
-    clear-past-requires
-    sub-t22
+    sub-t20
     used-count-requires
-    sub-t25
+    sub-t23
     same-length-2
     returns-2)

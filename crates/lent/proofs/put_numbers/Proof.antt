@@ -1,13 +1,13 @@
--- `face::put_numbers` meets its contract. The loop keeps that the numbers before k are written.
+-- `lent::put_numbers` meets its contract. The loop keeps that the numbers before k are written.
 -- Assumes nothing.
 use mathlib.Core.Path.{_≡_, refl, _∙_}
 use Prim.Native.Nat.{_-_}
 use native.Mathlib.Omega.{arith}
 use lib.ListN.{length, length-set}
 use borrow.Author.Needs.{needs}
-use Rattle.face.proofs.LentLaws.{Written, written-next, written-all}
-use Rattle.face.proofs.put_numbers.Statement.{statement}
-use Rattle.face.proofs.put_numbers.Tie as tie
+use Rattle.lent.proofs.LentLaws.{Written, written-next, written-all}
+use Rattle.lent.proofs.put_numbers.Statement.{statement}
+use Rattle.lent.proofs.put_numbers.Tie as tie
 
 abbrev Inv-loop : tie.InvT-loop
 Inv-loop out₀ numbers k₀ k-end out k = (length out ≡ length out₀) × Written out numbers k

@@ -1,9 +1,9 @@
--- `face::put_answer` meets its contract, case by case.
+-- `lent::put_answer` meets its contract, case by case.
 -- Assumes nothing.
 use mathlib.Core.Path.{_∙_}
 use borrow.Author.Needs.{needs}
-use Rattle.face.proofs.put_answer.Statement.{statement}
-use Rattle.face.proofs.put_answer.Tie as tie
+use Rattle.lent.proofs.put_answer.Statement.{statement}
+use Rattle.lent.proofs.put_answer.Tie as tie
 
 enum-known-answer : tie.Need-enum-known-answer
 enum-known-answer c = search needs

@@ -9,7 +9,7 @@ use native.Mathlib.Omega.{arith}
 use lib.ListN.{length, getD, set, replicate, length-append, length-take, length-replicate}
 use lib.Seq.{ext-getD, getD-take, getD-set-same, getD-set-other}
 use Rattle.rows.proofs.CellLaws.{getD-padded}
-use Rattle.face.specs.Numbers.{inLent}
+use Rattle.lent.specs.Numbers.{inLent}
 
 -- the first k numbers of t are those of l, with zeros behind
 abbrev pub Written : List ℕ → List ℕ → ℕ → Type 0

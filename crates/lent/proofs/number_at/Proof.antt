@@ -1,10 +1,10 @@
--- `face::number_at` meets its contract: past the end stands 0.
+-- `lent::number_at` meets its contract: past the end stands 0.
 -- Assumes nothing.
 use mathlib.Core.Path.{sym}
 use lib.ListN.{List·getD-eq-default}
 use borrow.Author.Needs.{needs}
-use Rattle.face.proofs.number_at.Statement.{statement}
-use Rattle.face.proofs.number_at.Tie as tie
+use Rattle.lent.proofs.number_at.Statement.{statement}
+use Rattle.lent.proofs.number_at.Tie as tie
 
 mul-result : tie.Need-mul-result
 mul-result c = search needs

@@ -1,15 +1,13 @@
 -- The sources of a family one by one: where the rows and the words of each stand, and that both are those of reading it alone.
 -- Assumes nothing.
-use Prim.Native.Nat.{ℕ, zero, suc, _+_, _-_, _*_, _/_, _≤_, _<_}
+use Prim.Native.Nat.{ℕ, zero, suc, _+_, _-_, _*_, _≤_, _<_}
 use native.Mathlib.Nat.{sub-zero}
 use native.Mathlib.Numerals.{add-one}
 use native.Mathlib.Omega.{arith}
 use mathlib.Core.Path.{_≡_, refl, sym, ap, _∙_}
-use mathlib.Core.Bool.{cond}
 use mathlib.Core.List.{List, [], _∷_, _++_, append-nil, append-assoc}
-use lib.Dec.{eqb}
 use lib.ListN.{length, getD, take, drop, length-append, List·getD-append}
-use lib.Seq.{slice, take-append-add, drop-at, getD-append-add, getD-take, getD-drop}
+use lib.Seq.{take-append-add, drop-at, getD-append-add, getD-take, getD-drop}
 use Rattle.lexemes.proofs.Lists.{from-end, from-next}
 use Rattle.rows.specs.Columns.{ROW}
 use Rattle.rows.specs.Table.{rowAt}
@@ -52,7 +50,7 @@ module _ (whole : ℕ) (ss : List (List ℕ)) (m : ℕ) where
   abbrev all : List Member
   all = members whole ss
 
-  abbrev words : List ℕ
+  abbrev pub words : List ℕ
   words = padded (allWords all) m
 
   -- after i of them

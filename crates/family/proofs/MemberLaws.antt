@@ -9,7 +9,6 @@ use lib.Seq.{slice}
 use Rattle.rows.specs.Rows.{AreRows, no-rows}
 use Rattle.rows.proofs.FlatLaws.{are-rows-append}
 use Rattle.family.specs.Family.{WORDS, Member, sourcesFrom, rowsWith, members, allRows, allWords, sixWords}
-use Rattle.family.specs.Each.{startAt}
 use Rattle.family.proofs.NextLaws.{are-rows}
 
 pub all-rows-append : (ms ns : List Member) → allRows (ms ++ ns) ≡ allRows ms ++ allRows ns
@@ -26,6 +25,12 @@ pub length-all-words : (ms : List Member) → length (allWords ms) ≡ length ms
 unfolding allWords
 length-all-words [] = refl
 length-all-words (m ∷ ms) = omega (arith, length-all-words ms)
+
+-- one for each source
+pub length-members : (left : ℕ) (ss : List (List ℕ)) → length (members left ss) ≡ length ss
+unfolding members
+length-members left [] = refl
+length-members left (s ∷ ss) = ap suc (length-members (left - length (rowsWith s left)) ss)
 
 -- the rows of all are rows
 pub members-rows : (left : ℕ) (ss : List (List ℕ)) → AreRows (allRows (members left ss))

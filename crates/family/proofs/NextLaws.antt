@@ -18,8 +18,8 @@ use Rattle.rows.proofs.RunLaws.{are-rows-from, length-rows-from, put-fits}
 use Rattle.rows.proofs.LaidLaws.{laid-none}
 use Rattle.answers.specs.Rows.{Draft}
 use Rattle.answers.specs.Answer.{Answer, answerOf, drafts}
-use Rattle.answers.specs.WholeAnswer.{Checked, refusal, derived, checked, readAnswer, rowsOf}
-use Rattle.answers.proofs.Demand3.{rows-few}
+use Rattle.answers.specs.WholeAnswer.{Checked, refusal, derived, checked, readAnswer, rowsOf, readTable}
+use Rattle.answers.proofs.Demand3.{rows-few, table-rows}
 use Rattle.replies.specs.Replies.{Reply, readReplied, readReply}
 use Rattle.read.specs.Over.{readOver}
 use Rattle.read.proofs.AcceptedRows.{derived-derives, accepted-rows}
@@ -49,6 +49,15 @@ module _ (s : List ℕ) (left : ℕ) {k : ℕ} (smaller : k ≡ min (length s) l
 
   pub enough : readAnswer s (k * ROW) ≡ readAnswer s (left * ROW)
   enough = enough-for (checked s) refl
+
+-- nor do numbers of no whole row
+answer-for : (s : List ℕ) (c : Checked) → checked s ≡ c → (n left : ℕ) → n / ROW ≡ left → readAnswer s n ≡ readAnswer s (left * ROW)
+unfolding readAnswer
+answer-for s (refusal k p) e n left h = rw (e, readAnswer)
+answer-for s (derived tree) e n left h = let all : left * ROW / ROW ≡ left = omega arith in rw (e, readAnswer, all, h)
+
+pub answer-by-rows : (s : List ℕ) (n left : ℕ) → n / ROW ≡ left → readAnswer s n ≡ readAnswer s (left * ROW)
+answer-by-rows s = answer-for s (checked s) refl
 
 -- ---- the rows of a source that is accepted, and none of a refused one
 
@@ -89,6 +98,16 @@ module _ (s : List ℕ) (left : ℕ) where
       by-answer (λ rs. rowsTaken (readReply s (left * ROW)) ≡ length rs)
       (λ e. rw (eq-eqb (answer .number) 0 e) (accepted-rows s (left * ROW) e .counted))
       (λ h. rw (ne-eqb (answer .number) 0 h))
+
+  -- they stand in the table that reading leaves, with as many whole rows
+  pub table-by-rows : (n : ℕ) → n / ROW ≡ left → rowsFrom (readTable s n) 0 (length (rowsWith s left)) ≡ rowsWith s left
+  unfolding rowsFrom
+  table-by-rows n h =
+      by-answer (λ rs. rowsFrom (readTable s n) 0 (length rs) ≡ rs)
+      (λ e.
+      let accepted : readAnswer s n .number ≡ 0 = rw (answer-by-rows s n left h) e in
+      rw (← accepted-rows s n accepted .counted) (table-rows s n accepted))
+      (λ no-rows-left. refl)
 
   -- read over so many zeros as there are in k rows
   pub over-zeros :

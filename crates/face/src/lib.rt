@@ -52,8 +52,8 @@ pub extern "C" fn vfr_read_family(
         (replyNumbers (familyReply (now (buffer .entry)) (now (ends .entry)) (length (now (table .entry))) (length (now (answers .entry)))))
         ⌝ }
 {
-    let a = family::read_family(buffer, ends, table, answers);
-    put_answer(answer, a);
+    let whole = family::read_family(buffer, ends, table, answers);
+    put_answer(answer, whole);
 }
 
 // The numbers of resolving's answer.

@@ -45,7 +45,10 @@ pub extern "C" fn vfr_read_family(
     answer: &mut [u64],
 )
     ensures { λ _. ⌜ now (table .exit) ≡ familyTable (now (buffer .entry)) (now (ends .entry)) (length (now (table .entry))) (length (now (answers .entry))) ⌝ }
-    ensures { λ _. ⌜ now (answers .exit) ≡ familyAnswers (now (buffer .entry)) (now (ends .entry)) (length (now (table .entry))) (length (now (answers .entry))) ⌝ }
+    ensures { λ _. ⌜
+        now (answers .exit)
+        ≡ familyAnswers (now (buffer .entry)) (now (ends .entry)) (length (now (table .entry))) (length (now (answers .entry)))
+        ⌝ }
     ensures { λ _. ⌜
         now (answer .exit)
         ≡ inLent (length (now (answer .entry)))

@@ -8,7 +8,7 @@ use lib.ListN.{length}
 use Rattle.rows.specs.Table.{cleared}
 use Rattle.rows.proofs.ClearLaws.{length-cleared, cleared-whole}
 use Rattle.replies.specs.Replies.{Reply, accepting}
-use Rattle.family.specs.Family.{isBad, readings, familyReply, familyTable, familyAnswers}
+use Rattle.family.specs.Family.{isBad, notRead, readings, familyReply, familyTable, familyAnswers}
 use Rattle.family.specs.Steps.{Blank, Written}
 use Rattle.family.proofs.BadLaws.{good-ends, enough-answers}
 use Rattle.family.proofs.PaddedLaws.{zeros}
@@ -36,9 +36,7 @@ module _ (buffer ends t a : List ℕ) {u b : List ℕ} (clear-table : u ≡ clea
   bad-is = ap (isBad buffer ends) (sym answers-long) ∙ sym told
 
   -- 17
-  pub not-read :
-      bad ≡ true
-      → ReadsFamily buffer ends (length t) (length a) (record { number = 17; place = 0; rows = 0; free = 0; line = 0; column = 0; written = 0 }) u b
+  pub not-read : bad ≡ true → ReadsFamily buffer ends (length t) (length a) notRead u b
   unfolding familyReply familyTable familyAnswers
   not-read e = let is = bad-is ∙ e in (rw is, (zero-table ∙ rw is, zero-answers ∙ rw is))
 

@@ -33,7 +33,7 @@ use Rattle.replies.proofs.Laws.{gives-line}
 use Rattle.read.specs.declared.Answer.{Answer}
 use Rattle.read.specs.Answers.{told}
 use Rattle.read.proofs.Demands.{Reading}
-use Rattle.family.specs.Family.{WORDS, sourcesOf, rowsWith, allRows, allWords, sixWords, rowsTaken, members, isBad}
+use Rattle.family.specs.Family.{WORDS, sourcesOf, rowsWith, allRows, allWords, sixWords, rowsTaken, members, isBad, notRead}
 use Rattle.family.specs.Family.{readings, familyReply, familyTable, familyAnswers}
 use Rattle.family.specs.Bad.{Bad}
 use Rattle.family.specs.Each.{sourceAt, wordAt, wordsAt, takenBefore}
@@ -72,7 +72,7 @@ module _ {buffer ends : List ℕ} {n m : ℕ} {r : Answer} {t′ a′ : List ℕ
   abbrev bad : Bool
   bad = isBad buffer ends m
 
-  reply-bad : bad ≡ true → told r ≡ record { number = 17; place = 0; rows = 0; free = 0; line = 0; column = 0; written = 0 }
+  reply-bad : bad ≡ true → told r ≡ notRead
   unfolding familyReply
   reply-bad e = v .answer ∙ rw e
 
@@ -99,7 +99,7 @@ module _ {buffer ends : List ℕ} {n m : ℕ} {r : Answer} {t′ a′ : List ℕ
       )
 
   -- "17 .., place 0"
-  pub refused-17 : told r .number ≢ 0 → told r ≡ record { number = 17; place = 0; rows = 0; free = 0; line = 0; column = 0; written = 0 }
+  pub refused-17 : told r .number ≢ 0 → told r ≡ notRead
   refused-17 h = reply-bad (is-bad h)
 
   -- "every lent answer and row zero": demand 1
@@ -142,9 +142,10 @@ module _ {buffer ends : List ℕ} {n m : ℕ} {r : Answer} {t′ a′ : List ℕ
     pub counts-all : told r ≡ accepting (takenBefore a′ (length ends)) 0 0
     unfolding readings
     counts-all =
-        reply-good good
-        ∙ ap (λ (k : ℕ). accepting k 0 0)
-        (sym (Each.taken-all whole sources m) ∙ ap (takenBefore (Each.words whole sources m)) as-many ∙ ap (λ (a : List ℕ). takenBefore a (length ends)) (sym answers-are))
+        let words = Each.words whole sources m in
+        let all : length (allRows (members whole sources)) ≡ takenBefore words (length ends) =
+        sym (Each.taken-all whole sources m) ∙ ap (takenBefore words) as-many in
+        reply-good good ∙ ap (λ (k : ℕ). accepting k 0 0) (all ∙ ap (λ (a : List ℕ). takenBefore a (length ends)) (sym answers-are))
 
     -- "lent results past what is written are 0" (W-202)
     pub zeros-past-rows : drop (told r .rows * ROW) t′ ≡ replicate (n - told r .rows * ROW) 0
@@ -158,7 +159,8 @@ module _ {buffer ends : List ℕ} {n m : ℕ} {r : Answer} {t′ a′ : List ℕ
     pub zeros-past-answers : drop (length ends * WORDS) a′ ≡ replicate (m - length ends * WORDS) 0
     zeros-past-answers =
         let all = allWords (members whole sources) in
-        let size : length all ≡ length ends * WORDS = length-all-words (members whole sources) ∙ ap (λ (k : ℕ). k * WORDS) (length-members whole sources ∙ as-many) in
+        let count : length (members whole sources) ≡ length ends = length-members whole sources ∙ as-many in
+        let size : length all ≡ length ends * WORDS = length-all-words (members whole sources) ∙ ap (λ (k : ℕ). k * WORDS) count in
         rw (answers-are, ← size) (drop-at all (replicate (m - length all) 0) (length all) refl)
 
     -- ---- "Every answer and all its rows equal those of reading that source alone, places, lines and parents counted from its own start, with the rows

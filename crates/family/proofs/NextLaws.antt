@@ -164,7 +164,13 @@ module _ (s : List ℕ) {t : List ℕ} {rows : ℕ} (f : Free t rows) {k : ℕ} 
   pub next-reply : {r : Reply} → r ≡ readReply s (length lent) → r ≡ readReply s (left * ROW)
   next-reply e = e ∙ ap (readReply s) lent-size ∙ ap (readReplied s) (enough s left smaller)
 
-  pub next-table : {u : List ℕ} → u ≡ readOver s lent → putMid (rows * ROW) (rows * ROW + k * ROW - rows * ROW) t u ≡ laid (before ++ rowsWith s left) (length t)
+  -- how many rows it takes
+  pub next-count : {r : Reply} → r ≡ readReply s (length lent) → {n : ℕ} → n ≡ rowsTaken r → n ≡ length (rowsWith s left)
+  next-count e f = f ∙ ap rowsTaken (next-reply e) ∙ rows-taken s left
+
+  pub next-table :
+      {u : List ℕ} → u ≡ readOver s lent
+      → putMid (rows * ROW) (rows * ROW + k * ROW - rows * ROW) t u ≡ laid (before ++ rowsWith s left) (length t)
   unfolding laid
   next-table {u} e =
       let rs = rowsWith s left in

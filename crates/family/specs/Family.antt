@@ -89,14 +89,15 @@ isBad buffer ends m =
 unfoldable pub readings : List ℕ → List ℕ → ℕ → List Member
 readings buffer ends n = members (n / ROW) (sourcesOf buffer ends)
 
+-- 17, "place 0", which has no line and column (W-201)
+abbrev pub notRead : Reply
+notRead = record { number = 17; place = 0; rows = 0; free = 0; line = 0; column = 0; written = 0 }
+
 -- with m words lent for answers
 module _ (buffer ends : List ℕ) (n m : ℕ) where
-  -- "An accepted call's own row count is all rows written, its free count 0"; 17 has "place 0"
+  -- "An accepted call's own row count is all rows written, its free count 0"
   unfoldable pub familyReply : Reply
-  familyReply =
-      cond (isBad buffer ends m)
-      (record { number = 17; place = 0; rows = 0; free = 0; line = 0; column = 0; written = 0 })
-      (accepting (length (allRows (readings buffer ends n))) 0 0)
+  familyReply = cond (isBad buffer ends m) notRead (accepting (length (allRows (readings buffer ends n))) 0 0)
 
   -- the table afterwards: all rows and then zeros, or "every lent answer and row zero"
   unfoldable pub familyTable : List ℕ

@@ -89,8 +89,16 @@ fn put_taken(out: &mut [u64], answer: Answer) -> usize
 fn read_next(src: &[u8], table: &mut [u64], rows: usize, out: &mut [u64]) -> usize
     requires { ⌜ Free (now table) rows ⌝ }
     ensures { λ r. ⌜ r ≡ rows + length (rowsWith (now (src .entry)) (wholeRows (now (table .entry)) - rows)) ⌝ }
-    ensures { λ _. ⌜ now (table .exit) ≡ laid (rowsFrom (now (table .entry)) 0 rows ++ rowsWith (now (src .entry)) (wholeRows (now (table .entry)) - rows)) (length (now (table .entry))) ⌝ }
-    ensures { λ _. ⌜ now (out .exit) ≡ inLent (length (now (out .entry))) (replyNumbers (readReply (now (src .entry)) ((wholeRows (now (table .entry)) - rows) * ROW))) ⌝ }
+    ensures { λ _. ⌜
+        now (table .exit)
+        ≡ laid
+        (rowsFrom (now (table .entry)) 0 rows ++ rowsWith (now (src .entry)) (wholeRows (now (table .entry)) - rows))
+        (length (now (table .entry)))
+        ⌝ }
+    ensures { λ _. ⌜
+        now (out .exit)
+        ≡ inLent (length (now (out .entry))) (replyNumbers (readReply (now (src .entry)) ((wholeRows (now (table .entry)) - rows) * ROW)))
+        ⌝ }
 {
     let from = rows * ROW;
     let to = from + smaller(src.len(), whole_rows(table) - rows) * ROW;
@@ -101,7 +109,10 @@ fn read_next(src: &[u8], table: &mut [u64], rows: usize, out: &mut [u64]) -> usi
 // Reads source after source, each with the rows that are left: how many rows there then are.
 fn read_all(buffer: &[u8], ends: &[u64], table: &mut [u64], answers: &mut [u64]) -> usize
     requires { ⌜ Blank (now buffer) (now ends) (now table) (now answers) ⌝ }
-    ensures { λ r. ⌜ Written (readings (now (buffer .entry)) (now (ends .entry)) (length (now (table .entry)))) (length (now (table .entry))) (length (now (answers .entry))) r (now (table .exit)) (now (answers .exit)) ⌝ }
+    ensures { λ r. ⌜
+        Written (readings (now (buffer .entry)) (now (ends .entry)) (length (now (table .entry))))
+        (length (now (table .entry))) (length (now (answers .entry))) r (now (table .exit)) (now (answers .exit))
+        ⌝ }
 {
     let mut start = 0;
     let mut rows = 0;
@@ -119,7 +130,10 @@ fn read_all(buffer: &[u8], ends: &[u64], table: &mut [u64], answers: &mut [u64])
 pub fn read_family(buffer: &[u8], ends: &[u64], table: &mut [u64], answers: &mut [u64]) -> Answer
     ensures { λ r. ⌜ told r ≡ familyReply (now (buffer .entry)) (now (ends .entry)) (length (now (table .entry))) (length (now (answers .entry))) ⌝ }
     ensures { λ _. ⌜ now (table .exit) ≡ familyTable (now (buffer .entry)) (now (ends .entry)) (length (now (table .entry))) (length (now (answers .entry))) ⌝ }
-    ensures { λ _. ⌜ now (answers .exit) ≡ familyAnswers (now (buffer .entry)) (now (ends .entry)) (length (now (table .entry))) (length (now (answers .entry))) ⌝ }
+    ensures { λ _. ⌜
+        now (answers .exit)
+        ≡ familyAnswers (now (buffer .entry)) (now (ends .entry)) (length (now (table .entry))) (length (now (answers .entry)))
+        ⌝ }
 {
     rows::clear(table, 0);
     rows::clear(answers, 0);

@@ -49,7 +49,9 @@ part-read-next-start-2 : tie.Need-part-read-next-start-2 Inv-loop μ-loop
 part-read-next-start-2 c = search needs
 
 part-read-next-end-2 : tie.Need-part-read-next-end-2 Inv-loop μ-loop
-part-read-next-end-2 c = omega (arith, same-answers (c .before .before .before .before .loop .inv), c .before .before .before .before .before .before .before .before .before .pre .enough)
+part-read-next-end-2 c =
+    let loop = c .before .before .before .before .loop in
+    omega (arith, same-answers (loop .inv), c .before .before .before .before .before .before .before .before .before .pre .enough)
 
 read-next-requires : tie.Need-read-next-requires Inv-loop μ-loop
 read-next-requires c κs = free (c .before .before .before .before .before .loop .inv)
@@ -63,7 +65,9 @@ loop-less c = search needs
 loop-again : tie.Need-loop-again Inv-loop μ-loop
 loop-again c =
     let read = c .before .before .before .before .read-next .ensures in
-    so-far-next (c .before .before .before .before .before .before .before .before .before .before .loop .inv) (search needs) (c .before .before .before .before .before .before .before .before .before .before .before .before .before .before .before .pre .enough) (read .0) (read .1 .0) (read .1 .1)
+    let loop = c .before .before .before .before .before .before .before .before .before .before .loop in
+    let pre = c .before .before .before .before .before .before .before .before .before .before .before .before .before .before .before .pre in
+    so-far-next (loop .inv) (search needs) (pre .enough) (read .0) (read .1 .0) (read .1 .1)
 
 same-length : tie.Need-same-length Inv-loop μ-loop
 same-length c = same-table (c .before .loop .inv)

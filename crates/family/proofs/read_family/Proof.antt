@@ -21,10 +21,20 @@ same-length-2 : tie.Need-same-length-2
 same-length-2 c = search needs
 
 returns : tie.Need-returns
-returns c = not-read _ _ _ _ (c .before .before .before .before .before .before .before .before .before .clear .ensures) (c .before .before .before .before .before .clear2 .ensures) (c .before .is-bad .ensures) (c .if1 .taken)
+returns c =
+    let test = c .before in
+    let table = test .before .before .before .before .before .before .before .before .clear .ensures in
+    let answers = test .before .before .before .before .clear2 .ensures in
+    let bad = test .is-bad .ensures in
+    not-read _ _ _ _ table answers bad (c .if1 .taken)
 
 read-all-requires : tie.Need-read-all-requires
-read-all-requires c κs = blank _ _ _ _ (c .before .before .before .before .before .before .before .before .before .before .before .clear .ensures) (c .before .before .before .before .before .before .before .clear2 .ensures) (c .before .before .before .is-bad .ensures) (c .before .before .if1 .left)
+read-all-requires c κs =
+    let test = c .before .before .before in
+    let table = test .before .before .before .before .before .before .before .before .clear .ensures in
+    let answers = test .before .before .before .before .clear2 .ensures in
+    let bad = test .is-bad .ensures in
+    blank _ _ _ _ table answers bad (c .before .before .if1 .left)
 
 same-length-3 : tie.Need-same-length-3
 same-length-3 c = search needs
@@ -33,7 +43,12 @@ same-length-4 : tie.Need-same-length-4
 same-length-4 c = search needs
 
 returns-2 : tie.Need-returns-2
-returns-2 c = all-read _ _ _ _ (c .before .before .before .before .before .before .before .before .before .before .before .before .before .before .before .before .clear .ensures) (c .before .before .before .before .before .before .before .before .before .before .before .before .clear2 .ensures) (c .before .before .before .before .before .before .before .before .is-bad .ensures) (c .before .before .before .before .before .before .before .if1 .left) (c .before .before .before .before .read-all .ensures)
+returns-2 c =
+    let test = c .before .before .before .before .before .before .before .before in
+    let table = test .before .before .before .before .before .before .before .before .clear .ensures in
+    let answers = test .before .before .before .before .clear2 .ensures in
+    let bad = test .is-bad .ensures in
+    all-read _ _ _ _ table answers bad (c .before .before .before .before .before .before .before .if1 .left) (c .before .before .before .before .read-all .ensures)
 
 pub read-family-spec : {M : Type 1} → statement M
 read-family-spec =

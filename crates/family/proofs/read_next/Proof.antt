@@ -7,8 +7,7 @@ use Rattle.rows.specs.Table.{wholeRows}
 use Rattle.lent.specs.Numbers.{inLent, replyNumbers}
 use lib.ListN.{length}
 use Rattle.replies.specs.Replies.{Reply}
-use Rattle.family.specs.Family.{rowsTaken}
-use Rattle.family.proofs.NextLaws.{few-rows, rows-taken, next-reply, next-table}
+use Rattle.family.proofs.NextLaws.{few-rows, next-reply, next-count, next-table}
 use Rattle.family.proofs.read_next.Statement.{statement}
 use Rattle.family.proofs.read_next.Tie as tie
 
@@ -52,12 +51,12 @@ add-result : tie.Need-add-result
 add-result c =
     let args = c .before .before .before .before .before .before .before .before .before .before .before .before .before .before .args in
     let pre = c .before .before .before .before .before .before .before .before .before .before .before .before .before .before .pre in
-    let smaller = c .before .before .before .before .before .before .before .before .smaller .ensures ∙ ap (λ (w : ℕ). min (length (args .src .now)) (w - args .rows)) (c .before .before .before .before .before .before .before .before .before .whole-rows .ensures) in
+    let room = c .before .before .before .before .before .before .before .before in
+    let whole = room .before .whole-rows .ensures in
+    let smaller = room .smaller .ensures ∙ ap (λ (w : ℕ). min (length (args .src .now)) (w - args .rows)) whole in
     let read = c .before .before .before .before .before .before .read-over .ensures in
-    let reply = next-reply (args .src .now) pre smaller (read .0) in
-    let left = wholeRows (args .table .now) - args .rows in
-    let taken = c .before .before .put-taken .ensures .0 ∙ ap rowsTaken reply ∙ rows-taken (args .src .now) left in
-    search (needs, few-rows (args .src .now) left, taken)
+    let put = c .before .before .put-taken .ensures in
+    search (needs, few-rows (args .src .now) (wholeRows (args .table .now) - args .rows), next-count (args .src .now) pre smaller (read .0) (put .0))
 
 same-length : tie.Need-same-length
 same-length c = search needs
@@ -69,15 +68,15 @@ returns : tie.Need-returns
 returns c =
     let args = c .before .before .before .before .before .before .before .before .before .before .before .before .before .before .args in
     let pre = c .before .before .before .before .before .before .before .before .before .before .before .before .before .before .pre in
-    let smaller = c .before .before .before .before .before .before .before .before .smaller .ensures ∙ ap (λ (w : ℕ). min (length (args .src .now)) (w - args .rows)) (c .before .before .before .before .before .before .before .before .before .whole-rows .ensures) in
+    let room = c .before .before .before .before .before .before .before .before in
+    let whole = room .before .whole-rows .ensures in
+    let smaller = room .smaller .ensures ∙ ap (λ (w : ℕ). min (length (args .src .now)) (w - args .rows)) whole in
     let read = c .before .before .before .before .before .before .read-over .ensures in
-    let reply = next-reply (args .src .now) pre smaller (read .0) in
-    let left = wholeRows (args .table .now) - args .rows in
-    let taken = c .before .before .put-taken .ensures .0 ∙ ap rowsTaken reply ∙ rows-taken (args .src .now) left in (
-      ap (λ (n : ℕ). args .rows + n) taken,
+    let put = c .before .before .put-taken .ensures in (
+      ap (λ (n : ℕ). args .rows + n) (next-count (args .src .now) pre smaller (read .0) (put .0)),
       (
         next-table (args .src .now) pre smaller (read .1),
-        c .before .before .put-taken .ensures .1 ∙ ap (λ (r : Reply). inLent (length (args .out .now)) (replyNumbers r)) reply,
+        put .1 ∙ ap (λ (r : Reply). inLent (length (args .out .now)) (replyNumbers r)) (next-reply (args .src .now) pre smaller (read .0)),
       ),
     )
 

@@ -1,4 +1,6 @@
 // 14 over settled rows: a rule that reaches itself through references (document 02, W-202).
+#![tactic(auto)]
+
 ghost use Rattle.std.specs.Prelude.{◌≡◌};
 ghost use Rattle.answers.specs.Drafts.{drafts_from};
 ghost use Rattle.answers.specs.Stages.{draft_rows};

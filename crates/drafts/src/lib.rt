@@ -1,4 +1,6 @@
 // Draft rows as a table holds them while a source is read: the marks of a row. What later stages may count on of such rows is in specs/.
+#![tactic(auto)]
+
 ghost use Rattle.std.specs.Prelude.{◌≡◌};
 ghost use Rattle.drafts.specs.Faults.{draft_at};
 

@@ -1,5 +1,7 @@
 // The grammar's fixed phrases as data: the kinds of elements with what each asks of a token, and each phrase as the
 // list of its elements (document 01, Grammar).
+#![tactic(auto)]
+
 pub mod flags;
 pub mod kinds;
 pub mod noted;

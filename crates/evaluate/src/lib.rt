@@ -1,5 +1,7 @@
 // The value of an expression, from its rows (document 02, W-202): operands before operator, so one pass over the rows
 // with a stack of values. Total for every table and every range of rows.
+#![tactic(auto)]
+
 ghost use Rattle.std.specs.Prelude.{◌≡◌, ◌+◌, ◌-◌, ◌^◌, ◌<◌, length};
 ghost use Rattle.stored.specs.Stored.{room};
 ghost use Rattle.evaluate.specs.Machine.{ROOM, is_binary, top, pushed, stepped};

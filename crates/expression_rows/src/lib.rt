@@ -1,4 +1,6 @@
 // The expression that follows a row of a table: where its rows end, and its value (document 02, W-202).
+#![tactic(auto)]
+
 ghost use Rattle.std.specs.Prelude.{◌≡◌};
 ghost use Rattle.expression_rows.specs.Ends.{end_from, value_after};
 

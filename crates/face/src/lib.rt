@@ -1,5 +1,7 @@
 // The interface for C: the quick check, reading, reading a family, resolving, showing and the token reader, on slices and
 // numbers. A slice passes as a pointer and a length. Every number of a lent answer or token is written.
+#![tactic(auto)]
+
 ghost use Rattle.std.specs.Prelude.{◌≡◌, length};
 ghost use Rattle.answers.specs.WholeAnswer.{quick_check, read_table};
 ghost use Rattle.answers.specs.Resolution.{resolved_table, resolved_output};

@@ -2,6 +2,8 @@
 // of the columns FIRST, SECOND and FLAGS hold marks: FIRST that of a form's number, of a question's written number and of
 // what a reference names; SECOND that of a goto's form number, a numeric's maximum and an option's value; FLAGS that of a
 // numeric's default and of an option's word DEFAULT. A mark is a place plus one, or 0 for none.
+#![tactic(auto)]
+
 pub mod codes;
 mod form_set;
 mod numerics;

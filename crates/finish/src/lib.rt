@@ -1,4 +1,6 @@
 // From draft rows to finished rows (document 01, Rows).
+#![tactic(auto)]
+
 ghost use Rattle.std.specs.Prelude.{◌≡◌, map};
 ghost use Rattle.numbers.specs.Numbers.{given_map};
 ghost use Rattle.rows.specs.Table.{row_at, with_row};

@@ -1,4 +1,6 @@
 // The numbers of an answer in lent memory (document 02, W-201): as far as there is room, and 0 past them.
+#![tactic(auto)]
+
 ghost use Rattle.std.specs.Prelude.{◌≡◌, length, get_or};
 ghost use Rattle.read.specs.Answers.{told};
 ghost use Rattle.lent.specs.Numbers.{in_lent, reply_numbers};

@@ -1,4 +1,6 @@
 // Tokens of a source: a slice and a place in, a token by value out (document 01, Tokens).
+#![tactic(auto)]
+
 mod gaps;
 mod signs;
 mod words;

@@ -2,6 +2,8 @@
 // 255 and 256 rules, 65,536 and 65,537 bytes, and a table one row short. Each is read and compared with its whole table,
 // and read again with tables too small, just large enough, and none. It takes no input. It prints for each pair how many
 // agreed, and then the lines of all; a difference stands above the line of its pair.
+#![tactic(auto)]
+
 mod list;
 mod sources;
 mod tables;

@@ -99,10 +99,10 @@ module _ (G : Grammar) (P : ParseTable) where
 
   module _ (L : Ll1 G P) where
     step_advance_by :
-        {n k : ℕ} {σ τ : List Due} {b : Depth}
+        {k n : ℕ} {σ τ : List Due} {b : Depth}
         → Leads G P n k (symbols_of σ) → Step k σ b τ → advance_by G P (advance_in G P n) σ k ≡ next b τ
-    step_advance_by {n} {k} l (takes {d = d} {σ = σ}) = advance_take (advance_in G P n) d σ k k (same k)
-    step_advance_by {n} {k} l (enters {d = d} {b = b} {A = A} i {a = a} {σ = σ} {τ = τ} p e s) =
+    step_advance_by {k} {n} l (takes {d = d} {σ = σ}) = advance_take (advance_in G P n) d σ k k (same k)
+    step_advance_by {k} {n} l (enters {d = d} {b = b} {A = A} i {a = a} {σ = σ} {τ = τ} p e s) =
         by n (λ m r. step_advance_by {n = m} r s) (leads_rank G P p l)
       where
         by :
@@ -114,7 +114,7 @@ module _ (G : Grammar) (P : ParseTable) where
             let l : Leads G P m k a.symbols = leads_more G P (omega arith) (L.leads A i k a e) in
             let r = leads_append G P (symbols_of σ) (L.told_first A i k a e p) l in
             advance_in_lem (advance_in G P (suc m)) d σ k A i a p e ∙ f m (rw symbols_due r)
-    step_advance_by {n} {k} l (passes {d = d} {A = A} {σ = σ} p z s) =
+    step_advance_by {k} {n} l (passes {d = d} {A = A} {σ = σ} p z s) =
         advance_past (advance_in G P n) d σ k A p z ∙ step_advance_by (leads_rest G P p z l) s
 
     pub step_advance : {k : ℕ} {σ τ : List Due} {b : Depth} → Step k σ b τ → advance G P σ k ≡ next b τ

@@ -2,6 +2,8 @@
 // entry for each row that declares a name, numbered from 1 on from the last word back. Rows are entered from the last to
 // the first. A head is the number of the entry that its bucket gained last, or 0; an entry's link is the head before it.
 // So a chain meets its rows in their order.
+#![tactic(auto)]
+
 ghost use Rattle.std.specs.Prelude.{◌≡◌, ◌<◌, drop};
 ghost use Rattle.lexemes.specs.Words.{word};
 ghost use Rattle.answers.specs.Drafts.{drafts_from};

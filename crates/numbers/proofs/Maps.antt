@@ -143,7 +143,7 @@ module _ {ws l : List ℕ} (v : Holds ws l) where
 pub holds_all : {ws l : List ℕ} (m : List ℕ) → Holds ws l → Holds (with_all_used ws m) (l ++ m)
 unfolding with_all_used mem
 holds_all {ws} {l} [] v = rw (append-nil l) v
-holds_all {ws} {l} (n ∷ m) v = rw (← append_assoc l (n ∷ []) m) (holds_all {l = l ++ n ∷ []} m (holds_same (holds_mark v refl) last))
+holds_all {ws} {l} (n ∷ m) v = rw (← append_assoc l (n ∷ []) m) (holds_all {ws = with_used ws n} {l = l ++ n ∷ []} m (holds_same (holds_mark v refl) last))
   where
     last : (k : ℕ) → borne (n ∷ l) k ≡ borne (l ++ n ∷ []) k
     last k = rw (mem_append k l (n ∷ []), or-false (eqb k n), mem_cons k n l)

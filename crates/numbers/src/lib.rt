@@ -1,4 +1,6 @@
 // The map of used question numbers (document 01, "Rows"). Which question gets which number is in specs/.
+#![tactic(auto)]
+
 ghost use Rattle.std.specs.Prelude.{◌≡◌};
 ghost use Rattle.numbers.specs.Numbers.{empty_map, used, with_used, used_count, first_free};
 

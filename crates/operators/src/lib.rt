@@ -1,4 +1,6 @@
 // Values of expressions (document 02, W-202): operators by their codes, and constants.
+#![tactic(auto)]
+
 ghost use Rattle.std.specs.Prelude.{◌≡◌, ◌*◌, ◌/◌, ◌%◌, ◌^◌};
 ghost use Rattle.operators.specs.Values.{shifted_left, shifted_right, divided, operation_of, combined, negated, constant_of};
 

@@ -1,4 +1,6 @@
 // Reading the grammar's fixed phrases: each by its number (document 01, Grammar).
+#![tactic(auto)]
+
 mod kept;
 mod reader;
 

@@ -1,5 +1,7 @@
 // The numbers of questions in the rows of a table, by kind (document 02, W-202): those of gotos, of checkboxes, and of
 // all questions.
+#![tactic(auto)]
+
 ghost use Rattle.std.specs.Prelude.{◌≡◌, cond};
 ghost use Rattle.numbers.specs.Numbers.{with_used, with_all_used};
 ghost use Rattle.rows.specs.Codes.{is_question};

@@ -1,6 +1,8 @@
 // The ranks of rules, and an order of the rules in which each comes after those that it refers to (W-202), by a closed map of `circles`.
 // The order of n rules counts the ones of 1,024 words and then makes n² comparisons, 65,025 for 255 rules, whatever the steps are.
 // (Measured for a chain of 255 rules: about 0.03 ms.)
+#![tactic(auto)]
+
 ghost use Rattle.std.specs.Prelude.{◌≡◌, cond, [], ◌∷◌, ◌<◌, eqb, get_or, replicate};
 ghost use Rattle.numbers.specs.Numbers.{picked};
 ghost use Rattle.ranks.specs.Ranks.{rank_in, RanksOf, Appends, order_in};

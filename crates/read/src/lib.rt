@@ -1,4 +1,6 @@
 // Reading a source into a lent table, and the quick check (document 01, Refusal numbers; document 02, W-201 and W-204).
+#![tactic(auto)]
+
 mod accept;
 mod checks;
 mod faults;

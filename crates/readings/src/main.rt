@@ -16,6 +16,8 @@
 //            48 to 51  the length of the packed cells
 //            52 on     the source without the run, and then the packed cells of the expected rows: for each cell one
 //                      byte that says how many bytes its number has, 0 to 8, and then these bytes, the high one first
+#![tactic(auto)]
+
 mod packed;
 
 use packed::Group;

@@ -1,4 +1,6 @@
 // Line and column of an answer (document 02, W-201, W-202, W-206).
+#![tactic(auto)]
+
 ghost use Rattle.std.specs.Prelude.{◌≡◌};
 ghost use Rattle.replies.specs.Replies.{has_place, position_of};
 

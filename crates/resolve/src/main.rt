@@ -1,4 +1,6 @@
 // Reads a source from standard input, and prints its resolved text or a line that tells the refusal.
+#![tactic(auto)]
+
 use libc::{STDIN_FILENO, STDOUT_FILENO};
 use rows::columns::ROW;
 use text::{Answer, TOO_FEW_ROWS, TOO_LONG};

@@ -1,1 +1,2 @@
 // The resolved text reads as its source does: see proofs/. No code runs here.
+#![tactic(auto)]

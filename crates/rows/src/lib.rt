@@ -1,5 +1,7 @@
 // The table of rows: numbers that the caller lends, ROW to a row (document 01, "Rows"). Where a table has no
 // such row or cell, reading gives 0 and writing changes nothing.
+#![tactic(auto)]
+
 pub mod codes;
 pub mod columns;
 pub mod displays;

@@ -1,4 +1,6 @@
 // The references between rules in the rows of a table, collected as steps (document 02, W-202).
+#![tactic(auto)]
+
 ghost use Rattle.std.specs.Prelude.{◌≡◌, cond, ◌&&◌, max};
 ghost use Rattle.rows.specs.Table.{row_at};
 ghost use Rattle.rows.specs.Rows.{rows_from};

@@ -1,5 +1,7 @@
 // The values of a form set's rules, each found once (document 02, W-202): rule after rule in an order in which each comes
 // after those that it refers to.
+#![tactic(auto)]
+
 ghost use Rattle.std.specs.Prelude.{◌≡◌, get_or};
 ghost use Rattle.rule_values.specs.Values.{placed_row, placed_rows, with_rule, with_rules};
 

@@ -1,5 +1,7 @@
 // What questions answer (document 02, W-202), by a list of saved answers: two 64-bit words each, the question's number and
 // its value. Total for every list; one that ascends by number is searched by halves.
+#![tactic(auto)]
+
 ghost use Rattle.std.specs.Prelude.{◌≡◌, false, ◌≤◌};
 ghost use Rattle.saved_answers.specs.Answers.{count, by_kind};
 ghost use Rattle.numbers.specs.Numbers.{used};

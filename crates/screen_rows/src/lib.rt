@@ -1,5 +1,7 @@
 // Which items are hidden or grey (document 02, W-202), from the rows of a table: a byte a row, 1 for hidden plus 2 for
 // grey, 0 for other rows. Two passes over the rows, total for every table.
+#![tactic(auto)]
+
 ghost use Rattle.std.specs.Prelude.{◌≡◌, cond, ◌≤◌, length, get_or, take};
 ghost use Rattle.rows.specs.Columns.{CODE};
 ghost use Rattle.rows.specs.Table.{cell_at};

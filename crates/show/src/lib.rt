@@ -1,4 +1,6 @@
 // Which items of a source are hidden or grey, by saved answers (document 02, W-202).
+#![tactic(auto)]
+
 ghost use Rattle.std.specs.Prelude.{◌≡◌, length};
 ghost use Rattle.rows.specs.Table.{cleared};
 ghost use Rattle.answers.specs.Answer.{refuses};

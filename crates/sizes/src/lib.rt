@@ -1,5 +1,7 @@
 // Numbers of 1, 2, 4 or 8 bytes, unsigned and signed (document 02, W-204 and W-207). A size that is none of these counts as 8,
 // which is what a numeric without a size has. Of a number that does not fit its size, the signed functions take the low bytes.
+#![tactic(auto)]
+
 ghost use Rattle.std.specs.Prelude.{◌≡◌, ◌^◌, ◌≤◌, ◌<◌};
 ghost use Rattle.sizes.specs.Sizes as sizes;
 ghost use Rattle.sizes.specs.Biased.{biased};

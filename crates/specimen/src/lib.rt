@@ -1,5 +1,7 @@
 // A specimen of reading: a source, how many numbers are lent, and what is expected. It is read and compared whole, and
 // again with tables too small, just large enough, and none.
+#![tactic(auto)]
+
 mod compare;
 pub mod counts;
 mod tables;

@@ -1,4 +1,6 @@
 // Stages 7 to 12 over the draft rows: each answers the mark of the first fault, or 0 (document 01, Refusal numbers).
+#![tactic(auto)]
+
 mod choices;
 mod forms;
 mod references;

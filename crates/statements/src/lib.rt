@@ -1,4 +1,6 @@
 // The phrases of statements by the code of their row: how each opens and how it ends (document 01, Resolved text).
+#![tactic(auto)]
+
 ghost use Rattle.std.specs.Prelude.{◌≡◌, true, [], get_or};
 ghost use Rattle.rows.specs.Columns.{CODE};
 ghost use Rattle.rows.specs.Codes.{is_question};

@@ -1,5 +1,7 @@
 // Values of expressions (document 02, W-202) kept in lent numbers, two to a value: its sort and its number. Where there
 // is no such value, reading gives an undefined one and writing changes nothing.
+#![tactic(auto)]
+
 ghost use Rattle.std.specs.Prelude.{◌≡◌};
 ghost use Rattle.stored.specs.Stored.{sort_of, number_of, scalar_of, value_at, with_value};
 

@@ -1,6 +1,8 @@
 // Which items are hidden or grey (document 02, W-202), from the rows of a table and the answers alone: the rules' values
 // are found once each, and then the bytes of the rows. Total for every table.
 // (Measured for a chain of 255 rules in 1,030 rows, and for 4,503 rows without rules: about 0.1 ms each.)
+#![tactic(auto)]
+
 ghost use Rattle.std.specs.Prelude.{◌≡◌, length};
 ghost use Rattle.question_kinds.specs.Kinds.{own_at};
 ghost use Rattle.ranks.specs.Ranks.{order_of};

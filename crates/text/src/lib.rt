@@ -1,4 +1,6 @@
 // The resolved text of a source (document 01, Resolved text; document 02, W-201).
+#![tactic(auto)]
+
 mod expressions;
 mod items;
 

@@ -6,6 +6,8 @@
 //   a case   0 to 3  the length of the source, or 0xFFFFFFFF behind the last case
 //            4 to 7  the length of the expected output
 //            8 on    the source, and then the expected output
+#![tactic(auto)]
+
 mod compare;
 mod counts;
 mod line;

@@ -1,6 +1,8 @@
 // Prints the tokens of the sources on standard input, one a line: its class, its start, its end, its line and its
 // column (W-201). The class of a sign or a reserved word is printed as its own text. A line `----` parts two sources
 // and is printed between their tokens too; the LF before it belongs to neither source.
+#![tactic(auto)]
+
 ghost use Rattle.std.specs.Prelude.{◌≤◌, length};
 
 use lex::Token;

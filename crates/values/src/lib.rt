@@ -1,4 +1,6 @@
 // Numbers: which words are numbers, the value of the number at a place of a source, and a GUID part's digits (document 01, Tokens and Grammar).
+#![tactic(auto)]
+
 pub mod numerals;
 
 ghost use Rattle.std.specs.Prelude.{◌≡◌, ◌<◌, ◌≤◌, ◌+◌, ◌*◌, ◌^◌, false, length, drop};

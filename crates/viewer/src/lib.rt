@@ -1,5 +1,7 @@
 // The viewer's token reader (document 01, The shape of some places): a struct that keeps the lent source, a place in it and that place's line
 // and column (W-201), and thin functions over it. The work is done by `view`, on a slice and numbers: it reads only from the kept place on.
+#![tactic(auto)]
+
 ghost use Rattle.std.specs.Prelude.{◌≡◌};
 ghost use Rattle.viewer.specs.Viewed.{seen_from, nth_token, positioned, seen_by, moved_on};
 

@@ -1,5 +1,7 @@
 // One walk over a source by the grammar, stages 3, 4, 16 and 5: it writes draft rows as far as whole rows fit, counts all,
 // notes the first fault of 16 and of 5, and stops at the first token that the grammar or a depth refuses.
+#![tactic(auto)]
+
 mod expressions;
 mod forms;
 mod items;

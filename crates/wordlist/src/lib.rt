@@ -1,4 +1,6 @@
 // The list of reserved words, and a word as two numbers, so that words are compared by their numbers.
+#![tactic(auto)]
+
 mod list;
 mod packing;
 mod table;

@@ -25,7 +25,8 @@ DASHED = re.compile(r"◌?[a-z][\w']*(?:-[\w']*[a-z][\w']*)+◌?")
 COMMENT = re.compile(r"--[^\n]*|//[^\n]*")
 
 # Names that would meet another in one place, and the word that stands for each.
-BY_HAND = {}
+BY_HAND = {it: it.replace("-", "_") for it in "rule-named rule-name numeric-words flag-words question-mark is-reference form-mark".split()}
+BY_HAND["one_more"] = "one_more"
 
 
 def snake(name):
@@ -38,7 +39,7 @@ def camel(name):
 
 
 def is_constant(name):
-    return re.fullmatch(r"[A-Z0-9'-]+", name) and re.search(r"[A-Z]", name)
+    return re.fullmatch(r"[A-Z0-9'_-]+", name) and re.search(r"[A-Z]", name)
 
 
 def spelled(name, types):

@@ -77,7 +77,7 @@ module _ {before : List Draft} (d : Draft) (ds : List Draft) (u : SoundRow d) (v
   unfolding written mem distinct
   once_question e zero o f = rw (numbers_question d ds e, o) (once_before d v)
   once_question e (suc q) o f =
-      let does : writes d ≡ true = rw (e, ← u.question_mark_lem e, o) (lt-ltb 0 (suc q) (omega arith)) in
+      let does : writes d ≡ true = rw (e, ← u.question_mark e, o) (lt-ltb 0 (suc q) (omega arith)) in
       let none : any (bears writes (suc q)) before ≡ false = rw (does, o) at (no_fault_lem (writes d && any (bears writes (cell column.OWN d)) before) d.own_at f) in
       let fresh : mem (suc q) (written (own_numbers ds)) ≡ false =
       either (mem (suc q) (written (own_numbers ds)))

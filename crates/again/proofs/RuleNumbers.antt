@@ -18,7 +18,7 @@ use Rattle.grammar.specs.Grammar.{rules}
 use Rattle.grammar.specs.Derivation.{Derives}
 use Rattle.grammar.specs.Source.{source_tokens, number_at}
 use Rattle.grammar.specs.Parts.{child}
-use Rattle.answers.specs.Expression.{Expression, number, constant, question_named, question_numbered, rule_named_lem, negation, binary, expression}
+use Rattle.answers.specs.Expression.{Expression, number, constant, question_named, question_numbered, rule_named, negation, binary, expression}
 use Rattle.answers.specs.Rows.{Draft, rules_in, item, operand, expression_rows, condition, otherwise, own_rows, drafts_of}
 use Rattle.answers.specs.Stages.{is}
 use Rattle.answers.specs.Answer.{drafts}
@@ -26,13 +26,13 @@ use Rattle.answers.proofs.RuleForms.{operator_no_rule, constant_no_rule}
 use Rattle.grammar.proofs.Alternatives.{everywhere, at_alternative}
 use Rattle.sound.proofs.Lists.{apart}
 use Rattle.again.proofs.Owns.{owns_append}
-use Rattle.again.specs.RuleNumbers.{owns_of, rule_numbers, From, at_end, one_more_lem}
+use Rattle.again.specs.RuleNumbers.{owns_of, rule_numbers, From, at_end, one_more}
 
 -- ---- numbers that count on
 
 from_append : {n m k : ℕ} {a b : List ℕ} → From n a m → From m b k → From n (a ++ b) k
 from_append at_end q = q
-from_append (one_more_lem p) q = one_more_lem (from_append p q)
+from_append (one_more p) q = one_more (from_append p q)
 
 from_to : {n m k : ℕ} {a b : List ℕ} → m ≡ k → a ≡ b → From n a m → From n b k
 from_to e f p = rw (← e, ← f) p
@@ -40,7 +40,7 @@ from_to e f p = rw (← e, ← f) p
 pub from_above : {n m : ℕ} {l : List ℕ} → From n l m → (k : ℕ) → mem k l ≡ true → n < k
 unfolding mem
 from_above at_end k h = absurd (false≢true h)
-from_above (one_more_lem {n = n} {l = l} p) k h =
+from_above (one_more {n = n} {l = l} p) k h =
     either (eqb k (suc n)) (λ e. omega (arith, eqb-true k (suc n) e)) (λ e. let later : mem k l ≡ true = rw e at h in omega (arith, from_above p k later))
 
 -- ---- rows that are no rules
@@ -61,7 +61,7 @@ module _ (value : ℕ → ℕ) where
   expression_none parent (constant c p) = operand_none parent _ _ p _ (constant_no_rule c)
   expression_none parent (question_named p q) = operand_none parent _ _ p _ refl
   expression_none parent (question_numbered p q) = operand_none parent _ _ p _ refl
-  expression_none parent (rule_named_lem p q) = operand_none parent _ _ p _ refl
+  expression_none parent (rule_named p q) = operand_none parent _ _ p _ refl
   expression_none parent (negation p e) = none_append (expression_rows value parent e) _ (expression_none parent e) (operand_none parent _ _ p _ refl)
   expression_none parent (binary o p l r) =
       none_append (expression_rows value parent l) _ (expression_none parent l)
@@ -141,7 +141,7 @@ module _ (value : ℕ → ℕ) where
   -- a rule's own rows: the next number
   rule_own : (i : ℕ) (c : Trees) (parent at n : ℕ) → From n (rule_numbers (own_rows value parent at n <rule> i c)) (suc n)
   unfolding owns_of
-  rule_own i c parent at n = rw (expression_none value at (expression (child 3 c))) (one_more_lem at_end)
+  rule_own i c parent at n = rw (expression_none value at (expression (child 3 c))) (one_more at_end)
 
   -- the rules before what stands beside a node
   abbrev past : ℕ → ℕ → ℕ → Trees → ℕ

@@ -19,7 +19,7 @@ use Rattle.drafts.specs.Sound.{SoundRow}
 use Rattle.sound.proofs.Lists.{All, none, more}
 use Rattle.printing.specs.Spelling.{name_word}
 use Rattle.printing.proofs.Digits.{decimal_injective}
-use Rattle.again.specs.RuleNumbers.{rule_numbers, From, one_more_lem}
+use Rattle.again.specs.RuleNumbers.{rule_numbers, From, one_more}
 use Rattle.again.proofs.Lists.{all_then, any_none}
 use Rattle.again.proofs.Owns.{owns_yes, owns_not}
 use Rattle.again.proofs.NumberedDrafts.{rule_not, other_asks}
@@ -30,7 +30,7 @@ pub name_injective : (m n : ℕ) → name_word m ≡ name_word n → m ≡ n
 name_injective m n e = decimal_injective m n (ap (drop 1) e)
 
 from_first : {n m k : ℕ} {l : List ℕ} → From n (k ∷ l) m → (k ≡ suc n) × From (suc n) l m
-from_first (one_more_lem p) = (refl, p)
+from_first (one_more p) = (refl, p)
 
 -- a rule among the first n, and its name
 abbrev Earlier : List ℕ → ℕ → Draft → Type 0
@@ -54,7 +54,7 @@ module _ (t : List ℕ) {all : List Draft} {d : Draft} (v : Says t all d) where
           let both = and_true (same_sort t d e) _ y in
           let a_rule : is code.RULE e ≡ true = rw (other_asks code.RULE rule_not d r, r) at both.0 in
           let words = same_word_true t (place_of (cell column.NAME e)) (place_of (cell column.NAME d)) (and_true (ltb 0 (cell column.NAME e)) _ both.1).1 in
-          let own : cell column.OWN e ≡ cell column.OWN d = name_injective _ _ (sym (h a_rule).1 ∙ words ∙ v.rule_name_lem r) in
+          let own : cell column.OWN e ≡ cell column.OWN d = name_injective _ _ (sym (h a_rule).1 ∙ words ∙ v.rule_name r) in
           absurd (omega (arith, (h a_rule).0)))
           (λ y. y)
 
@@ -77,7 +77,7 @@ names_from t all (more {x = d} {l = ds} p r) {n = n} c {before = before} b =
     either (is code.RULE d)
     (λ e.
     let next = from_first (rw (owns_yes (is code.RULE) d ds e) at c) in
-    let here : All (Earlier t (suc n)) (d ∷ before) = more (λ h. (omega (arith, next.0), p.1.rule_name_lem h)) (all_then (λ x f h. (omega (arith, (f h).0), (f h).1)) b) in
+    let here : All (Earlier t (suc n)) (d ∷ before) = more (λ h. (omega (arith, next.0), p.1.rule_name h)) (all_then (λ x f h. (omega (arith, (f h).0), (f h).1)) b) in
     rw (rule_clean t p.1 n e next.0 b) (names_from t all r next.1 here))
     (λ e.
     let here : All (Earlier t n) (d ∷ before) = more (λ h. absurd (true≢false (sym h ∙ e))) b in

@@ -63,7 +63,7 @@ module _ (t : List ℕ) {ds : List Draft} (all : All (Says t ds) ds) {d : Draft}
         found e w h o =
             let both = and_true (is code.RULE e) _ h in
             let words : words.word (drop (place_of (cell column.NAME e)) t) ≡ words.word (drop (place_of d.own_at) t) =
-            w.rule_name_lem both.0 ∙ rw o (sym (v.reference_name r)) in
+            w.rule_name both.0 ∙ rw o (sym (v.reference_name r)) in
             rw (r, both.0, w.declared both.0, eq_same_word t (place_of (cell column.NAME e)) (place_of d.own_at) words) both.1
 
     rule_is : own_of_first t (finds t ds d) ds ≡ named t d
@@ -73,7 +73,7 @@ module _ (t : List ℕ) {ds : List Draft} (all : All (Says t ds) ds) {d : Draft}
         own e w h =
             let both = and_true (is code.RULE e) (declares t (place_of d.own_at) e) (and_true (rule_named t (place_of d.own_at) e) _ (rw r at h)).0 in
             let words = same_word_true t (place_of (cell column.NAME e)) (place_of d.own_at) (and_true (ltb 0 (cell column.NAME e)) _ both.1).1 in
-            name_injective _ _ (sym (w.rule_name_lem both.0) ∙ words ∙ v.reference_name r)
+            name_injective _ _ (sym (w.rule_name both.0) ∙ words ∙ v.reference_name r)
 
   -- ---- both
 

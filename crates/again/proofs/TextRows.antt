@@ -64,7 +64,7 @@ pub record Says (t : List ℕ) (ds : List Draft) (d : Draft) : Type 0 where
   pub written : asks d ≡ true → ltb 0 d.own_at ≡ true
   pub nameless : asks d ≡ true → cell column.NAME d ≡ 0
   pub declared : is code.RULE d ≡ true → ltb 0 (cell column.NAME d) ≡ true
-  pub rule_name_lem : is code.RULE d ≡ true → words.word (drop (place_of (cell column.NAME d)) t) ≡ name_word (cell column.OWN d)
+  pub rule_name : is code.RULE d ≡ true → words.word (drop (place_of (cell column.NAME d)) t) ≡ name_word (cell column.OWN d)
   pub by_number : is code.QUESTION_REF d ≡ true → (0 < cell column.A d) × (mem (cell column.A d) (own_numbers ds) ≡ true)
   pub reference_name : is code.RULE_REF d ≡ true → words.word (drop (place_of d.own_at) t) ≡ name_word (named t d)
   pub by_name : is code.RULE_REF d ≡ true → mem (named t d) (owns_of (rule_of (form_round ds d)) ds) ≡ true
@@ -77,7 +77,7 @@ module _ (t : List ℕ) (look : ℕ → List ℕ) {ds' ds : List Draft} (numbers
         written = λ q. (m.question q).0;
         nameless = λ q. (m.question q).1;
         declared = λ r. (m.rule r).0;
-        rule_name_lem = λ r. (m.rule r).1;
+        rule_name = λ r. (m.rule r).1;
         by_number = λ r. number r;
         reference_name = m.reference;
         by_name = λ r. rw (round_like alike d' d (like t look m u), forms_same alike, rule_number_lem t look m r) (v.rule (rw (← m.code_same) r));

@@ -21,4 +21,4 @@ rule_of form e = is code.RULE e && eqb (cell column.PARENT e) form
 -- the numbers after one, up to another
 pub data From : ℕ → List ℕ → ℕ → Type 0 where
   at_end : {n : ℕ} → From n [] n
-  one_more_lem : {n m : ℕ} {l : List ℕ} → From (suc n) l m → From n (suc n ∷ l) m
+  one_more : {n m : ℕ} {l : List ℕ} → From (suc n) l m → From n (suc n ∷ l) m

@@ -15,7 +15,7 @@ use Rattle.ll1.proofs.Basics.{clash, both, implied}
 use Rattle.grammar.specs.Rules.{<large>, <or>, <atom>}
 use Rattle.grammar.specs.Grammar.{rules}
 use Rattle.grammar.specs.Parts.{child, chosen, place_at}
-use Rattle.answers.specs.Expression.{Operator, Expression, number, constant, question_named, question_numbered, rule_named_lem, negation, binary}
+use Rattle.answers.specs.Expression.{Operator, Expression, number, constant, question_named, question_numbered, rule_named, negation, binary}
 use Rattle.answers.specs.Expression.{Pending, nothing, operator, operator_class, operators, operator_among, joined, asked, atom, spelled, expression}
 use Rattle.grammar.proofs.Alternatives.{at_alternative}
 use Rattle.answers.specs.RowPlaces.{expression_places}
@@ -32,7 +32,7 @@ module _ (w : ℕ → ℕ) where
   weight (constant c p) = w p
   weight (question_named p q) = w p
   weight (question_numbered p q) = w p
-  weight (rule_named_lem p q) = w p
+  weight (rule_named p q) = w p
   weight (negation p e) = weight e + w p
   weight (binary o p l r) = weight l + (weight r + w p)
 
@@ -41,7 +41,7 @@ module _ (w : ℕ → ℕ) where
   weight_total (constant c p) = omega arith
   weight_total (question_named p q) = omega arith
   weight_total (question_numbered p q) = omega arith
-  weight_total (rule_named_lem p q) = omega arith
+  weight_total (rule_named p q) = omega arith
   weight_total (negation p e) = omega (arith, total_append w (expression_places e) (p ∷ []), weight_total e)
   weight_total (binary o p l r) =
       let after = expression_places r ++ p ∷ [] in

@@ -38,7 +38,7 @@ stray : Stray apart drafts 6
 unfolding run all same same_word
 stray =
     record {
-      is_reference_lem = refl;
+      is_reference = refl;
       rule = 2;
       inside = omega arith;
       names_it = refl;

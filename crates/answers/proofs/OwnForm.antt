@@ -106,7 +106,7 @@ module _ (s : List ℕ) (tree : Trees) (derives : Derives (source_tokens s) tree
         rule = f.at;
         form = form_round ds (row_among ds i);
         inside = omega (arith, f.inside, finished_count s ds);
-        is_rule_lem = f.code_is;
+        is_rule = f.code_is;
         number = f.own_is;
         rule_stands =
             finished_stands s ds (rw (← f.parent_is) (rule_there f.at f.inside (code_of f.at f.code_is)));
@@ -135,19 +135,19 @@ module _ (s : List ℕ) (tree : Trees) (derives : Derives (source_tokens s) tree
     not_there e =
         let rule = (and_true (is code.RULE (row_among ds v.rule)) _ v.names_it).0 in
         let other = stands_once (rule_there v.rule v.inside rule) v.rule_stands in
-        let form = stands_once (reference_there i h v.is_reference_lem) v.reference_stands in
+        let form = stands_once (reference_there i h v.is_reference) v.reference_stands in
         v.apart (sym form ∙ sym e ∙ other)
 
     nothing : any (finds s ds d) ds ≡ false
     nothing =
-        ap (λ (p : Draft → _). any p ds) (finds_rule_lem s ds d v.is_reference_lem)
+        ap (λ (p : Draft → _). any p ds) (finds_rule_lem s ds d v.is_reference)
         ∙ any_only (rule_named s (place_of d.own_at)) _ ds (named_once s (place_of d.own_at) ds names)
         v.rule v.inside v.names_it (ne_eqb _ _ not_there)
 
     -- names it in vain
     stray_vain : in_vain s ds d ≡ d.own_at ∷ []
     stray_vain =
-        let k : cell column.CODE d ≡ code.RULE_REF = eqb-true (cell column.CODE d) code.RULE_REF v.is_reference_lem in
+        let k : cell column.CODE d ≡ code.RULE_REF = eqb-true (cell column.CODE d) code.RULE_REF v.is_reference in
         rw (nothing, k)
 
 -- "11 is now also given where the rule stands in another form": at that name, unless an earlier stage refuses, or an earlier row names something in vain

@@ -116,15 +116,15 @@ module _ (l : List ℕ) where
       go true = refl
       go false = refl
 
-  one_more_lem : (b : Bool) (n : ℕ) → cond b (suc n) n ≡ n + one b
-  one_more_lem true n = omega arith
-  one_more_lem false n = omega arith
+  one_more : (b : Bool) (n : ℕ) → cond b (suc n) n ≡ n + one b
+  one_more true n = omega arith
+  one_more false n = omega arith
 
   below_picked : (n : ℕ) → n ≤ number_limit → unwritten_below l n ≡ length (picked is_free 0 n)
   unfolding unwritten_below
   below_picked zero h = sym (count_none is_free 0)
   below_picked (suc n) h =
-      let more : unwritten_below l (suc n) ≡ unwritten_below l n + one (is_free n) = rw (free_test n (omega arith)) (one_more_lem (is_free n) (unwritten_below l n)) in
+      let more : unwritten_below l (suc n) ≡ unwritten_below l n + one (is_free n) = rw (free_test n (omega arith)) (one_more (is_free n) (unwritten_below l n)) in
       let e : n + 1 ≡ suc n = omega arith in
       let counts : length (picked is_free 0 (suc n)) ≡ length (picked is_free 0 n) + length (picked is_free n 1) =
       rw (zero-add n, e) at (count_add is_free n 1 0) in

@@ -17,7 +17,7 @@ use Rattle.ll1.proofs.Basics.{clash, implied}
 use Rattle.grammar.specs.Rules.{<rule>, <item>, <option>, <form>, <source>}
 use Rattle.grammar.specs.Grammar.{rules}
 use Rattle.grammar.specs.Parts.{child}
-use Rattle.answers.specs.Expression.{Expression, number, constant, question_named, question_numbered, rule_named_lem, negation, binary, expression}
+use Rattle.answers.specs.Expression.{Expression, number, constant, question_named, question_numbered, rule_named, negation, binary, expression}
 use Rattle.answers.specs.Rows.{Draft, item, expression_rows, condition, otherwise, own_rows, drafts_of}
 use Rattle.answers.specs.Stages.{settled, finished}
 use Rattle.grammar.proofs.Alternatives.{everywhere, at_alternative}
@@ -56,7 +56,7 @@ module _ (value : ℕ → ℕ) where
   expression_wide parent (constant c p) = add_wide refl no_wide
   expression_wide parent (question_named p q) = add_wide refl no_wide
   expression_wide parent (question_numbered p q) = add_wide refl no_wide
-  expression_wide parent (rule_named_lem p q) = add_wide refl no_wide
+  expression_wide parent (rule_named p q) = add_wide refl no_wide
   expression_wide parent (negation p e) = wide_append (expression_wide parent e) (add_wide refl no_wide)
   expression_wide parent (binary o p l r) = wide_append (expression_wide parent l) (wide_append (expression_wide parent r) (add_wide refl no_wide))
 

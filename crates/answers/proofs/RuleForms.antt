@@ -28,7 +28,7 @@ use Rattle.grammar.specs.Parts.{child}
 use Rattle.grammar.specs.Positions.{rule_expression, condition_expression}
 use Rattle.grammar.proofs.Alternatives.{everywhere, at_alternative}
 use Rattle.grammar.proofs.Statements.{free}
-use Rattle.answers.specs.Expression.{Expression, number, constant, question_named, question_numbered, rule_named_lem, negation, binary, expression}
+use Rattle.answers.specs.Expression.{Expression, number, constant, question_named, question_numbered, rule_named, negation, binary, expression}
 use Rattle.answers.specs.Expression.{Operator, or, and, bit_or, bit_and, equal, not_equal, less, less_equal, greater, greater_equal}
 use Rattle.answers.specs.Expression.{shift_left, shift_right, add, subtract, multiply, divide, modulo, operator_code}
 use Rattle.answers.specs.Expression.{Constant, true', false', zero', one', ones', undefined', constant_code}
@@ -255,7 +255,7 @@ module _ (value : ℕ → ℕ) (tree : Trees) where
   expression_housed at h (constant c p) = add_row (part at h (constant_no_rule c)) no_row
   expression_housed at h (question_named p q) = add_row (part at h refl) no_row
   expression_housed at h (question_numbered p q) = add_row (part at h refl) no_row
-  expression_housed at h (rule_named_lem p q) = add_row (part at h refl) no_row
+  expression_housed at h (rule_named p q) = add_row (part at h refl) no_row
   expression_housed at h (negation p e) = housed_append ds (expression_housed at h e) (add_row (part at h refl) no_row)
   expression_housed at h (binary o p l r) =
       housed_append ds (expression_housed at h l) (housed_append ds (expression_housed at h r) (add_row (part at h (operator_no_rule o)) no_row))

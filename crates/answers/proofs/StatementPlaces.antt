@@ -15,7 +15,7 @@ use Rattle.ll1.proofs.Basics.{clash, implied}
 use Rattle.grammar.specs.Rules.{<rule>, <item>, <option>, <form>, <source>}
 use Rattle.grammar.specs.Grammar.{rules}
 use Rattle.grammar.specs.Parts.{child, place_at}
-use Rattle.answers.specs.Expression.{Expression, number, constant, question_named, question_numbered, rule_named_lem, negation, binary, expression}
+use Rattle.answers.specs.Expression.{Expression, number, constant, question_named, question_numbered, rule_named, negation, binary, expression}
 use Rattle.answers.specs.Rows.{Draft, item, option, rule_draft, form, form_set, expression_rows, condition, otherwise, own_rows, drafts_of}
 use Rattle.answers.specs.Stages.{cell}
 use Rattle.grammar.proofs.Alternatives.{everywhere, at_alternative}
@@ -71,7 +71,7 @@ module _ (value : ℕ → ℕ) where
   expression_places_lem parent (constant c p) = refl
   expression_places_lem parent (question_named p q) = refl
   expression_places_lem parent (question_numbered p q) = refl
-  expression_places_lem parent (rule_named_lem p q) = refl
+  expression_places_lem parent (rule_named p q) = refl
   expression_places_lem parent (negation p e) =
       places_append (expression_rows value parent e) _ ∙ ap (λ ps. ps ++ p ∷ []) (expression_places_lem parent e)
   expression_places_lem parent (binary o p l r) =

@@ -100,7 +100,7 @@ constant_code undefined' = code.UNDEFINED
 pub data Expression : Type 0 where
   number : ℕ → Expression
   constant : Constant → ℕ → Expression
-  question_named question_numbered rule_named_lem : ℕ → ℕ → Expression
+  question_named question_numbered rule_named : ℕ → ℕ → Expression
   negation : ℕ → Expression → Expression
   binary : Operator → ℕ → Expression → Expression → Expression
 
@@ -151,7 +151,7 @@ atom i c inner =
     -- questionref ( NAME or N )
     ∷ asked p c
     -- ruleref ( NAME )
-    ∷ rule_named_lem p (place_at ruleref_name c)
+    ∷ rule_named p (place_at ruleref_name c)
     ∷ [])
     i inner
 

@@ -37,7 +37,7 @@ pub record OfItsForm (rows : List (List ℕ)) (i : ℕ) : Type 0 where
   pub rule : ℕ
   pub form : ℕ
   pub inside : rule < length rows
-  pub is_rule_lem : column_of rows column.CODE rule ≡ code.RULE
+  pub is_rule : column_of rows column.CODE rule ≡ code.RULE
   pub number : column_of rows column.OWN rule ≡ column_of rows column.A i
   pub rule_stands : StandsIn rows form rule
   pub reference_stands : StandsIn rows form i
@@ -46,13 +46,13 @@ pub record OfItsForm (rows : List (List ℕ)) (i : ℕ) : Type 0 where
 pub record RuleIn (rows : List (List ℕ)) (form number : ℕ) : Type 0 where
   pub row : ℕ
   pub inside : row < length rows
-  pub is_rule_lem : column_of rows column.CODE row ≡ code.RULE
+  pub is_rule : column_of rows column.CODE row ≡ code.RULE
   pub numbered : column_of rows column.OWN row ≡ number
   pub stands : StandsIn rows form row
 
 -- "where the rule stands in another form": row i of the drafts is a ruleref, and the rule of its name stands in another form
 pub record Stray (s : List ℕ) (ds : List Draft) (i : ℕ) : Type 0 where
-  pub is_reference_lem : is code.RULE_REF (row_among ds i) ≡ true
+  pub is_reference : is code.RULE_REF (row_among ds i) ≡ true
   pub rule : ℕ
   pub inside : rule < length ds
   pub names_it : rule_named s (place_of (row_among ds i).own_at) (row_among ds rule) ≡ true

@@ -8,7 +8,7 @@ use Rattle.grammar.specs.Parts.{child, place_at}
 use Rattle.grammar.specs.Positions.{condition_expression, rule_expression}
 use Rattle.answers.specs.Rows.{Draft}
 use Rattle.answers.specs.Stages.{cell}
-use Rattle.answers.specs.Expression.{Expression, number, constant, question_named, question_numbered, rule_named_lem, negation, binary, expression}
+use Rattle.answers.specs.Expression.{Expression, number, constant, question_named, question_numbered, rule_named, negation, binary, expression}
 
 -- of rows: "the place of the first token; of an operator, the operator itself"
 abbrev pub row_places : List Draft → List ℕ
@@ -20,7 +20,7 @@ expression_places (number p) = p ∷ []
 expression_places (constant c p) = p ∷ []
 expression_places (question_named p q) = p ∷ []
 expression_places (question_numbered p q) = p ∷ []
-expression_places (rule_named_lem p q) = p ∷ []
+expression_places (rule_named p q) = p ∷ []
 expression_places (negation p e) = expression_places e ++ p ∷ []
 expression_places (binary o p l r) = expression_places l ++ (expression_places r ++ p ∷ [])
 

@@ -17,7 +17,7 @@ use Rattle.grammar.specs.Positions.{oneof_head, oneof_flags, condition_expressio
 use Rattle.grammar.specs.Positions.{default_value, step_value, option_text, option_value, option_flags, head_name, head_number, head_prompt, head_help}
 use Rattle.grammar.specs.Positions.{name_word, questionid_number}
 use Rattle.grammar.specs.Flags.{flags, size_in, display_in}
-use Rattle.answers.specs.Expression.{Expression, number, constant, question_named, question_numbered, rule_named_lem, negation, binary, constant_code}
+use Rattle.answers.specs.Expression.{Expression, number, constant, question_named, question_numbered, rule_named, negation, binary, constant_code}
 use Rattle.answers.specs.Expression.{operator_code, expression}
 
 -- A row, and the marks of what later stages name in it:
@@ -51,13 +51,13 @@ rules_in (leaf t f) = rules_in f
 rules_in (node A i c f) = when (eqb A <rule>) 1 + rules_in c + rules_in f
 
 -- the value of the number at a place
-module _ (number_at_lem : ℕ → ℕ) where
+module _ (number_at : ℕ → ℕ) where
   -- the n-th tree is a number: its place, its value
   abbrev pub numeral_at : ℕ → Trees → ℕ
   numeral_at n f = place_at 0 (child n f)
 
   abbrev pub value : ℕ → Trees → ℕ
-  value n f = number_at_lem (numeral_at n f)
+  value n f = number_at (numeral_at n f)
 
   -- the n-th tree is a STR: STRING_TOKEN ( N )
   abbrev pub string : ℕ → Trees → ℕ
@@ -204,11 +204,11 @@ module _ (number_at_lem : ℕ → ℕ) where
   operand parent code a place at = record { row = row_with code parent place (column.A ≔ a ∷ []); own_at = at; limit_at = 0; default_at = 0 }
 
   abbrev pub expression_rows : ℕ → Expression → List Draft
-  expression_rows parent (number p) = operand parent code.NUMBER (number_at_lem p) p 0 ∷ []
+  expression_rows parent (number p) = operand parent code.NUMBER (number_at p) p 0 ∷ []
   expression_rows parent (constant c p) = operand parent (constant_code c) 0 p 0 ∷ []
   expression_rows parent (question_named p q) = operand parent code.QUESTION_REF 0 p (mark q) ∷ []
-  expression_rows parent (question_numbered p q) = operand parent code.QUESTION_REF (number_at_lem q) p (mark q) ∷ []
-  expression_rows parent (rule_named_lem p q) = operand parent code.RULE_REF 0 p (mark q) ∷ []
+  expression_rows parent (question_numbered p q) = operand parent code.QUESTION_REF (number_at q) p (mark q) ∷ []
+  expression_rows parent (rule_named p q) = operand parent code.RULE_REF 0 p (mark q) ∷ []
   expression_rows parent (negation p e) = expression_rows parent e ++ operand parent code.NOT 0 p 0 ∷ []
   expression_rows parent (binary o p l r) = expression_rows parent l ++ (expression_rows parent r ++ operand parent (operator_code o) 0 p 0 ∷ [])
 

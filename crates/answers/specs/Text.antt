@@ -13,7 +13,7 @@ use Rattle.grammar.specs.Parts.{child, place_at}
 use Rattle.rows.specs.Sizes.{size_of, display_of}
 use Rattle.grammar.specs.Flags.{FlagWord, flag_words, set_in, size_word, display_word}
 use Rattle.grammar.specs.Positions.{condition_expression, rule_expression}
-use Rattle.answers.specs.Expression.{Expression, number, constant, question_named, question_numbered, rule_named_lem, negation, binary, level, operator_class, constant_class, expression}
+use Rattle.answers.specs.Expression.{Expression, number, constant, question_named, question_numbered, rule_named, negation, binary, level, operator_class, constant_class, expression}
 
 -- ---- words
 
@@ -221,7 +221,7 @@ module _ (row_at : ℕ → List ℕ) where
   printed n (constant c p) = lexeme (constant_class c)
   printed n (question_named p q) = words "questionref (" ++ decimal (operand_number p) ++ words ")"
   printed n (question_numbered p q) = words "questionref (" ++ decimal (operand_number p) ++ words ")"
-  printed n (rule_named_lem p q) = words "ruleref (" ++ rule_name (operand_number p) ++ words ")"
+  printed n (rule_named p q) = words "ruleref (" ++ rule_name (operand_number p) ++ words ")"
   printed n (negation p e) = words "NOT" ++ printed 9 e
   printed n (binary o p l r) = grouped (ltb (level o) n) (printed (level o) l ++ lexeme (operator_class o) ++ printed (suc (level o)) r)
 

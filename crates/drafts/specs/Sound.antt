@@ -22,16 +22,16 @@ pub record SoundRow (d : Draft) : Type 0 where
   pub limit_mark : d.limit_at < HALF
   pub default_mark : d.default_at < HALF
   pub place : cell column.PLACE d < HALF
-  pub name_mark_lem : cell column.NAME d < MARKS
+  pub name_mark : cell column.NAME d < MARKS
   -- a form has a number; a question has one exactly where one is written
   pub form : is code.FORM d ≡ true → is_number (cell column.OWN d) ≡ true
-  pub form_mark_lem : is code.FORM d ≡ true → 0 < d.own_at
+  pub form_mark : is code.FORM d ≡ true → 0 < d.own_at
   pub question : asks d ≡ true → cell column.OWN d < number_limit
-  pub question_mark_lem : asks d ≡ true → ltb 0 (cell column.OWN d) ≡ ltb 0 d.own_at
+  pub question_mark : asks d ≡ true → ltb 0 (cell column.OWN d) ≡ ltb 0 d.own_at
   -- what a goto, a numeric or an option and a reference name is written; a ruleref names no number
   pub limit_written : (is code.GOTO d || is code.NUMERIC d || is code.OPTION d) ≡ true → 0 < d.limit_at
   pub reference : (is code.QUESTION_REF d || is code.RULE_REF d) ≡ true → 0 < d.own_at
-  pub rule_name_lem : is code.RULE_REF d ≡ true → cell column.A d ≡ 0
+  pub rule_name : is code.RULE_REF d ≡ true → cell column.A d ≡ 0
   -- questions and rules declare names
   pub name : 0 < cell column.NAME d → (asks d || is code.RULE d) ≡ true
 

@@ -6,7 +6,7 @@ use mathlib.Core.Bool.{Bool, true, false, not, cond, ◌||◌, and-false, or-fal
 use mathlib.Core.List.{List, [], ◌∷◌, map}
 use native.Mathlib.Omega.{arith}
 use lib.Dec.{eqb}
-use Rattle.lexemes.specs.Classes.{«|», «INTERACTIVE», READ_ONLY_lem, RESET_REQUIRED_lem}
+use Rattle.lexemes.specs.Classes.{«|», «INTERACTIVE», READ_ONLY, RESET_REQUIRED}
 use Rattle.rows.specs.Sizes.{size_and_display}
 use Rattle.ll1.specs.Trees.{Token, token, Trees, leaves}
 use Rattle.ll1.specs.ParseTable.{member}
@@ -40,9 +40,9 @@ module _ (get : Words → Bool) (j : ℕ) (step : (w : Words) (k m : ℕ) → ge
 bits_joined : (ts : List Token) → bits_of (joined no_words ts) ≡ total flag_words (map class_of ts)
 bits_joined ts =
     rw (
-      flag_joined (λ w. w.readonly) READ_ONLY_lem (λ w k m. refl) no_words ts,
+      flag_joined (λ w. w.readonly) READ_ONLY (λ w k m. refl) no_words ts,
       flag_joined (λ w. w.interactive) «INTERACTIVE» (λ w k m. refl) no_words ts,
-      flag_joined (λ w. w.reset) RESET_REQUIRED_lem (λ w k m. refl) no_words ts,
+      flag_joined (λ w. w.reset) RESET_REQUIRED (λ w k m. refl) no_words ts,
     ) (omega arith)
 
 -- ---- a size and a display: the first word of its sort

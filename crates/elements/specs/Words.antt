@@ -1,7 +1,7 @@
 -- The flag words that stand in a list (document 01, FL), with the size and display that it names (document 02, W-204).
 -- Assumes nothing.
 use Rattle.std.specs.Prelude.{ℕ, ◌+◌, ◌*◌, Bool, false, cond, ◌&&◌, ◌||◌, List, eqb}
-use Rattle.lexemes.specs.Classes.{«INTERACTIVE», READ_ONLY_lem, RESET_REQUIRED_lem}
+use Rattle.lexemes.specs.Classes.{«INTERACTIVE», READ_ONLY, RESET_REQUIRED}
 use Rattle.rows.specs.Flags as flag
 use Rattle.rows.specs.Sizes.{NO_SIZE, UINT_DEC, size_and_display}
 use Rattle.ll1.specs.ParseTable.{member}
@@ -36,9 +36,9 @@ repeats w k = w.size.named && member k (classes_of size_words) || w.display.name
 abbrev pub with_word : Words → ℕ → ℕ → Words
 with_word w k m =
     record {
-      readonly = w.readonly || eqb k READ_ONLY_lem;
+      readonly = w.readonly || eqb k READ_ONLY;
       interactive = w.interactive || eqb k «INTERACTIVE»;
-      reset = w.reset || eqb k RESET_REQUIRED_lem;
+      reset = w.reset || eqb k RESET_REQUIRED;
       size = choose w.size size_words k;
       display = choose w.display display_words k;
       second = mark_or w.second (when (repeats w k) m);

@@ -41,11 +41,11 @@ draft_among [] other c parent place k = other parent place k
 draft_among (j starts draft ∷ l) other c parent place k = elim (eqb c j) [ true ↦ draft parent place k | false ↦ draft_among l other c parent place k ]
 
 -- the value of the number at a place
-module _ (number_at_lem : ℕ → ℕ) where
+module _ (number_at : ℕ → ℕ) where
   -- the value of the number at a mark, 0 for none
   unfoldable pub marked_value : ℕ → ℕ
   marked_value zero = 0
-  marked_value (suc p) = number_at_lem p
+  marked_value (suc p) = number_at p
 
   -- a numeric's step by its mark: "An absent step is now 1; a written 0 stays 0"
   unfoldable pub marked_step : ℕ → ℕ
@@ -138,11 +138,11 @@ module _ (number_at_lem : ℕ → ℕ) where
 
   -- N
   abbrev pub number_draft : ℕ → ℕ → (ℕ → ℕ) → Draft
-  number_draft parent place k = operand number_at_lem parent code.NUMBER (marked_value (k 0)) place 0
+  number_draft parent place k = operand number_at parent code.NUMBER (marked_value (k 0)) place 0
 
   -- questionref ( NAME or N ): the name or 0, the number or 0
   abbrev pub question_ref_draft : ℕ → ℕ → (ℕ → ℕ) → Draft
-  question_ref_draft parent place k = operand number_at_lem parent code.QUESTION_REF (marked_value (k 1)) place (cond (eqb (k 0) 0) (k 1) (k 0))
+  question_ref_draft parent place k = operand number_at parent code.QUESTION_REF (marked_value (k 1)) place (cond (eqb (k 0) 0) (k 1) (k 0))
 
   -- the statements and operands by the word that each starts with
   abbrev pub phrase_rows : List Start

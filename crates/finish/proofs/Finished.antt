@@ -100,7 +100,7 @@ module _ (s : List ℕ) (all ns : List Draft) (written : (k : ℕ) → any (bear
       let none : refers s (with_cell column.OWN v d) ≡ false = rw (question_ref, rule_ref) in
       record {
         fits = fits_with d v (sound_fits u);
-        rule_name_lem = λ y. absurd (true≢false (sym y ∙ rule_ref));
+        rule_name = λ y. absurd (true≢false (sym y ∙ rule_ref));
         named = λ y. absurd (true≢false (sym y ∙ none));
         numbered = λ y. absurd (true≢false (sym y ∙ none));
         once = λ y. absurd (true≢false (sym y ∙ rule_ref));
@@ -119,7 +119,7 @@ module _ (s : List ℕ) (all ns : List Draft) (written : (k : ℕ) → any (bear
   other_refers {d} u f =
       record {
         fits = sound_fits u;
-        rule_name_lem = u.rule_name_lem;
+        rule_name = u.rule_name;
         named = u.reference;
         numbered = λ y z. written (cell column.A d) ∙ any_same (bears writes (cell column.A d)) (finds s all d) (finds_numbered s all d (no_rule z (is code.RULE_REF d) refl) z) all ∙ f y;
         once = λ y. once (place_of d.own_at);
@@ -127,7 +127,7 @@ module _ (s : List ℕ) (all ns : List Draft) (written : (k : ℕ) → any (bear
       }
     where
       no_rule : (cell column.A d ≡ 0 → ⊥) → (b : Bool) → is code.RULE_REF d ≡ b → is code.RULE_REF d ≡ false
-      no_rule z true r = absurd (z (u.rule_name_lem r))
+      no_rule z true r = absurd (z (u.rule_name r))
       no_rule z false r = r
 
   all_refer : {ds : List Draft} → AllSound ds → (own : List ℕ) (before : List Draft) → faults_after (λ b e. in_vain s all e) before ds ≡ [] → AllRefer s ns (with_numbers own ds)

@@ -70,7 +70,7 @@ own_alike s p q h (d ∷ ds) = rw (h d, own_alike s p q h ds)
 
 pub record Refers (s : List ℕ) (ns : List Draft) (d : Draft) : Type 0 where
   pub fits : FitsCells d
-  pub rule_name_lem : is code.RULE_REF d ≡ true → cell column.A d ≡ 0
+  pub rule_name : is code.RULE_REF d ≡ true → cell column.A d ≡ 0
   pub named : refers s d ≡ true → 0 < d.own_at
   pub numbered : refers s d ≡ true → (cell column.A d ≡ 0 → ⊥) → any (bears writes (cell column.A d)) ns ≡ true
   pub once : is code.RULE_REF d ≡ true → Once (rule_named s (place_of d.own_at)) ns
@@ -129,7 +129,7 @@ module _ (s es t : List ℕ) (ns : List Draft)
             ∙ own_same s (bears writes (cell column.A d)) (cell column.A d) (λ e f. eqb-true _ _ (and_yes (writes e) _ f).1) ns (v.numbered y (eqb-false _ _ z)))
           where
             no_rule : (b : Bool) → rule ≡ b → rule ≡ false
-            no_rule true r = absurd (eqb-false _ _ z (v.rule_name_lem r))
+            no_rule true r = absurd (eqb-false _ _ z (v.rule_name r))
             no_rule false r = r
 
     -- the settled draft's cells

@@ -94,7 +94,7 @@ bears_with {d} s q v h k = go (eqb (cell column.OWN d) 0) refl
   where
     go : (b : Bool) → eqb (cell column.OWN d) 0 ≡ b → bears writes k (with_cell column.OWN v d) ≡ bears writes k d
     go true e =
-        let unwritten : ltb 0 d.own_at ≡ false = sym (s.question_mark_lem q) ∙ ap (ltb 0) (eqb-true (cell column.OWN d) 0 e) in
+        let unwritten : ltb 0 d.own_at ≡ false = sym (s.question_mark q) ∙ ap (ltb 0) (eqb-true (cell column.OWN d) 0 e) in
         rw (other_column d v column.CODE (λ f. omega arith), q, unwritten)
     go false e = rw (h (eqb-false (cell column.OWN d) 0 e), set-get_or d.row column.OWN 0)
 

@@ -48,7 +48,7 @@ module _ (rows : List (List ℕ)) where
 
   -- it is a ruleref, and stands in a rule
   pub record InRule (i a : ℕ) : Type 0 where
-    pub is_reference_lem : column_of rows column.CODE i ≡ code.RULE_REF
+    pub is_reference : column_of rows column.CODE i ≡ code.RULE_REF
     pub is_rule_lem : column_of rows column.CODE (column_of rows column.PARENT i) ≡ code.RULE
     pub numbered : column_of rows column.OWN (column_of rows column.PARENT i) ≡ a
 
@@ -61,7 +61,7 @@ module _ (rows : List (List ℕ)) where
           (t : Bool) → eqb (column_of rows column.CODE i) code.RULE_REF ≡ t
           → (u : Bool) → eqb (column_of rows column.CODE (column_of rows column.PARENT i)) code.RULE ≡ u
           → cond (t && u) (column_of rows column.OWN (column_of rows column.PARENT i)) 0 ≡ a → InRule i a
-      go true t true u z = record { is_reference_lem = eqb-true _ _ t; is_rule_lem = eqb-true _ _ u; numbered = z }
+      go true t true u z = record { is_reference = eqb-true _ _ t; is_rule = eqb-true _ _ u; numbered = z }
       go true t false u z = absurd (let l = rule_range a h in omega arith)
       go false t u v z = absurd (let l = rule_range a h in omega arith)
 
@@ -105,15 +105,15 @@ module _ (s : List ℕ) (tree : Trees) (derives : Derives (source_tokens s) tree
         let round = in_rule rs i (rw step.1 at (and_yes (is_rule (rule_round rs (get_or rs i []))) _ step.0).0) step.1 in
         let k = column_of rs column.PARENT i in
         let here : i < count s tree = omega (arith, u.1, finished_count s (drafts s tree)) in
-        let own = of_its_form s tree derives depths found i here round.is_reference_lem in
+        let own = of_its_form s tree derives depths found i here round.is_reference in
         let same : v.row ≡ k =
-        one_rule v.row k (inside v.row v.is_rule_lem) (inside k round.is_rule_lem) v.is_rule_lem round.is_rule_lem (v.numbered ∙ sym round.numbered) in
-        let rule = rule_round_lem s tree derives depths found i here round.is_reference_lem round.is_rule_lem in
+        one_rule v.row k (inside v.row v.is_rule) (inside k round.is_rule) v.is_rule round.is_rule (v.numbered ∙ sym round.numbered) in
+        let rule = rule_round_lem s tree derives depths found i here round.is_reference round.is_rule in
         let one : own.form ≡ form = stands_once rule (rw same at v.stands) in
         record {
           row = own.rule;
           inside = own.inside;
-          is_rule_lem = own.is_rule_lem;
+          is_rule = own.is_rule;
           numbered = own.number ∙ step.2;
           stands = rw one at own.rule_stands;
         }

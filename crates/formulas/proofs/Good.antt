@@ -12,7 +12,7 @@ use Rattle.ll1.specs.Trees.{token, Trees, nil, leaf, nonterminal, depth}
 use Rattle.ll1.proofs.Basics.{same}
 use Rattle.grammar.specs.Rules.{<large>}
 use Rattle.grammar.specs.Grammar.{rules}
-use Rattle.answers.specs.Expression.{Operator, operator_class, Constant, true', false', zero', one', ones', undefined', constant_class, Expression, number, constant, question_numbered, rule_named_lem, negation, binary, nothing, operator, atom, spelled}
+use Rattle.answers.specs.Expression.{Operator, operator_class, Constant, true', false', zero', one', ones', undefined', constant_class, Expression, number, constant, question_numbered, rule_named, negation, binary, nothing, operator, atom, spelled}
 use Rattle.formulas.specs.Shapes.{Lexed, sign, decimal, Shape, s_nil, s_leaf, flat, lexed, read_sign, read_decimal, read_rule, Over, over_nil, over_leaf, over_node}
 use Rattle.formulas.specs.Fitted.{Fitted, f_nil, f_leaf, f_node}
 use Rattle.formulas.proofs.Fitted.{fine}
@@ -69,7 +69,7 @@ module _ (t : List ℕ) where
     where
       by : {T : Trees} → Over t T (rule_under q) → Atom t 10 (f_rule q) T
       by (over_leaf {p = p₀} read_sign (over_leaf read_sign (over_leaf {p = p} (read_rule h w) (over_leaf read_sign over_nil)))) =
-          record { expr = rule_named_lem p₀ p; rel = rel_rule h w; is = λ left. refl }
+          record { expr = rule_named p₀ p; rel = rel_rule h w; is = λ left. refl }
 
   -- ---- NOT and parentheses
 

@@ -15,7 +15,7 @@ use Rattle.grammar.specs.Rules.{<expression>, <atom>, <large>, <name_or_number>}
 use Rattle.grammar.specs.Grammar.{rules}
 use Rattle.grammar.specs.Derivation.{too_deep}
 use Rattle.grammar.specs.Parts.{chosen, place_at}
-use Rattle.answers.specs.Expression.{Operator, operator_class, Constant, true', false', zero', one', ones', undefined', constant_class, Expression, number, constant, rule_named_lem, negation, binary, nothing, joined, asked, atom, spelled}
+use Rattle.answers.specs.Expression.{Operator, operator_class, Constant, true', false', zero', one', ones', undefined', constant_class, Expression, number, constant, rule_named, negation, binary, nothing, joined, asked, atom, spelled}
 use Rattle.formulas.specs.Fitted.{Fitted, f_nil, f_leaf, f_node}
 use Rattle.formulas.proofs.Fitted.{not_deep}
 use Rattle.formulas.specs.Formula.{Formula, f_number, f_constant, f_question, f_rule, f_not, f_binary, formula, tight, inward, nest}
@@ -183,7 +183,7 @@ module _ (look : ℕ → List ℕ) where
 
   rule_node : {d g : ℕ} {c : Trees} → Every (depth d g) (terminal class.«ruleref» ∷ terminal class.open_paren ∷ terminal class.NAME ∷ terminal class.close_paren ∷ []) c → Level d g 0 <atom> 10 c
   rule_node {d} {g} (e_leaf {p = p} u (e_leaf v (e_leaf {p = q} w (e_leaf y e_nil)))) =
-      record { expr = rule_named_lem p q; is = λ left. refl; deep = omega (arith, (not_deep d g u).1); conditions = (not_deep d g u).0 }
+      record { expr = rule_named p q; is = λ left. refl; deep = omega (arith, (not_deep d g u).1); conditions = (not_deep d g u).0 }
 
   number_node : {d g : ℕ} {c : Trees} → Every (depth d g) (nonterminal <large> ∷ []) c → Level d g 0 <atom> 8 c
   number_node (e_node {c = c} p e_nil) =

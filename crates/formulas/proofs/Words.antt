@@ -10,7 +10,7 @@ use borrow.Author.Tests.{ltb-true, ltb-false, le-leb, lt-leb}
 use Rattle.lexemes.specs.Lexemes.{signs, reserved, lexemes}
 use Rattle.lexemes.specs.Classes as class
 use Rattle.answers.specs.Expression.{Operator, or, and, bit_or, bit_and, equal, not_equal, less, less_equal, greater, greater_equal, shift_left, shift_right, add, subtract, multiply, divide, modulo, operator_class, level}
-use Rattle.answers.specs.Expression.{Expression, number, constant, question_named, question_numbered, rule_named_lem, negation, binary}
+use Rattle.answers.specs.Expression.{Expression, number, constant, question_named, question_numbered, rule_named, negation, binary}
 use Rattle.answers.specs.Text.{words, lexeme, grouped, printed}
 use Rattle.formulas.specs.Shapes.{Lexed, sign, word}
 use Rattle.formulas.specs.Formula.{formula, tight}
@@ -56,7 +56,7 @@ module _ (look : ℕ → List ℕ) where
   printed_words (constant c p) n h = refl
   printed_words (question_named p q) n h = refl
   printed_words (question_numbered p q) n h = refl
-  printed_words (rule_named_lem p q) n h = refl
+  printed_words (rule_named p q) n h = refl
   printed_words (negation p e) n h = ap (λ ws. words "NOT" ++ ws) (printed_words e 9 (omega arith))
   printed_words (binary o p l r) n h =
       let x = print (suc (tight o)) (formula look l) in

@@ -2,7 +2,7 @@
 -- Assumes nothing.
 use Rattle.std.specs.Prelude.{List, Bool, true, false, ℕ, suc, max, leb}
 use Rattle.answers.specs.Expression.{Operator, or, and, bit_or, bit_and, equal, not_equal, less, less_equal, greater, greater_equal, shift_left, shift_right, add, subtract, multiply, divide, modulo}
-use Rattle.answers.specs.Expression.{Constant, Expression, number, constant, question_named, question_numbered, rule_named_lem, negation, binary}
+use Rattle.answers.specs.Expression.{Constant, Expression, number, constant, question_named, question_numbered, rule_named, negation, binary}
 use Rattle.answers.specs.Text.{operand_number}
 
 -- ---- expressions by their values
@@ -21,7 +21,7 @@ module _ (look : ℕ → List ℕ) where
   formula (constant c p) = f_constant c
   formula (question_named p q) = f_question (operand_number look p)
   formula (question_numbered p q) = f_question (operand_number look p)
-  formula (rule_named_lem p q) = f_rule (operand_number look p)
+  formula (rule_named p q) = f_rule (operand_number look p)
   formula (negation p e) = f_not (formula e)
   formula (binary o p l r) = f_binary o (formula l) (formula r)
 

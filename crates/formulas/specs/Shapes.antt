@@ -13,7 +13,7 @@ use Rattle.answers.specs.Text.{Word, decimal_digits, hex_digits}
 
 -- a sign or reserved word of a class; a decimal number; so many hex digits; the name of a rule
 pub data Lexed : Type 0 where
-  sign decimal rule_name_lem : ℕ → Lexed
+  sign decimal rule_name : ℕ → Lexed
   hex : (width value : ℕ) → Lexed
 
 -- R and the rule's number
@@ -23,21 +23,21 @@ rule_word n = 82 ∷ decimal_digits (suc n) n []
 abbrev pub word : Lexed → Word
 word (sign k) = get_or lexemes k []
 word (decimal v) = decimal_digits (suc v) v []
-word (rule_name_lem n) = rule_word n
+word (rule_name n) = rule_word n
 word (hex w v) = bytes "0x" ++ hex_digits w v
 
 -- the token of a word, with its value for a place
 abbrev pub token_of : Lexed → Token
 token_of (sign k) = token k 0
 token_of (decimal v) = token DECIMAL v
-token_of (rule_name_lem n) = token NAME n
+token_of (rule_name n) = token NAME n
 token_of (hex w v) = token HEX v
 
 -- what can be read back
 abbrev pub Valid : Lexed → Type 0
 Valid (sign k) = k < NAME
 Valid (decimal v) = v < 2 ^ 64
-Valid (rule_name_lem n) = n < 2 ^ 64
+Valid (rule_name n) = n < 2 ^ 64
 Valid (hex w v) = (0 < w) × (w ≤ 8) × (v < 16 ^ w)
 
 pub data AllValid : List Lexed → Type 0 where
@@ -72,7 +72,7 @@ spelling x = map word (lexed x)
 pub data Read (t : List ℕ) : (k p : ℕ) → Lexed → Type 0 where
   read_sign : {k p : ℕ} → Read t k p (sign k)
   read_decimal : {p v : ℕ} → value_at t p ≡ FitsWord v → Read t DECIMAL p (decimal v)
-  read_rule : {p n : ℕ} → value_at t p ≡ FitsWord n → words.word (drop p t) ≡ rule_word n → Read t NAME p (rule_name_lem n)
+  read_rule : {p n : ℕ} → value_at t p ≡ FitsWord n → words.word (drop p t) ≡ rule_word n → Read t NAME p (rule_name n)
   read_hex : {p w v : ℕ} → value_at t p ≡ FitsWord v → digits_at t p ≡ w → Read t HEX p (hex w v)
 
 -- the tokens are these words

@@ -6,8 +6,8 @@ use Rattle.values.specs.declared.Value.TheVariants.{Fits as FitsWord}
 use Rattle.values.specs.Numbers.{value_at}
 use Rattle.lexemes.specs.Words as words
 use Rattle.grammar.specs.Rules.{<atom>, <large>, <id>, <name_or_number>}
-use Rattle.answers.specs.Expression.{Operator, operator_class, Constant, constant_class, Expression, number, constant, question_numbered, rule_named_lem, negation, binary}
-use Rattle.formulas.specs.Shapes.{sign, decimal, rule_name_lem, rule_word, Shape, s_nil, s_leaf, s_node}
+use Rattle.answers.specs.Expression.{Operator, operator_class, Constant, constant_class, Expression, number, constant, question_numbered, rule_named, negation, binary}
+use Rattle.formulas.specs.Shapes.{sign, decimal, rule_name, rule_word, Shape, s_nil, s_leaf, s_node}
 use Rattle.formulas.specs.Formula.{Formula, f_number, f_constant, f_question, f_rule, f_not, f_binary, tight}
 use Rattle.formulas.specs.Levels.{alternative, constant_alternative, lv, tl}
 
@@ -42,7 +42,7 @@ abbrev pub question_under : ℕ → Shape
 question_under q = s_leaf (sign class.«questionref») (s_leaf (sign class.open_paren) (s_node <name_or_number> 1 (numeral_shape <id> q s_nil) (s_leaf (sign class.close_paren) s_nil)))
 
 abbrev pub rule_under : ℕ → Shape
-rule_under q = s_leaf (sign class.«ruleref») (s_leaf (sign class.open_paren) (s_leaf (rule_name_lem q) (s_leaf (sign class.close_paren) s_nil)))
+rule_under q = s_leaf (sign class.«ruleref») (s_leaf (sign class.open_paren) (s_leaf (rule_name q) (s_leaf (sign class.close_paren) s_nil)))
 
 abbrev mutual
   pub tree : Formula → ℕ → Shape → Shape
@@ -68,6 +68,6 @@ pub data Rel (t : List ℕ) : Expression → Formula → Type 0 where
   rel_number : {p v : ℕ} → value_at t p ≡ FitsWord v → Rel t (number p) (f_number v)
   rel_constant : {c : Constant} {p : ℕ} → Rel t (constant c p) (f_constant c)
   rel_question : {p q v : ℕ} → value_at t q ≡ FitsWord v → Rel t (question_numbered p q) (f_question v)
-  rel_rule : {p q n : ℕ} → value_at t q ≡ FitsWord n → words.word (drop q t) ≡ rule_word n → Rel t (rule_named_lem p q) (f_rule n)
+  rel_rule : {p q n : ℕ} → value_at t q ≡ FitsWord n → words.word (drop q t) ≡ rule_word n → Rel t (rule_named p q) (f_rule n)
   rel_not : {p : ℕ} {e : Expression} {x : Formula} → Rel t e x → Rel t (negation p e) (f_not x)
   rel_binary : {o : Operator} {p : ℕ} {l r : Expression} {x y : Formula} → Rel t l x → Rel t r y → Rel t (binary o p l r) (f_binary o x y)

@@ -8,7 +8,7 @@ use mathlib.Core.Bool.{Bool, true, false, ◌&&◌, ◌||◌}
 use Prim.Native.Nat.{ℕ, zero, suc, ◌+◌, ◌*◌}
 use lib.Dec.{eqb}
 use Rattle.lexemes.specs.Classes.{open_brace, close_brace, open_paren, close_paren, comma, semicolon, «=», «|», «&», «==», «!=», «<», «<=», «>», «>=», «<<», «>>», «+» as plus, «-» as minus, «*» as asterisk, «/» as slash, «%» as percent}
-use Rattle.lexemes.specs.Classes.{«AND», «DEFAULT», «FALSE», «INTERACTIVE», «NOT», «ONE», «ONES», «OR», READ_ONLY_lem, RESET_REQUIRED_lem, STRING_TOKEN, «TRUE», «UNDEFINED», «ZERO»}
+use Rattle.lexemes.specs.Classes.{«AND», «DEFAULT», «FALSE», «INTERACTIVE», «NOT», «ONE», «ONES», «OR», READ_ONLY, RESET_REQUIRED, STRING_TOKEN, «TRUE», «UNDEFINED», «ZERO»}
 use Rattle.lexemes.specs.Classes.{NUMERIC_SIZE_1, NUMERIC_SIZE_2, NUMERIC_SIZE_4, NUMERIC_SIZE_8, DISPLAY_INT_DEC, DISPLAY_UINT_DEC, DISPLAY_UINT_HEX}
 use Rattle.lexemes.specs.Classes.{«checkbox», «default», «disableif», «endcheckbox», «endform», «endformset», «endif», «endnumeric», «endoneof», «endrule», «flags», «form», «formid», «formset», «goto», «grayoutif», «guid», «help», «label», «maximum», «minimum», «name», «numeric», «oneof», «option», «prompt», «questionid», «questionref», «rule», «ruleref», «step», «subtitle», «suppressif», «text», «title», «value»}
 use Rattle.lexemes.specs.Classes.{NAME, HEX, DECIMAL, BAD}
@@ -90,7 +90,7 @@ worked =
     source (
     «checkbox» ∷ «name» ∷ «=» ∷ NAME ∷ comma ∷ head ++ comma ∷ «default» ∷ «=» ∷ «TRUE» ∷ comma ∷ «endcheckbox» ∷ semicolon ∷ []
     ++ «suppressif» ∷ «NOT» ∷ «questionref» ∷ open_paren ∷ NAME ∷ close_paren ∷ «OR» ∷ DECIMAL ∷ plus ∷ DECIMAL ∷ asterisk ∷ DECIMAL ∷ «==» ∷ DECIMAL ∷ semicolon ∷ []
-    ++ «numeric» ∷ «questionid» ∷ «=» ∷ DECIMAL ∷ comma ∷ head ++ comma ∷ «flags» ∷ «=» ∷ READ_ONLY_lem ∷ comma
+    ++ «numeric» ∷ «questionid» ∷ «=» ∷ DECIMAL ∷ comma ∷ head ++ comma ∷ «flags» ∷ «=» ∷ READ_ONLY ∷ comma
     ∷ «minimum» ∷ «=» ∷ DECIMAL ∷ comma ∷ «maximum» ∷ «=» ∷ DECIMAL ∷ comma ∷ «endnumeric» ∷ semicolon ∷ []
     ++ end)
 
@@ -102,16 +102,16 @@ everything guid_end_lem =
     ++ «subtitle» ∷ «text» ∷ «=» ∷ string ++ semicolon ∷ «text» ∷ «help» ∷ «=» ∷ string ++ comma ∷ «text» ∷ «=» ∷ string ++ semicolon ∷ «label» ∷ HEX ∷ semicolon ∷ []
     -- questions, with and without the parts in square brackets
     ++ «goto» ∷ DECIMAL ∷ comma ∷ «name» ∷ «=» ∷ NAME ∷ comma ∷ «questionid» ∷ «=» ∷ DECIMAL ∷ comma ∷ head
-    ++ comma ∷ «flags» ∷ «=» ∷ READ_ONLY_lem ∷ «|» ∷ «INTERACTIVE» ∷ «|» ∷ RESET_REQUIRED_lem ∷ semicolon ∷ «goto» ∷ HEX ∷ comma ∷ head ++ semicolon ∷ []
+    ++ comma ∷ «flags» ∷ «=» ∷ READ_ONLY ∷ «|» ∷ «INTERACTIVE» ∷ «|» ∷ RESET_REQUIRED ∷ semicolon ∷ «goto» ∷ HEX ∷ comma ∷ head ++ semicolon ∷ []
     ++ «checkbox» ∷ head ++ comma ∷ «flags» ∷ «=» ∷ «INTERACTIVE» ∷ comma ∷ «default» ∷ «=» ∷ «TRUE» ∷ comma ∷ «endcheckbox» ∷ semicolon ∷ []
     ++ «checkbox» ∷ head ++ comma ∷ «default» ∷ «=» ∷ «FALSE» ∷ comma ∷ «endcheckbox» ∷ semicolon ∷ «checkbox» ∷ head ++ comma ∷ «endcheckbox» ∷ semicolon ∷ []
     ++ «numeric» ∷ head ++ comma ∷ «minimum» ∷ «=» ∷ DECIMAL ∷ comma ∷ «maximum» ∷ «=» ∷ DECIMAL ∷ comma ∷ «endnumeric» ∷ semicolon ∷ []
-    ++ «numeric» ∷ head ++ comma ∷ «flags» ∷ «=» ∷ READ_ONLY_lem ∷ «|» ∷ «INTERACTIVE» ∷ «|» ∷ RESET_REQUIRED_lem ∷ «|» ∷ NUMERIC_SIZE_1
+    ++ «numeric» ∷ head ++ comma ∷ «flags» ∷ «=» ∷ READ_ONLY ∷ «|» ∷ «INTERACTIVE» ∷ «|» ∷ RESET_REQUIRED ∷ «|» ∷ NUMERIC_SIZE_1
     ∷ «|» ∷ NUMERIC_SIZE_2 ∷ «|» ∷ NUMERIC_SIZE_4 ∷ «|» ∷ NUMERIC_SIZE_8 ∷ «|» ∷ DISPLAY_INT_DEC ∷ «|» ∷ DISPLAY_UINT_DEC
     ∷ «|» ∷ DISPLAY_UINT_HEX ∷ comma
     ∷ «minimum» ∷ «=» ∷ HEX ∷ comma ∷ «maximum» ∷ «=» ∷ DECIMAL ∷ comma
     ∷ «step» ∷ «=» ∷ DECIMAL ∷ comma ∷ «default» ∷ «=» ∷ DECIMAL ∷ comma ∷ «endnumeric» ∷ semicolon ∷ []
-    ++ «oneof» ∷ head ++ comma ∷ «flags» ∷ «=» ∷ READ_ONLY_lem ∷ comma ∷ «option» ∷ «text» ∷ «=» ∷ string ++ comma ∷ «value» ∷ «=» ∷ DECIMAL ∷ comma ∷ «flags» ∷ «=» ∷ DECIMAL ∷ semicolon
+    ++ «oneof» ∷ head ++ comma ∷ «flags» ∷ «=» ∷ READ_ONLY ∷ comma ∷ «option» ∷ «text» ∷ «=» ∷ string ++ comma ∷ «value» ∷ «=» ∷ DECIMAL ∷ comma ∷ «flags» ∷ «=» ∷ DECIMAL ∷ semicolon
     ∷ «option» ∷ «text» ∷ «=» ∷ string ++ comma ∷ «value» ∷ «=» ∷ DECIMAL ∷ comma ∷ «flags» ∷ «=» ∷ HEX ∷ semicolon
     ∷ «option» ∷ «text» ∷ «=» ∷ string ++ comma ∷ «value» ∷ «=» ∷ DECIMAL ∷ comma ∷ «flags» ∷ «=» ∷ «DEFAULT» ∷ semicolon ∷ «endoneof» ∷ semicolon ∷ []
     -- conditions
@@ -162,7 +162,7 @@ cases =
     -- a goto has no comma after HEAD unless flags follow; the other questions have one
     ∷ source («goto» ∷ DECIMAL ∷ comma ∷ head ++ semicolon ∷ []) gives accepted
     ∷ source («goto» ∷ DECIMAL ∷ comma ∷ head ++ comma ∷ semicolon ∷ []) gives refused 3 (part + 17)
-    ∷ source («goto» ∷ DECIMAL ∷ comma ∷ head ++ comma ∷ «flags» ∷ «=» ∷ READ_ONLY_lem ∷ semicolon ∷ []) gives accepted
+    ∷ source («goto» ∷ DECIMAL ∷ comma ∷ head ++ comma ∷ «flags» ∷ «=» ∷ READ_ONLY ∷ semicolon ∷ []) gives accepted
     ∷ source («checkbox» ∷ head ++ «endcheckbox» ∷ semicolon ∷ []) gives refused 3 (part + 14)
     -- the parts in square brackets have their order
     ∷ source («checkbox» ∷ «questionid» ∷ «=» ∷ DECIMAL ∷ comma ∷ «name» ∷ «=» ∷ NAME ∷ comma ∷ head ++ comma ∷ «endcheckbox» ∷ semicolon ∷ []) gives refused 3 (part + 5)

@@ -44,13 +44,13 @@ classes_tested test (w ∷ ws) h = let f = both (test w.class) _ h in rw f.0 (cl
 -- ---- no second word
 
 -- one at most, of which one may stand before
-one_more_lem :
+one_more :
     (before this : Bool) (later : ℕ)
     → when before 1 + (when this 1 + later) ≤ 1 → (before && this ≡ false) × (when (before || this) 1 + later ≤ 1)
-one_more_lem true true later h = absurd (omega arith)
-one_more_lem true false later h = (refl, omega arith)
-one_more_lem false true later h = (refl, omega arith)
-one_more_lem false false later h = (refl, omega arith)
+one_more true true later h = absurd (omega arith)
+one_more true false later h = (refl, omega arith)
+one_more false true later h = (refl, omega arith)
+one_more false false later h = (refl, omega arith)
 
 -- tokens with one size word and one display word at most have no second one
 pub no_second :
@@ -60,6 +60,6 @@ no_second sized shown [] h g = refl
 no_second sized shown (token k p ∷ ts) h g =
     let is_size = member k (classes_of size_words) in
     let is_display = member k (classes_of display_words) in
-    let a = one_more_lem sized is_size (count size_words (map class_of ts)) h in
-    let b = one_more_lem shown is_display (count display_words (map class_of ts)) g in
+    let a = one_more sized is_size (count size_words (map class_of ts)) h in
+    let b = one_more shown is_display (count display_words (map class_of ts)) g in
     rw (a.0, b.0) (no_second (sized || is_size) (shown || is_display) ts a.1 b.1)

@@ -2,7 +2,7 @@
 -- join a numeric's FL (document 02, W-204).
 -- Assumes nothing.
 use Rattle.std.specs.Prelude.{ℕ, ◌+◌, List, [], ◌∷◌, ◌++◌, map, Bool, false, cond, ◌&&◌, ◌||◌, eqb}
-use Rattle.lexemes.specs.Classes.{«INTERACTIVE», READ_ONLY_lem, RESET_REQUIRED_lem}
+use Rattle.lexemes.specs.Classes.{«INTERACTIVE», READ_ONLY, RESET_REQUIRED}
 use Rattle.lexemes.specs.Classes.{NUMERIC_SIZE_1, NUMERIC_SIZE_2, NUMERIC_SIZE_4, NUMERIC_SIZE_8}
 use Rattle.lexemes.specs.Classes.{DISPLAY_INT_DEC, DISPLAY_UINT_DEC, DISPLAY_UINT_HEX}
 use Rattle.rows.specs.Flags as flag
@@ -22,9 +22,9 @@ flag_word k v = record { class = k; value = v }
 -- the words of FL, in its order
 abbrev pub flag_words : List FlagWord
 flag_words =
-    flag_word READ_ONLY_lem flag.READ_ONLY
+    flag_word READ_ONLY flag.READ_ONLY
     ∷ flag_word «INTERACTIVE» flag.INTERACTIVE
-    ∷ flag_word RESET_REQUIRED_lem flag.RESET_REQUIRED
+    ∷ flag_word RESET_REQUIRED flag.RESET_REQUIRED
     ∷ []
 
 -- the classes of the tokens of trees, from left to right

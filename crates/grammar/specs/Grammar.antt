@@ -5,7 +5,7 @@ use Rattle.std.specs.Prelude.{List, [], ◌∷◌, map}
 use Rattle.lexemes.specs.Classes.{open_brace, close_brace, open_paren, close_paren, comma, semicolon, «=»}
 use Rattle.lexemes.specs.Classes.{«|», «&», «==», «!=», «<», «<=», «>», «>=», «<<», «>>», «+», «-», «*», «/», «%»}
 use Rattle.lexemes.specs.Classes.{«AND», «DEFAULT», «FALSE», «INTERACTIVE», «NOT», «ONE», «ONES», «OR»}
-use Rattle.lexemes.specs.Classes.{READ_ONLY_lem, RESET_REQUIRED_lem, STRING_TOKEN, «TRUE», «UNDEFINED», «ZERO»}
+use Rattle.lexemes.specs.Classes.{READ_ONLY, RESET_REQUIRED, STRING_TOKEN, «TRUE», «UNDEFINED», «ZERO»}
 use Rattle.lexemes.specs.Classes.{NUMERIC_SIZE_1, NUMERIC_SIZE_2, NUMERIC_SIZE_4, NUMERIC_SIZE_8}
 use Rattle.lexemes.specs.Classes.{DISPLAY_INT_DEC, DISPLAY_UINT_DEC, DISPLAY_UINT_HEX}
 use Rattle.lexemes.specs.Classes.{«checkbox», «default», «disableif», «endcheckbox», «endform», «endformset», «endif», «endnumeric», «endoneof»}
@@ -101,7 +101,7 @@ productions =
     -- FL: one or more of `READ_ONLY` (1), `INTERACTIVE` (4), `RESET_REQUIRED` (16) with `|` between
     ∷ <fl> ::= one (r <flag> ∷ r <flag>* ∷ [])
     ∷ <flag>* ::= star <flag>* (t «|» ∷ r <flag> ∷ [])
-    ∷ <flag> ::= choice (READ_ONLY_lem ∷ «INTERACTIVE» ∷ RESET_REQUIRED_lem ∷ [])
+    ∷ <flag> ::= choice (READ_ONLY ∷ «INTERACTIVE» ∷ RESET_REQUIRED ∷ [])
     -- "Expressions, loosest level first, each grouping to the left: `OR`;
     ∷ <or> ::= one (r <and> ∷ r <or>* ∷ [])
     ∷ <or>* ::= operators <or>* <and> («OR» ∷ [])
@@ -155,7 +155,7 @@ productions =
     ∷ <numeric_flags>? ::= optional (t «flags» ∷ t «=» ∷ r <numeric_fl> ∷ t comma ∷ [])
     ∷ <numeric_fl> ::= one (r <numeric_flag> ∷ r <numeric_flag>* ∷ [])
     ∷ <numeric_flag>* ::= star <numeric_flag>* (t «|» ∷ r <numeric_flag> ∷ [])
-    ∷ <numeric_flag> ::= choice (READ_ONLY_lem ∷ «INTERACTIVE» ∷ RESET_REQUIRED_lem
+    ∷ <numeric_flag> ::= choice (READ_ONLY ∷ «INTERACTIVE» ∷ RESET_REQUIRED
     ∷ NUMERIC_SIZE_1 ∷ NUMERIC_SIZE_2 ∷ NUMERIC_SIZE_4 ∷ NUMERIC_SIZE_8
     ∷ DISPLAY_INT_DEC ∷ DISPLAY_UINT_DEC ∷ DISPLAY_UINT_HEX ∷ [])
     ∷ <numeric_value> ::= numeral

@@ -5,7 +5,7 @@ use Rattle.std.specs.Prelude.{List, [], ◌∷◌, map, ℕ}
 use Rattle.lexemes.specs.Classes.{open_brace, close_brace, open_paren, close_paren, comma, semicolon}
 use Rattle.lexemes.specs.Classes.{«|», «&», «==», «!=», «<», «<=», «>», «>=», «<<», «>>», «+», «-», «*», «/», «%»}
 use Rattle.lexemes.specs.Classes.{«AND», «DEFAULT», «FALSE», «INTERACTIVE», «NOT», «ONE», «ONES», «OR»}
-use Rattle.lexemes.specs.Classes.{READ_ONLY_lem, RESET_REQUIRED_lem, STRING_TOKEN, «TRUE», «UNDEFINED», «ZERO»}
+use Rattle.lexemes.specs.Classes.{READ_ONLY, RESET_REQUIRED, STRING_TOKEN, «TRUE», «UNDEFINED», «ZERO»}
 use Rattle.lexemes.specs.Classes.{NUMERIC_SIZE_1, NUMERIC_SIZE_2, NUMERIC_SIZE_4, NUMERIC_SIZE_8}
 use Rattle.lexemes.specs.Classes.{DISPLAY_INT_DEC, DISPLAY_UINT_DEC, DISPLAY_UINT_HEX}
 use Rattle.lexemes.specs.Classes.{«checkbox», «default», «disableif», «endcheckbox», «endform», «endformset», «endif», «endnumeric», «endoneof»}
@@ -23,12 +23,12 @@ items = «subtitle» ∷ «text» ∷ «label» ∷ «goto» ∷ «checkbox» �
 abbrev numbers : List ℕ
 numbers = DECIMAL ∷ HEX ∷ []
 
-abbrev flag_words_lem : List ℕ
-flag_words_lem = READ_ONLY_lem ∷ «INTERACTIVE» ∷ RESET_REQUIRED_lem ∷ []
+abbrev flag_words : List ℕ
+flag_words = READ_ONLY ∷ «INTERACTIVE» ∷ RESET_REQUIRED ∷ []
 
-abbrev numeric_words_lem : List ℕ
-numeric_words_lem =
-    READ_ONLY_lem ∷ «INTERACTIVE» ∷ RESET_REQUIRED_lem ∷ NUMERIC_SIZE_1 ∷ NUMERIC_SIZE_2 ∷ NUMERIC_SIZE_4 ∷ NUMERIC_SIZE_8
+abbrev numeric_words : List ℕ
+numeric_words =
+    READ_ONLY ∷ «INTERACTIVE» ∷ RESET_REQUIRED ∷ NUMERIC_SIZE_1 ∷ NUMERIC_SIZE_2 ∷ NUMERIC_SIZE_4 ∷ NUMERIC_SIZE_8
     ∷ DISPLAY_INT_DEC ∷ DISPLAY_UINT_DEC ∷ DISPLAY_UINT_HEX ∷ []
 
 -- what an atom, and so an expression, starts with
@@ -130,11 +130,11 @@ lookahead =
     -- <questionid>?
     ∷ entry ([] ∷ («questionid» ∷ []) ∷ []) («prompt» ∷ []) 0 0
     -- <fl>
-    ∷ entry (flag_words_lem ∷ []) (comma ∷ semicolon ∷ []) 1 0
+    ∷ entry (flag_words ∷ []) (comma ∷ semicolon ∷ []) 1 0
     -- <flag>*
     ∷ entry ([] ∷ («|» ∷ []) ∷ []) (comma ∷ semicolon ∷ []) 0 0
     -- <flag>
-    ∷ entry (singles flag_words_lem) («|» ∷ comma ∷ semicolon ∷ []) 0 0
+    ∷ entry (singles flag_words) («|» ∷ comma ∷ semicolon ∷ []) 0 0
     -- <or>, <or>*
     ∷ entry (atoms ∷ []) after_or 10 0
     ∷ entry ([] ∷ («OR» ∷ []) ∷ []) after_or 0 0
@@ -170,11 +170,11 @@ lookahead =
     -- <numeric-flags>?
     ∷ entry ([] ∷ («flags» ∷ []) ∷ []) («minimum» ∷ []) 0 0
     -- <numeric-fl>
-    ∷ entry (numeric_words_lem ∷ []) (comma ∷ []) 1 0
+    ∷ entry (numeric_words ∷ []) (comma ∷ []) 1 0
     -- <numeric-flag>*
     ∷ entry ([] ∷ («|» ∷ []) ∷ []) (comma ∷ []) 0 0
     -- <numeric-flag>
-    ∷ entry (singles numeric_words_lem) («|» ∷ comma ∷ []) 0 0
+    ∷ entry (singles numeric_words) («|» ∷ comma ∷ []) 0 0
     -- <numeric-value>
     ∷ entry (singles numbers) (comma ∷ []) 0 0
     ∷ []

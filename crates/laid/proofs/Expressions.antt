@@ -11,7 +11,7 @@ use Rattle.rows.specs.Codes as code
 use Rattle.rows.specs.Codes.{is_expression, expressions}
 use Rattle.rows.specs.Columns as column
 use Rattle.rows.specs.Table.{cell_at}
-use Rattle.answers.specs.Expression.{Expression, number, constant, question_named, question_numbered, rule_named_lem, negation, binary}
+use Rattle.answers.specs.Expression.{Expression, number, constant, question_named, question_numbered, rule_named, negation, binary}
 use Rattle.answers.specs.Expression.{Operator, operator_code, or, and, bit_or, bit_and, equal, not_equal, less, less_equal, greater, greater_equal}
 use Rattle.answers.specs.Expression.{shift_left, shift_right, add, subtract, multiply, divide, modulo}
 use Rattle.answers.specs.Expression.{Constant, constant_code, true', false', zero', one', ones', undefined'}
@@ -133,7 +133,7 @@ module _ (t : List ℕ) (found : ℕ → List ℕ) where
     spans_held (constant c p) i h = rw (one_end i) (spans_constant c (first_held t found h).code_is)
     spans_held (question_named p a) i h = rw (one_end i) (spans_question_named (first_held t found h).code_is (operand_found h))
     spans_held (question_numbered p a) i h = rw (one_end i) (spans_question_numbered (first_held t found h).code_is (operand_found h))
-    spans_held (rule_named_lem p a) i h = rw (one_end i) (spans_rule_named (first_held t found h).code_is (operand_found h))
+    spans_held (rule_named p a) i h = rw (one_end i) (spans_rule_named (first_held t found h).code_is (operand_found h))
     spans_held (negation p e) i h =
         let parts = held_parts t found (rows e) h in
         rw (negation_end p e i) (spans_negation (spans_held e i parts.0) (first_held t found parts.1).code_is)
@@ -147,7 +147,7 @@ module _ (t : List ℕ) (found : ℕ → List ℕ) where
     parts_held (constant c p) i h = rw (one_end i) (part_one h refl (constant_code_lem c))
     parts_held (question_named p a) i h = rw (one_end i) (part_one h refl question_code)
     parts_held (question_numbered p a) i h = rw (one_end i) (part_one h refl question_code)
-    parts_held (rule_named_lem p a) i h = rw (one_end i) (part_one h refl rule_code)
+    parts_held (rule_named p a) i h = rw (one_end i) (part_one h refl rule_code)
     parts_held (negation p e) i h =
         let parts = held_parts t found (rows e) h in
         rw (negation_end p e i) (parts_then i _ _ (parts_held e i parts.0) (part_one parts.1 refl not_code))

@@ -4,7 +4,7 @@ use Rattle.std.specs.Prelude.{ℕ, suc, ◌≡◌, List, get_or}
 use Rattle.rows.specs.Codes as code
 use Rattle.rows.specs.Columns as column
 use Rattle.rows.specs.Table.{cell_at}
-use Rattle.answers.specs.Expression.{Expression, number, constant, question_named, question_numbered, rule_named_lem, negation, binary}
+use Rattle.answers.specs.Expression.{Expression, number, constant, question_named, question_numbered, rule_named, negation, binary}
 use Rattle.answers.specs.Expression.{Operator, operator_code, Constant, constant_code}
 
 -- The rows of the table t from i to before j are those of an expression. `found` gives the row of a place; of a number and of a reference the row
@@ -26,7 +26,7 @@ pub data Spans (found : ℕ → List ℕ) (t : List ℕ) : ℕ → Expression �
   spans_rule_named :
       {i p q : ℕ}
       → cell_at t i column.CODE ≡ code.RULE_REF → cell_at t i column.A ≡ get_or (found p) column.A 0
-      → Spans found t i (rule_named_lem p q) (suc i)
+      → Spans found t i (rule_named p q) (suc i)
   spans_negation : {i j p : ℕ} {e : Expression} → Spans found t i e j → cell_at t j column.CODE ≡ code.NOT → Spans found t i (negation p e) (suc j)
   spans_binary :
       {i j k p : ℕ} {l r : Expression} (o : Operator)

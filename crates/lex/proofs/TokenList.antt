@@ -115,7 +115,7 @@ module _ (s : List ℕ) where
 -- where there is none, no token is bad
 pub none_bad : (ts : List Token) → bad_among ts ≡ Nothing → (t : Token) → Memᴰ t ts → t.class ≡ BAD → ⊥
 unfolding bad_among
-none_bad [] e t m h = Memᴰ.not_nil m
+none_bad [] e t m h = Memᴰ.not-nil m
 none_bad (u ∷ ts) e t m h =
     either (eqb u.class BAD)
     (λ b. let found : At u.start ≡ Nothing = rw b at e in let never : ◌≡◌ {A = ℕ} 0 1 = cc in omega arith)

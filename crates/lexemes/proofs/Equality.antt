@@ -61,7 +61,7 @@ place_at_lem w (v ∷ vs) h =
 -- it is below the length exactly where the text stands in the list
 pub member_place : (w : List ℕ) (ws : List (List ℕ)) → Memᴰ w ws → place_among w ws < length ws
 unfolding place_among
-member_place w [] m = absurd (Memᴰ.not_nil m)
+member_place w [] m = absurd (Memᴰ.not-nil m)
 member_place w (v ∷ vs) m =
     either (same w v)
     (λ e. rw e (omega arith))

@@ -124,11 +124,11 @@ abbrev pub «ONES» : ℕ
 abbrev pub «OR» : ℕ
 «OR» = 36
 
-abbrev pub READ_ONLY_lem : ℕ
-READ_ONLY_lem = 37
+abbrev pub READ_ONLY : ℕ
+READ_ONLY = 37
 
-abbrev pub RESET_REQUIRED_lem : ℕ
-RESET_REQUIRED_lem = 38
+abbrev pub RESET_REQUIRED : ℕ
+RESET_REQUIRED = 38
 
 abbrev pub STRING_TOKEN : ℕ
 STRING_TOKEN = 39

@@ -297,14 +297,14 @@ module _ (too_deep : Depth → Bool) (G : Grammar) (P : ParseTable) (L : Ll1 G P
   says (refuses u v k p q b n) = no_text_starts_so u v k p q (starts b) (λ w tree d. n w (leaf_depths G tree) (from_derivation G d))
   says (is_too_deep u v w k p q r g h) =
       let t = to_derivation G r in
-      let s : StartsTooDeep too_deep G u (token k p) = record { rest = w; tree = t.tree; derives = t.derives; allowed = rw t.deep g; too_deep_lem = rw t.deep h } in
+      let s : StartsTooDeep too_deep G u (token k p) = record { rest = w; tree = t.tree; derives = t.derives; allowed = rw t.deep g; is_too_deep = rw t.deep h } in
       opens_too_many u v k p q s
 
   said : {ts : List Token} {v : Verdict} → Says too_deep G ts v → Answer start ts v
   said (is_text a) = accepts (from_derivation G a.derives) a.allowed
   said (is_unfinished b n) = wants_more (begin b) (λ ds r. let t = to_derivation G r in n t.tree t.derives)
   said (no_text_starts_so u v k p q b n) = refuses u v k p q (begin b) (λ w ds r. let t = to_derivation G r in n w t.tree t.derives)
-  said (opens_too_many u v k p q s) = is_too_deep u v s.rest k p q (from_derivation G s.derives) s.allowed s.too_deep_lem
+  said (opens_too_many u v k p q s) = is_too_deep u v s.rest k p q (from_derivation G s.derives) s.allowed s.is_too_deep
 
   -- the verdict says what is so
   pub verdict_right : (ts : List Token) → Says too_deep G ts (verdict too_deep G P ts)

@@ -45,7 +45,7 @@ module _ (too_deep : Depth → Bool) (G : Grammar) where
     pub tree : Trees
     pub derives : Derivation G (u ++ t ∷ rest) tree
     pub allowed : Allowed too_deep (take (length u) (leaf_depths G tree))
-    pub too_deep_lem : too_deep (get_or (leaf_depths G tree) (length u) (depth 0 0)) ≡ true
+    pub is_too_deep : too_deep (get_or (leaf_depths G tree) (length u) (depth 0 0)) ≡ true
 
   pub data Says (ts : List Token) : Verdict → Type 0 where
     -- there is a derivation, nowhere too deep

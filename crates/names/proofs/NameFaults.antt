@@ -106,7 +106,7 @@ module _ (s : List ℕ) where
         let n : ℕ = cell column.NAME d in
         rw (
           tag_kept (tag_of row_key) l i n,
-          mark_kept (tag_of row_key) l i n u.name_mark_lem,
+          mark_kept (tag_of row_key) l i n u.name_mark,
           lt-ltb 0 n (omega (arith, y)),
           lt-ltb 0 m (omega (arith, z)),
           sort_rule u y rule,

@@ -89,8 +89,8 @@ module _ (s : List ℕ) where
           noted = h.noted ∙ rw (g.noted, g.faults_are f, noting_append c.noted g.faults_own (faults s f));
         }
 
-    pub one_more_lem : One x v c c₁ → Many α w c₁ c₂ → Many (x ∷ α) (v + w) c c₂
-    one_more_lem o m =
+    pub one_more : One x v c c₁ → Many α w c₁ c₂ → Many (x ∷ α) (v + w) c c₂
+    one_more o m =
         record {
           skip = m.skip;
           verdict = λ σ d z. o.verdict (due_all d α ++ σ) d z ∙ m.verdict σ d z;

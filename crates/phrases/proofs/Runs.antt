@@ -15,7 +15,7 @@ use Rattle.elements.proofs.Alternatives.{Optional}
 use Rattle.elements.proofs.Spelling.{Stands, by_word, by_kind, by_flags, by_numeric_flags, widths, Spells, spells_nil, spells_one, spells_rule, spells_maybe}
 use Rattle.phrases.specs.Phrase.{Reader, step_of, phrase_from}
 use Rattle.phrases.proofs.ReadingLaws.{reads_group, leaves_group, step_off, step_on, left_out, handed_on}
-use Rattle.phrases.proofs.Pieces.{One, Many, many_none, one_more_lem, one_off}
+use Rattle.phrases.proofs.Pieces.{One, Many, many_none, one_more, one_off}
 use Rattle.phrases.proofs.Nodes.{without, one_single, one_there, one_absent}
 use Rattle.phrases.proofs.Taking.{Element, word, kind}
 use Rattle.phrases.proofs.FlagLists.{flag_list_lem, numeric_flag_list}
@@ -66,17 +66,17 @@ module _ (s : List ℕ) {A k i j l : ℕ} {β α : List Symbol} {p o : List ℕ}
   maybe_ran w g inner after c z (no h) e =
       let b = after c z in
       let m = b.few in
-      record { to = b.to; same = group_off s p c k i j l z h ∙ b.same; most = 1 + b.most; few = omega arith; many = one_more_lem s (one_off s (r A) 1 c z h) b.many }
+      record { to = b.to; same = group_off s p c k i j l z h ∙ b.same; most = 1 + b.most; few = omega arith; many = one_more s (one_off s (r A) 1 c z h) b.many }
   maybe_ran w g inner after c z (yes h) (yes e) =
       let a = inner c z in
       let b = after a.to a.many.skip in
       let m = a.few in
       let n = b.few in
-      record { to = b.to; same = group_there s p c k i j l z h e ∙ (a.same ∙ b.same); most = a.most + b.most; few = omega arith; many = one_more_lem s (one_there s w h e a.many) b.many }
+      record { to = b.to; same = group_there s p c k i j l z h e ∙ (a.same ∙ b.same); most = a.most + b.most; few = omega arith; many = one_more s (one_there s w h e a.many) b.many }
   maybe_ran w g inner after c z (yes h) (no e) =
       let b = after (without c) refl in
       let m = b.few in
-      record { to = b.to; same = group_absent s p c k i j l z h e ∙ b.same; most = 1 + b.most; few = omega arith; many = one_more_lem s (one_absent s c w h e) b.many }
+      record { to = b.to; same = group_absent s p c k i j l z h e ∙ b.same; most = 1 + b.most; few = omega arith; many = one_more s (one_absent s c w h e) b.many }
 
 pub ran : (s : List ℕ) {α : List Symbol} {p q : List ℕ} → Spells α p q → (c : Reader) → c.skip ≡ 0 → Ran s α p q c
 unfolding phrase_from
@@ -85,12 +85,12 @@ ran s (spells_one {e = e} {p = p} el sp) c z =
     let o = one_step s c e (get_or p 0 0) z (element el) in
     let b = ran s sp (step_of s c e (get_or p 0 0)) o.skip in
     let m = b.few in
-    record { to = b.to; same = b.same; most = width e + b.most; few = omega arith; many = one_more_lem s o b.many }
+    record { to = b.to; same = b.same; most = width e + b.most; few = omega arith; many = one_more s o b.many }
 ran s (spells_rule w sp₁ sp₂) c z =
     let a = ran s sp₁ c z in
     let b = ran s sp₂ a.to a.many.skip in
     let m = a.few in
     let n = b.few in
-    record { to = b.to; same = a.same ∙ b.same; most = a.most + b.most; few = omega arith; many = one_more_lem s (one_single s w a.many) b.many }
+    record { to = b.to; same = a.same ∙ b.same; most = a.most + b.most; few = omega arith; many = one_more s (one_single s w a.many) b.many }
 ran s (spells_maybe {k = k} w g sp₁ sp₂) c z =
     maybe_ran s w g (λ c' z'. ran s sp₁ c' z') (λ c' z'. ran s sp₂ c' z') c z (ℕ_discrete c.no 0) (ℕ_discrete c.token.class k)

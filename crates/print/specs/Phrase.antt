@@ -26,8 +26,8 @@ after_bar any there k = cond there (cond any (lexeme «|») [] ++ lexeme k) []
 
 -- a numeric's FL: the words of its flags, then its size and its display (document 02, W-204)
 unfoldable pub numeric_flags : ℕ → ℕ → List Word
-numeric_flags set size_and_display_lem =
-    flag_list (set_in set flag_words ++ (size_word (size_of size_and_display_lem) ∷ display_word (display_of size_and_display_lem) ∷ []))
+numeric_flags set size_and_display =
+    flag_list (set_in set flag_words ++ (size_word (size_of size_and_display) ∷ display_word (display_of size_and_display) ∷ []))
 
 -- an option's flags: `0` or `DEFAULT`
 unfoldable pub option_flags : ℕ → List Word
@@ -50,11 +50,11 @@ element_words e v =
 -- one that starts with the word is printed: no name of a question, its number always, a step always, a default where it is written, flags where
 -- it has them
 abbrev pub shown_by : Bool → Bool → ℕ → Bool
-shown_by has_flags_lem has_default_lem w =
+shown_by flags_shown default_shown w =
     cond (eqb w «name») false
     (cond (eqb w «questionid») true
     (cond (eqb w «step») true
-    (cond (eqb w «default») has_default_lem has_flags_lem)))
+    (cond (eqb w «default») default_shown flags_shown)))
 
 -- some word stands in a list
 abbrev pub filled : List FlagWord → Bool

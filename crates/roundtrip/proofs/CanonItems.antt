@@ -18,7 +18,7 @@ use Rattle.sound.proofs.Lists.{All, more}
 use Rattle.formulas.specs.Shapes.{Shape, s_nil, flat, spelling, Over}
 use Rattle.formulas.specs.Fitted.{Fitted, f_nil}
 use Rattle.roundtrip.proofs.Phrases.{subtitle_under, text_under, label_under, goto_under, checkbox_under, numeric_under, option_under}
-use Rattle.roundtrip.proofs.PhraseWords.{subtitle_words, text_words, label_words, goto_words, checkbox_words, numeric_words_lem, option_words}
+use Rattle.roundtrip.proofs.PhraseWords.{subtitle_words, text_words, label_words, goto_words, checkbox_words, numeric_words, option_words}
 use Rattle.roundtrip.proofs.PhraseFits.{subtitle_fits, text_fits, label_fits, goto_fits, checkbox_fits, numeric_fits, option_fits}
 use Rattle.roundtrip.proofs.Matches.{subtitle_match, text_match, label_match, goto_match, checkbox_match, numeric_match, option_match}
 use Rattle.roundtrip.proofs.Core.{core, within, Told}
@@ -126,7 +126,7 @@ module _ (t : List ℕ) (look look' : ℕ → List ℕ) (source : ℕ → ℕ) w
         let s = head_of all in
         record {
           fits = numeric_fits u r;
-          spells = spelled numeric_under s (numeric_words_lem (row_of s));
+          spells = spelled numeric_under s (numeric_words (row_of s));
           over = λ T o.
               let z = single <item> 5 (numeric_under r) (numeric_fits u r f_nil) refl (numeric_match t look source parent c T s o) o in
               record { rows = z.rows; count = z.count; again = λ h. ap (λ ws. ws ++ []) (z.again h) };

@@ -18,7 +18,7 @@ use Rattle.ll1.proofs.Basics.{clash}
 use Rattle.grammar.specs.Source.{number_at}
 use Rattle.answers.specs.Expression.{Operator, or, and, bit_or, bit_and, equal, not_equal, less, less_equal, greater, greater_equal, shift_left, shift_right, add, subtract, multiply, divide, modulo, operator_code}
 use Rattle.answers.specs.Expression.{Constant, true', false', zero', one', ones', undefined', constant_code}
-use Rattle.answers.specs.Expression.{Expression, number, constant, question_named, question_numbered, rule_named_lem, negation, binary}
+use Rattle.answers.specs.Expression.{Expression, number, constant, question_named, question_numbered, rule_named, negation, binary}
 use Rattle.answers.specs.Rows.{Draft, row_with, operand, expression_rows}
 use Rattle.grammar.specs.Parts.{mark}
 use Rattle.answers.specs.Text.{operand_number}
@@ -153,7 +153,7 @@ module _ (t : List ℕ) (look : ℕ → List ℕ) (source : ℕ → ℕ) (at : �
   rows_match (constant c' p') (constant c p) rel_constant s = pair (dull_match (constant_code c) 0 0 p' p (constant_dull c) (first_of_lem s) (zero_held (constant_code c) p (constant_dull c) (first_of_lem s))) no_pairs
   rows_match (question_numbered p' q') (question_named p q) (rel_question h) s = pair (question_match 0 p q' p' q (first_of_lem s) (value_of t q' h)) no_pairs
   rows_match (question_numbered p' q') (question_numbered p q) (rel_question h) s = pair (question_match (source q) p q' p' q (first_of_lem s) (value_of t q' h)) no_pairs
-  rows_match (rule_named_lem p' q') (rule_named_lem p q) (rel_rule h w) s = let v = rule_value t q' h w in pair (rule_ref_match p q' p' q (first_of_lem s) v (w ∙ ap rule_word (sym v))) no_pairs
+  rows_match (rule_named p' q') (rule_named p q) (rel_rule h w) s = let v = rule_value t q' h w in pair (rule_ref_match p q' p' q (first_of_lem s) v (w ∙ ap rule_word (sym v))) no_pairs
   rows_match (negation p' x') (negation p x) (rel_not h) s =
       let u = all_parts_lem (expression_rows source at x) _ s in
       let d = dull_not code.NOT refl in

@@ -97,9 +97,9 @@ checkbox_words r =
     ap (λ l. words "checkbox" ++ head r ++ words "," ++ l) (
     flags_words flag_rules (row_flags r) (lexed (truth_default d v (ending class.«endcheckbox»))) ∙ truth_after (flags (words "flags =") (words ",") r) d v)
 
-pub numeric_words_lem : (r : List ℕ) → spelling (numeric_under r) ≡ numeric r
+pub numeric_words : (r : List ℕ) → spelling (numeric_under r) ≡ numeric r
 unfolding lexemes signs reserved
-numeric_words_lem r =
+numeric_words r =
     let d = has_flag flag.HAS_DEFAULT r in
     ap (λ l. words "numeric" ++ head r ++ words "," ++ l) (
     flags_words numeric_flag_rules (numeric_list r) (lexed (numbers_shape d r))

@@ -12,7 +12,7 @@ use Rattle.grammar.specs.Rules.{<guid>, <guid_end>, <eight>, <H8>, <H4>, <H2>, <
 use Rattle.grammar.specs.Flags.{FlagWord, flag_words, numeric_words, classes_of, set_in}
 use Rattle.grammar.proofs.Choices.{place_in}
 use Rattle.answers.specs.Text.{has_flag, numeric_list}
-use Rattle.formulas.specs.Shapes.{sign, hex, rule_name_lem, Shape, s_nil, s_leaf, s_node}
+use Rattle.formulas.specs.Shapes.{sign, hex, rule_name, Shape, s_nil, s_leaf, s_node}
 use Rattle.formulas.specs.Formula.{Formula}
 use Rattle.formulas.specs.Tree.{numeral_shape, tree}
 
@@ -190,7 +190,7 @@ option_under r = say class.«option» (say class.«text» (say class.«=» (stri
 
 -- rule NAME , expression endrule ;
 abbrev pub rule_under : List ℕ → Formula → Shape
-rule_under r e = say class.«rule» (s_leaf (rule_name_lem (cell column.OWN r)) (say class.comma (tree e 9 (ending class.«endrule»))))
+rule_under r e = say class.«rule» (s_leaf (rule_name (cell column.OWN r)) (say class.comma (tree e 9 (ending class.«endrule»))))
 
 -- form formid = N , title = STR ; and what follows
 abbrev pub form_under : List ℕ → Shape → Shape

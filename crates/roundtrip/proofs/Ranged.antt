@@ -23,7 +23,7 @@ use Rattle.grammar.specs.Ranges.{Range, free, between, bytes, digits, ranges, ra
 use Rattle.grammar.specs.Ranges.{out_of_range_here, out_of_range, seconds_here, second_words}
 use Rattle.grammar.proofs.FlagTotals.{count}
 use Rattle.grammar.proofs.SizeWords.{no_second}
-use Rattle.formulas.specs.Shapes.{sign, decimal, hex, rule_name_lem, Valid, AllValid, none_valid, more_valid, Shape, s_nil, s_leaf, s_node, flat, lexed, part, taken, read_sign, read_decimal, read_rule, read_hex, Over, over_nil, over_leaf, over_node}
+use Rattle.formulas.specs.Shapes.{sign, decimal, hex, rule_name, Valid, AllValid, none_valid, more_valid, Shape, s_nil, s_leaf, s_node, flat, lexed, part, taken, read_sign, read_decimal, read_rule, read_hex, Over, over_nil, over_leaf, over_node}
 use Rattle.formulas.proofs.Shapes.{valid_append, over_part, over_taken, over_classes}
 use Rattle.formulas.specs.Formula.{Formula, f_number, f_constant, f_question, f_rule, f_not, f_binary, tight}
 use Rattle.formulas.specs.Levels.{alternative, constant_alternative, lv, tl}
@@ -37,19 +37,19 @@ Keeps free x = Unit {0}
 Keeps (between low high) s_nil = ⊥
 Keeps (between low high) (s_leaf (sign k) x) = ⊥
 Keeps (between low high) (s_leaf (decimal v) x) = (low ≤ v) × (v ≤ high)
-Keeps (between low high) (s_leaf (rule_name_lem n) x) = ⊥
+Keeps (between low high) (s_leaf (rule_name n) x) = ⊥
 Keeps (between low high) (s_leaf (hex w v) x) = ⊥
 Keeps (between low high) (s_node A i c x) = ⊥
 Keeps (bytes n) s_nil = ⊥
 Keeps (bytes n) (s_leaf (sign k) x) = ⊥
 Keeps (bytes n) (s_leaf (decimal v) x) = v < modulus n
-Keeps (bytes n) (s_leaf (rule_name_lem m) x) = ⊥
+Keeps (bytes n) (s_leaf (rule_name m) x) = ⊥
 Keeps (bytes n) (s_leaf (hex w v) x) = ⊥
 Keeps (bytes n) (s_node A i c x) = ⊥
 Keeps (digits n) s_nil = ⊥
 Keeps (digits n) (s_leaf (sign k) x) = ⊥
 Keeps (digits n) (s_leaf (decimal v) x) = ⊥
-Keeps (digits n) (s_leaf (rule_name_lem m) x) = ⊥
+Keeps (digits n) (s_leaf (rule_name m) x) = ⊥
 Keeps (digits n) (s_leaf (hex w v) x) = w ≤ n
 Keeps (digits n) (s_node A i c x) = ⊥
 

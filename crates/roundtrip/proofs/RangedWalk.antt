@@ -26,7 +26,7 @@ use Rattle.grammar.specs.Ranges.{ranges, range_of}
 use Rattle.grammar.specs.Source.{held_value, number_at}
 use Rattle.grammar.specs.Parts.{child, chosen, place_at}
 use Rattle.grammar.specs.Flags.{classes, size_in}
-use Rattle.answers.specs.Expression.{Expression, number, constant, question_named, question_numbered, rule_named_lem, negation, binary, expression}
+use Rattle.answers.specs.Expression.{Expression, number, constant, question_named, question_numbered, rule_named, negation, binary, expression}
 use Rattle.answers.specs.Rows.{Draft, rules_in, drafts_of, expression_rows, item, rule_draft}
 use Rattle.answers.specs.Stages.{cell, is, asks}
 use Rattle.answers.specs.Text.{numeric_list}
@@ -78,7 +78,7 @@ module _ (s : List ℕ) (look : ℕ → List ℕ) where
   fine at (constant c p) h = tt
   fine at (question_named p q) (more h none) = let z = h.0 in omega (arith, ap (λ r. get_or r column.A 0) z.is_row, z.a_range refl)
   fine at (question_numbered p q) (more h none) = let z = h.0 in omega (arith, ap (λ r. get_or r column.A 0) z.is_row, z.a_range refl)
-  fine at (rule_named_lem p q) (more h none) = let z = h.0 in omega (arith, ap (λ r. get_or r column.A 0) z.is_row, z.a_range refl)
+  fine at (rule_named p q) (more h none) = let z = h.0 in omega (arith, ap (λ r. get_or r column.A 0) z.is_row, z.a_range refl)
   fine at (negation p e) h = fine at e (all_parts_lem (expression_rows source at e) _ h).0
   fine at (binary o p l r) h =
       let u = all_parts_lem (expression_rows source at l) _ h in

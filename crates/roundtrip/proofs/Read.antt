@@ -11,7 +11,7 @@ use Rattle.grammar.specs.Source.{source_tokens}
 use Rattle.answers.specs.Text.{text_of}
 use Rattle.printing.specs.Spelling.{a_lexeme, a_decimal, a_hex, a_name, Spelled, spelled_none, spelled_next, Stands, Standing, standing_none, standing_next}
 use Rattle.printing.proofs.Theorems.{words_stand, word_at, value_fits_at, hex_digits_at}
-use Rattle.formulas.specs.Shapes.{Lexed, sign, decimal, rule_name_lem, hex, word, token_of, Valid, AllValid, none_valid, more_valid, Read, read_sign, read_decimal, read_rule, read_hex, Reads, reads_none, reads_more}
+use Rattle.formulas.specs.Shapes.{Lexed, sign, decimal, rule_name, hex, word, token_of, Valid, AllValid, none_valid, more_valid, Read, read_sign, read_decimal, read_rule, read_hex, Reads, reads_none, reads_more}
 
 -- at most eight hex digits
 hex_small : (w n : ℕ) → w ≤ 8 → n < 16 ^ w → n < 2 ^ 64
@@ -35,14 +35,14 @@ spelled : (ls : List Lexed) → AllValid ls → Spelled (map word ls) (map token
 spelled [] none_valid = spelled_none
 spelled (sign k ∷ ls) (more_valid h v) = spelled_next (a_lexeme k h) (spelled ls v)
 spelled (decimal n ∷ ls) (more_valid h v) = spelled_next (a_decimal n) (spelled ls v)
-spelled (rule_name_lem n ∷ ls) (more_valid h v) = spelled_next (a_name n) (spelled ls v)
+spelled (rule_name n ∷ ls) (more_valid h v) = spelled_next (a_name n) (spelled ls v)
 spelled (hex w n ∷ ls) (more_valid h v) = spelled_next (rw (mod-eq_of_lt h.2) at (a_hex w n h.0)) (spelled ls v)
 
 module _ (t : List ℕ) where
   read_one : (l : Lexed) (k p v : ℕ) → Valid l → token k v ≡ token_of l → Stands t p (word l) → Read t k p l
   read_one (sign j) k p v h e st = let q : k ≡ j = cc in rw q read_sign
   read_one (decimal n) k p v h e st = let q : k ≡ DECIMAL = cc in rw q (read_decimal (value_fits_at st (a_decimal n) (omega arith) h))
-  read_one (rule_name_lem n) k p v h e st =
+  read_one (rule_name n) k p v h e st =
       let q : k ≡ NAME = cc in
       rw q (read_rule (value_fits_at st (a_name n) (omega arith) h) (word_at st (a_name n) (omega arith)))
   read_one (hex w n) k p v h e st =

@@ -16,7 +16,7 @@ use Rattle.answers.specs.Answer.{LONGEST}
 use Rattle.grammar.specs.Parts.{child, chosen, place_at}
 use Rattle.answers.specs.Expression.{Operator, or, and, bit_or, bit_and, equal, not_equal, less, less_equal, greater, greater_equal, shift_left, shift_right, add, subtract, multiply, divide, modulo, operator_class, operator_code, operators}
 use Rattle.answers.specs.Expression.{Constant, true', false', zero', one', ones', undefined', constant_code}
-use Rattle.answers.specs.Expression.{Expression, number, constant, question_named, question_numbered, rule_named_lem, negation, binary, Pending, nothing, operator, operator_among, joined, asked, atom, spelled, expression}
+use Rattle.answers.specs.Expression.{Expression, number, constant, question_named, question_numbered, rule_named, negation, binary, Pending, nothing, operator, operator_among, joined, asked, atom, spelled, expression}
 use Rattle.answers.specs.Rows.{operand, expression_rows}
 use Rattle.sound.proofs.Lists.{All, none, more, all_append, all_get_d}
 use Rattle.sound.proofs.Places.{Bounded, place_le, child_bounded}
@@ -29,7 +29,7 @@ Placed (number p) = p ≤ LONGEST
 Placed (constant c p) = p ≤ LONGEST
 Placed (question_named p q) = (p ≤ LONGEST) × (q ≤ LONGEST)
 Placed (question_numbered p q) = (p ≤ LONGEST) × (q ≤ LONGEST)
-Placed (rule_named_lem p q) = (p ≤ LONGEST) × (q ≤ LONGEST)
+Placed (rule_named p q) = (p ≤ LONGEST) × (q ≤ LONGEST)
 Placed (negation p e) = (p ≤ LONGEST) × Placed e
 Placed (binary o p l r) = (p ≤ LONGEST) × Placed l × Placed r
 
@@ -118,7 +118,7 @@ module _ (value : ℕ → ℕ) (parent : ℕ) where
   rows_other (question_named p q) h = more (reference_other value parent code.QUESTION_REF 0 p q refl (λ e. refl) h.0 h.1) none
   rows_other (question_numbered p q) h =
       more (reference_other value parent code.QUESTION_REF (value q) p q refl (λ e. clash cc) h.0 h.1) none
-  rows_other (rule_named_lem p q) h = more (reference_other value parent code.RULE_REF 0 p q refl (λ e. refl) h.0 h.1) none
+  rows_other (rule_named p q) h = more (reference_other value parent code.RULE_REF 0 p q refl (λ e. refl) h.0 h.1) none
   rows_other (negation p e) h = all_append (rows_other e h.1) (more (bare_operand code.NOT 0 p refl h.0) none)
   rows_other (binary o p l r) h =
       all_append (rows_other l h.1)

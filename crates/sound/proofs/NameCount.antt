@@ -20,7 +20,7 @@ use Rattle.grammar.specs.Parts.{child}
 use Rattle.grammar.proofs.Alternatives.{everywhere, at_alternative}
 use Rattle.grammar.proofs.SourceTokens.{tokens_few}
 use Rattle.answers.specs.Answer.{drafts}
-use Rattle.answers.specs.Expression.{Expression, number, constant, question_named, question_numbered, rule_named_lem, negation, binary, operator_code, expression}
+use Rattle.answers.specs.Expression.{Expression, number, constant, question_named, question_numbered, rule_named, negation, binary, operator_code, expression}
 use Rattle.answers.specs.Rows.{Draft, item, rule_draft, operand, condition, expression_rows, otherwise, own_rows, parent_in, rules_in, drafts_of}
 use Rattle.answers.specs.Stages.{cell}
 use Rattle.names.specs.Names.{names_in}
@@ -54,7 +54,7 @@ module _ (value : ℕ → ℕ) where
   expression_names parent (constant c p) = refl
   expression_names parent (question_named p q) = refl
   expression_names parent (question_numbered p q) = refl
-  expression_names parent (rule_named_lem p q) = refl
+  expression_names parent (rule_named p q) = refl
   expression_names parent (negation p e) = names_append (expression_rows value parent e) _ ∙ rw (expression_names parent e)
   expression_names parent (binary o p l r) =
       names_append (expression_rows value parent l) _

@@ -29,7 +29,7 @@ use Rattle.grammar.specs.Positions.{item_numeric, numeric_flags, numeric_step, n
 use Rattle.grammar.specs.Positions.{condition_expression, rule_expression}
 use Rattle.grammar.specs.Flags.{size_words, display_words, classes, flags, size_in, display_in}
 use Rattle.grammar.proofs.FlagTotals.{flags_le, first_tested}
-use Rattle.answers.specs.Expression.{Expression, number, constant, question_named, question_numbered, rule_named_lem, negation, binary}
+use Rattle.answers.specs.Expression.{Expression, number, constant, question_named, question_numbered, rule_named, negation, binary}
 use Rattle.answers.specs.Expression.{constant_code, operator_code, expression}
 use Rattle.answers.specs.Rows.{Draft, ABSENT_STEP, value, item, operand, expression_rows, condition, otherwise, own_rows}
 use Rattle.answers.specs.Stages as Stages
@@ -148,7 +148,7 @@ module _ (value : ℕ → ℕ) (parent : ℕ) where
       more (operand_passed (constant_code c) 0 p 0 (apart is_bare (constant_code c) code.NUMERIC (constant_bare c) refl)) none
   expression_passed (question_named p q) = more (operand_passed code.QUESTION_REF 0 p (mark q) refl) none
   expression_passed (question_numbered p q) = more (operand_passed code.QUESTION_REF (value q) p (mark q) refl) none
-  expression_passed (rule_named_lem p q) = more (operand_passed code.RULE_REF 0 p (mark q) refl) none
+  expression_passed (rule_named p q) = more (operand_passed code.RULE_REF 0 p (mark q) refl) none
   expression_passed (negation p e) = all_append (expression_passed e) (more (operand_passed code.NOT 0 p 0 refl) none)
   expression_passed (binary o p l r) =
       all_append (expression_passed l)

@@ -47,7 +47,7 @@ pub sound_row :
     → (is code.RULE_REF d ≡ true → cell column.A d ≡ 0)
     → (0 < cell column.NAME d → (asks d || is code.RULE d) ≡ true)
     → SoundRow d
-sound_row sized form question limited reference rule_name_lem name =
+sound_row sized form question limited reference rule_name name =
     record {
       whole = sized.whole;
       first = sized.first;
@@ -57,14 +57,14 @@ sound_row sized form question limited reference rule_name_lem name =
       limit_mark = sized.limit_mark;
       default_mark = sized.default_mark;
       place = sized.place;
-      name_mark_lem = sized.name_mark_lem;
+      name_mark = sized.name_mark;
       form = λ e. (form e).0;
-      form_mark_lem = λ e. (form e).1;
+      form_mark = λ e. (form e).1;
       question = λ e. (question e).0;
-      question_mark_lem = λ e. (question e).1;
+      question_mark = λ e. (question e).1;
       limit_written = limited;
       reference = reference;
-      rule_name_lem = rule_name_lem;
+      rule_name = rule_name;
       name = name;
     }
 

@@ -47,14 +47,14 @@ pub digits_none : (o : List ℕ) (end n : ℕ) → Digits o end n o end n
 digits_none o end n = record { later = []; written = before_none o end; left = refl }
 
 module _ {o o₁ o₂ : List ℕ} {end n at rest at' b : ℕ} (d : Digits o end n o₁ at rest) (e : at' ≡ at - 1) (f : o₂ ≡ set o₁ at' b) (g : b ≡ 48 + rest % 10) where
-  one_more_lem : PutsBefore o end (b ∷ d.later) o₂ at'
-  one_more_lem = then_before d.written (one_before e f)
+  one_more : PutsBefore o end (b ∷ d.later) o₂ at'
+  one_more = then_before d.written (one_before e f)
 
   pub digits_more : 10 ≤ rest → Digits o end n o₂ at' (rest / 10)
-  digits_more h = record { later = b ∷ d.later; written = one_more_lem; left = d.left ∙ digits_step rest d.later h ∙ rw g }
+  digits_more h = record { later = b ∷ d.later; written = one_more; left = d.left ∙ digits_step rest d.later h ∙ rw g }
 
   pub digits_all : rest < 10 → PutsBefore o end (decimal_digits (suc n) n []) o₂ at'
-  digits_all h = let q : b ≡ 48 + rest = omega arith in rw (d.left ∙ digits_last rest rest d.later h, ← q) one_more_lem
+  digits_all h = let q : b ≡ 48 + rest = omega arith in rw (d.left ∙ digits_last rest rest d.later h, ← q) one_more
 
 -- how many there are
 digits_length : (k m n : ℕ) (later : List ℕ) → n < 10 ^ suc k → length (decimal_digits m n later) ≤ suc k + length later

@@ -137,8 +137,8 @@ form_counts : (d : Draft) → SoundRow d → Counts (is code.FORM) form_number d
 form_counts d s = go (is code.FORM d) refl
   where
     go : (b : Bool) → is code.FORM d ≡ b → Counts (is code.FORM) form_number d
-    go true e = record { numbers = rw e (s.form e); own = λ f. rw f; written = s.form_mark_lem; no_number = λ f. absurd (true≢false (sym e ∙ f)) }
-    go false e = record { numbers = rw e; own = λ f. absurd (true≢false (sym f ∙ e)); written = s.form_mark_lem; no_number = λ f. rw f }
+    go true e = record { numbers = rw e (s.form e); own = λ f. rw f; written = s.form_mark; no_number = λ f. absurd (true≢false (sym e ∙ f)) }
+    go false e = record { numbers = rw e; own = λ f. absurd (true≢false (sym f ∙ e)); written = s.form_mark; no_number = λ f. rw f }
 
 -- stage 7 answers grammar's first fault; where there is none, its map then has the numbers of all forms
 pub forms_first : {ds : List Draft} → SoundRows ds → First (repeated_mark form_number empty_map ds) (repeated_forms ds)
@@ -159,12 +159,12 @@ question_counts d s = go (asks d) refl
     go : (b : Bool) → asks d ≡ b → Counts writes written_number d
     go true e =
         let own : is_number (cell column.OWN d) ≡ ltb 0 d.own_at =
-        rw (lt-ltb (cell column.OWN d) number_limit (s.question e)) (and-true (ltb 0 (cell column.OWN d)) ∙ s.question_mark_lem e) in
+        rw (lt-ltb (cell column.OWN d) number_limit (s.question e)) (and-true (ltb 0 (cell column.OWN d)) ∙ s.question_mark e) in
         record {
           numbers = rw e own;
           own = λ f. rw e;
           written = λ f. marked_written (asks d) (ltb 0 d.own_at) f refl;
-          no_number = λ f. rw e (none_written (cell column.OWN d) (s.question_mark_lem e ∙ (rw e at f)));
+          no_number = λ f. rw e (none_written (cell column.OWN d) (s.question_mark e ∙ (rw e at f)));
         }
       where
         none_written : (n : ℕ) → ltb 0 n ≡ false → n ≡ 0

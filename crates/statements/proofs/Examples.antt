@@ -11,7 +11,7 @@ use Rattle.answers.specs.Text.{Word, words, decimal_digits, opening}
 abbrev text_with : String → String → List Word
 text_with fl limits = words "numeric questionid = 1 , prompt = STRING_TOKEN ( 0 ) , help = STRING_TOKEN ( 0 ) , flags =" ++ words fl ++ words limits
 
--- of `numeric .., flags = DISPLAY_INT_DEC | RESET_REQUIRED_lem | NUMERIC_SIZE_1 | READ_ONLY_lem, minimum = 251, maximum = 5, endnumeric;`
+-- of `numeric .., flags = DISPLAY_INT_DEC | RESET_REQUIRED | NUMERIC_SIZE_1 | READ_ONLY, minimum = 251, maximum = 5, endnumeric;`
 with_others :
     opening (7 ∷ 1 ∷ 1 ∷ 0 ∷ 0 ∷ 17 ∷ 251 ∷ 5 ∷ 1 ∷ 0 ∷ 0 ∷ 140 ∷ 4 ∷ [])
     ≡ text_with "READ_ONLY | RESET_REQUIRED | NUMERIC_SIZE_1 | DISPLAY_INT_DEC" ", minimum = 251 , maximum = 5 , step = 1 , endnumeric ;"

@@ -188,9 +188,9 @@ module _ (r : List ℕ) where
   numeric_shape true = refl
   numeric_shape false = refl
 
-  pub numeric_words_lem : kind ≡ code.NUMERIC → phrase_words phrase.numeric_elements source.numeric_sources r ≡ text.numeric r
+  pub numeric_words : kind ≡ code.NUMERIC → phrase_words phrase.numeric_elements source.numeric_sources r ≡ text.numeric r
   unfolding phrase_words numeric_flags
-  numeric_words_lem e =
+  numeric_words e =
       let d = decimal (get_or r column.D 0) in
       ap (λ (k : ℕ). phrase_from (shown_by (has_flags k set) (has_default set)) (element_in source.numeric_sources r) phrase.numeric_elements 0 0) e
       ∙ numeric_shape (has_default set)
@@ -242,7 +242,7 @@ module _ (r : List ℕ) where
   checkbox_opens e = checkbox_words r e ∙ opens code.CHECKBOX e
 
   pub numeric_opens : kind r ≡ code.NUMERIC → phrase_words phrase.numeric_elements source.numeric_sources r ≡ opening r
-  numeric_opens e = numeric_words_lem r e ∙ opens code.NUMERIC e
+  numeric_opens e = numeric_words r e ∙ opens code.NUMERIC e
 
   pub one_of_opens : kind r ≡ code.ONE_OF → phrase_words phrase.one_of_open_elements source.one_of_sources r ≡ opening r
   one_of_opens e = one_of_words r e ∙ opens code.ONE_OF e

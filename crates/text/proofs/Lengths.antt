@@ -31,7 +31,7 @@ use Rattle.elements.specs.Kinds.{OPTION_FLAGS, TRUTH, FLAG_LIST, NUMERIC_FLAGS, 
 use Rattle.elements.specs.Symbols as phrase
 use Rattle.statements.proofs.Sources as source
 use Rattle.statements.proofs.StatementLaws.{form_words, rule_words, subtitle_words, text_words, label_words, form_set_words, option_words}
-use Rattle.statements.proofs.StatementLaws.{goto_words, checkbox_words, numeric_words_lem, one_of_words}
+use Rattle.statements.proofs.StatementLaws.{goto_words, checkbox_words, numeric_words, one_of_words}
 use Rattle.laid.specs.Spans.{Spans, spans_number, spans_constant, spans_question_named, spans_question_numbered, spans_rule_named}
 use Rattle.laid.specs.Spans.{spans_negation, spans_binary}
 use Rattle.laid.specs.Items.{Inner, Items}
@@ -242,7 +242,7 @@ opening_short r h =
                   (
                     λ e. phrase_small r phrase.checkbox_elements source.checkbox_sources h (omega arith) (text.checkbox r) (checkbox_words r e),
                     (
-                      λ e. phrase_small r phrase.numeric_elements source.numeric_sources h (omega arith) (text.numeric r) (numeric_words_lem r e),
+                      λ e. phrase_small r phrase.numeric_elements source.numeric_sources h (omega arith) (text.numeric r) (numeric_words r e),
                       (
                         λ e. phrase_small r phrase.one_of_open_elements source.one_of_sources h (omega arith) (text.one_of r) (one_of_words r e),
                         (

@@ -16,7 +16,7 @@ use Rattle.grammar.specs.Notation.{t, r, plain}
 use Rattle.grammar.specs.Lookahead.{lookahead}
 use Rattle.grammar.specs.Rules.{<atom>, <large>, <id>, <name_or_number>}
 use Rattle.grammar.specs.Parts.{place_at}
-use Rattle.answers.specs.Expression.{Expression, number, constant, question_named, question_numbered, rule_named_lem, Constant, true', false', zero', one', ones', undefined', constant_code, atom}
+use Rattle.answers.specs.Expression.{Expression, number, constant, question_named, question_numbered, rule_named, Constant, true', false', zero', one', ones', undefined', constant_code, atom}
 use Rattle.answers.specs.Rows.{Draft}
 use Rattle.elements.specs.Entries.{node_entries, entries}
 use Rattle.elements.specs.Symbols.{symbols_of, phrase_symbols, NUMBER, QUESTION_REF, RULE_REF}
@@ -107,7 +107,7 @@ module _ (s : List ℕ) (parent : ℕ) where
       {at n : ℕ} {c : Trees} {ds : List Draft} {l : ℕ}
       → Fits rules (symbols_of RULE_REF) c → Rowed s parent at n c ds l → OperandRows s parent at n (node <atom> 10 c nil) ds l
   unfolding symbols_of phrase_symbols kept_of phrase_row phrase_draft marked_value entries node_entries rows_for
-  rule_ref_node (fits_leaf {p = p} (fits_leaf (fits_leaf {p = q} (fits_leaf fits_nil)))) m = phrase_node (rule_named_lem p q) (λ e. refl) refl m
+  rule_ref_node (fits_leaf {p = p} (fits_leaf (fits_leaf {p = q} (fits_leaf fits_nil)))) m = phrase_node (rule_named p q) (λ e. refl) refl m
 
   -- ---- questionref ( NAME or N )
 

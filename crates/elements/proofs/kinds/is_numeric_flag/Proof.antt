@@ -1,6 +1,6 @@
 -- `elements::kinds::is_numeric_flag` meets its contract.
 use mathlib.Core.List.{[], ◌∷◌}
-use Rattle.lexemes.specs.Classes.{«INTERACTIVE», READ_ONLY_lem, RESET_REQUIRED_lem}
+use Rattle.lexemes.specs.Classes.{«INTERACTIVE», READ_ONLY, RESET_REQUIRED}
 use Rattle.lexemes.specs.Classes.{NUMERIC_SIZE_1, NUMERIC_SIZE_2, NUMERIC_SIZE_4, NUMERIC_SIZE_8}
 use Rattle.lexemes.specs.Classes.{DISPLAY_INT_DEC, DISPLAY_UINT_DEC, DISPLAY_UINT_HEX}
 use Rattle.elements.proofs.KindLaws.{one_of}
@@ -12,6 +12,6 @@ is_numeric_flag_spec =
     tie.close
     (tie.spec
     (λ c.
-    one_of c.args.class READ_ONLY_lem
-    («INTERACTIVE» ∷ RESET_REQUIRED_lem ∷ NUMERIC_SIZE_1 ∷ NUMERIC_SIZE_2 ∷ NUMERIC_SIZE_4 ∷ NUMERIC_SIZE_8
+    one_of c.args.class READ_ONLY
+    («INTERACTIVE» ∷ RESET_REQUIRED ∷ NUMERIC_SIZE_1 ∷ NUMERIC_SIZE_2 ∷ NUMERIC_SIZE_4 ∷ NUMERIC_SIZE_8
     ∷ DISPLAY_INT_DEC ∷ DISPLAY_UINT_DEC ∷ DISPLAY_UINT_HEX ∷ [])))

@@ -49,4 +49,4 @@ tested test l h A i a e t = implied (test A i) (free l a.symbols) (at_alternativ
 -- what states nothing has no statement in it, nor has an option
 pub no_statements : Under (λ A i. not (states A) || eqb A <option>) statements
 unfolding rules
-no_statements = tested _ _ refl
+no_statements = tested (λ A i. not (states A) || eqb A <option>) statements refl

@@ -87,8 +87,8 @@ steps_within rows =
 maps_all : {words : List ℕ} {l m : List Step} → Maps words l → Rules m → Maps (all_added words m) (l ++ m)
 unfolding all_added
 maps_all {l = l} v none = rw (append-nil l) v
-maps_all {l = l} v (more {s = s} {l = m} e h) =
-    rw (append_assoc l (s ∷ []) m) at (maps_all {l = l ++ s ∷ []} (maps_behind v s.from s.to refl e) h)
+maps_all {words = words} {l = l} v (more {s = s} {l = m} e h) =
+    rw (append_assoc l (s ∷ []) m) at (maps_all {words = added words s.from s.to} {l = l ++ s ∷ []} (maps_behind v s.from s.to refl e) h)
 
 pub steps_mapped : (rows : List (List ℕ)) → Maps (all_added empty_map (rule_steps rows)) (rule_steps rows)
 steps_mapped rows = maps_all {l = []} maps_empty (rules_among rows rows)

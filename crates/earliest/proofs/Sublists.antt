@@ -32,9 +32,9 @@ module _ {X : Type 0} where
 
   pub sublist_trans : {ps qs rs : List X} → Sublist ps qs → Sublist qs rs → Sublist ps rs
   sublist_trans u sublist_none = u
-  sublist_trans u (sublist_skip v) = sublist_skip (sublist_trans u v)
-  sublist_trans (sublist_skip u) (sublist_take v) = sublist_skip (sublist_trans u v)
-  sublist_trans (sublist_take u) (sublist_take v) = sublist_take (sublist_trans u v)
+  sublist_trans {ps = ps} u (sublist_skip v) = sublist_skip (sublist_trans {ps = ps} u v)
+  sublist_trans {ps = ps} (sublist_skip u) (sublist_take v) = sublist_skip (sublist_trans {ps = ps} u v)
+  sublist_trans (sublist_take {q = q} {ps = ps} u) (sublist_take {ps = ps'} {qs = qs} v) = sublist_take (sublist_trans {ps = ps} u v)
 
   -- whichever of two a test takes
   pub sublist_if : (b : Bool) {ps qs rs : List X} → (b ≡ true → Sublist ps rs) → (b ≡ false → Sublist qs rs) → Sublist (cond b ps qs) rs

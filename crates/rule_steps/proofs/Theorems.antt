@@ -8,7 +8,7 @@ use native.Mathlib.Omega.{arith}
 use borrow.Author.Tests.{eqb-true}
 use lib.Dec.{eqb}
 use Rattle.numbers.specs.Numbers.{empty_map}
-use Rattle.circles.specs.Circles.{is_rule, Step, leads, Within, Maps}
+use Rattle.circles.specs.Circles.{is_rule, Step, leads, Within, Maps, added}
 use Rattle.numbers.proofs.Ranges.{and_yes}
 use Rattle.circles.proofs.Reaching.{or_yes}
 use Rattle.circles.proofs.Steps.{rule_range, maps_empty, maps_behind}

@@ -54,14 +54,14 @@ pub returns-in-58 : goal.returns-in-58
 unfolding found operations sum
 returns-in-58 c =
     let s = c.args in
-    ap Number c.wrapping_add_u64.ensures ∙ numbers_at c.in-58.is s.a s.b
+    ap Number c.wrapping_add_u64.ensures.value ∙ numbers_at c.in-58.is s.a s.b
 
 pub returns-in-59 : goal.returns-in-59
 unfolding found operations
 returns-in-59 c =
     let s = c.args in
     let d = c.wrapping_sub_u64 in
-    ap Number (difference_is s.a s.b d.result (omega arith) (omega arith) d.ensures)
+    ap Number (difference_is s.a s.b d.result (omega arith) (omega arith) d.ensures.value)
     ∙ numbers_at c.in-59.is s.a s.b
 
 pub returns-in-60 : goal.returns-in-60

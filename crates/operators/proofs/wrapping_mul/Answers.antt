@@ -17,4 +17,4 @@ returns c =
     let args = c.args in
     let cross = c.wrapping_add_u64-cross in
     let all = c.wrapping_add_u64 in
-    product_by_halves args.a args.b cross.result all.result cross.ensures all.ensures
+    product_by_halves args.a args.b cross.result all.result cross.ensures.value all.ensures.value

@@ -1,4 +1,6 @@
 -- `circles::join_row` meets its contract: after j turns the first j words of row k are joined to row a.
+use mathlib.Core.Path.{ap}
+use mathlib.Core.Bool.{not}
 use native.Mathlib.Omega.{arith}
 use Rattle.circles.proofs.Rows.{joining_start, joining_next}
 use Rattle.circles.proofs.Turns.{row_tested, row_untested}
@@ -7,7 +9,7 @@ use Rattle.circles.proofs.join_row.Goals as goal
 pub returns-then-not-has : goal.returns-then-not-has
 returns-then-not-has c =
     let s = c in
-    row_untested s.args.map.now s.args.a s.args.k c.has.ensures c.if-not-has.true
+    row_untested s.args.map.now s.args.a s.args.k c.has.ensures (ap not c.if-not-has.true)
 
 pub loop-j-init : goal.loop-j-init
 loop-j-init c = joining_start _ _ _
@@ -21,4 +23,4 @@ pub returns : goal.returns
 returns c =
     let t = c in
     let s = t in
-    row_tested s.args.map.now s.args.a s.args.k t.has.ensures t.if-not-has.false c.loop-j.invariant c.loop-j-test.false
+    row_tested s.args.map.now s.args.a s.args.k t.has.ensures (ap not t.if-not-has.false) c.loop-j.invariant c.loop-j-test.false

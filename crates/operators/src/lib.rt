@@ -8,7 +8,7 @@ use rows::codes;
 use std::num::{wrapping_add_u64, wrapping_sub_u64};
 
 // TRUE or FALSE, an unsigned 64-bit number, or undefined.
-#[derive(Drop)]
+#[derive(Clone, Copy)]
 pub enum Scalar {
     Boolean(bool),
     Number(u64),

@@ -452,6 +452,7 @@ def turn(path, fn, crate):
         if "tie." in "\n".join(d["lines"]):
             said.append(f"helper {d['name']} names tie")
         helpers.append("\n".join(d["comment"] + [paths("\n".join(d["lines"]), fn, said, None)]))
+    opened = "".join(l + "\n" for l in spec[0]["lines"] if l.strip().startswith("unfolding "))
     for k, it in enumerate(args):
         if it in by_name:
             continue
@@ -463,7 +464,7 @@ def turn(path, fn, crate):
             said.append(f"inline argument {k + 1} of {len(args)}, goals {len(fn.order)}: {body[:70]}")
             continue
         goal = fn.order[k]
-        answers.append(f"pub {goal} : goal.{goal}\n" + clausal(paths(f"{goal} c = {body}", fn, said, fn.at[goal]), goal, fn))
+        answers.append(f"pub {goal} : goal.{goal}\n" + opened + clausal(paths(f"{goal} c = {body}", fn, said, fn.at[goal]), goal, fn))
     folder = os.path.dirname(path)
     module = "Rattle." + crate + ".proofs." + os.path.relpath(folder, os.path.join(CRATE, "proofs")).replace("/", ".")
     comments = [l for l in head if l.startswith("--")]

@@ -125,6 +125,8 @@ class Function:
         for (old, new), (place, _) in zip(row["needs"], row["asked_at"]):
             self.goals.setdefault(norm_goal(old), new)
             self.at[new] = place
+        for _, new in row["needs"]:
+            self.goals.setdefault(norm_goal(new), new)
         self.order = [new for _, new in row["needs"]]
         self.settled = {norm_goal(it) for it in row["settled"]}
         self.args = {}

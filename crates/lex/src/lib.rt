@@ -16,7 +16,7 @@ use lexemes::reserved::class_of;
 use lexemes::words::word_end;
 
 // A class of `lexemes::classes`; start and end, both the first byte of a bad token, and the source's length at the end.
-#[derive(Drop)]
+#[derive(Clone, Copy)]
 pub struct Token {
     pub class: u8,
     pub start: usize,

@@ -458,7 +458,7 @@ def turn(path, fn, crate):
     for k, it in enumerate(args):
         if it in by_name:
             continue
-        m = re.match(r"^\(λ c(?: κs)?\. (.*)\)$", it, re.S)
+        m = re.match(r"^\(λ c(?: κs)?\.\s+(.*)\)$", it, re.S)
         body = m[1].strip() if m else it
         if body in TRIVIAL:
             continue

@@ -10,7 +10,7 @@ use crate::noted::mark_or;
 use lexemes::classes::*;
 
 // What a list names of a sort, by the first such word: whether it names one, and its value, or that of an absent one.
-#[derive(Drop)]
+#[derive(Clone, Copy)]
 pub struct Choice {
     pub named: bool,
     pub value: u8,
@@ -18,7 +18,7 @@ pub struct Choice {
 
 // Which flag words stand in a list, the size and the display that it names, and the mark of the first word of a sort that
 // was named before, or 0.
-#[derive(Drop)]
+#[derive(Clone, Copy)]
 pub struct Words {
     pub readonly: bool,
     pub interactive: bool,

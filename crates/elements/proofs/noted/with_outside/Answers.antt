@@ -1,0 +1,5 @@
+-- `elements::noted::with_outside` meets its contract.
+use Rattle.elements.proofs.noted.with_outside.Goals as goal
+
+pub returns : goal.returns
+returns c = rw c.mark_or.ensures

@@ -41,6 +41,7 @@ module _ (look : ℕ → List ℕ) where
 
   -- every expression among trees that are nowhere too deep
   pub fitted_shallow : {d : Depth} {σ : List Symbol} {f c : Trees} → Fitted d σ f → ExpressionIn c f → Shallow (formula look (expression c))
+  fitted_shallow f_nil k = elim k [ ]
   fitted_shallow (f_node {d = depth x y} {i = i} {a = a} {c = c} e h₁ h₂) here = node_shallow x y i a c e h₁
   fitted_shallow (f_leaf u h) (past_leaf k) = fitted_shallow h k
   fitted_shallow (f_node e h₁ h₂) (past_node k) = fitted_shallow h₂ k

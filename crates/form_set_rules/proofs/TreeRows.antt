@@ -96,7 +96,7 @@ module _ (t : List ℕ) (count : ℕ) (found : ℕ → List ℕ) (value : ℕ �
       (q j : ℕ) (p : Parts t found value parent at n A i c f q j)
       → RuleRows t count p.k p.rules_before more =
       λ q j p. let m : n + rules_in (node A i c f) ≡ p.rules_before + rules_in f = omega (arith, p.rules_are) in
-      trees_rows r₂ no_source.1 parent p.k p.rules_before e (omega (arith, end, p.end)) room p.after (rw m at next) in
+      trees_rows r₂ no_source_lem.1 parent p.k p.rules_before e (omega (arith, end, p.end)) room p.after (rw m at next) in
       either (eqb A <rule>)
       (λ rule.
       let is : A ≡ <rule> = eqb-true A <rule> rule in
@@ -116,7 +116,7 @@ module _ (t : List ℕ) (count : ℕ) (found : ℕ → List ℕ) (value : ℕ �
       let within = under _ _ h.parts in
       other_row (statement h (omega (arith, end, h.parts.end, h.parts.k_is)) within) (λ q. other_code A i eq made other (sym h.code_is ∙ q)) within)
       (λ made.
-      under _ _ (plain_held t found value parent at n A i c f made (not-true (eqb A <source>) no_source.0) held))))
+      under _ _ (plain_held t found value parent at n A i c f made (not-true (eqb A <source>) no_source_lem.0) held))))
 
 -- ---- the tree of a source
 

@@ -120,13 +120,13 @@ module _ (t : List ℕ) (count : ℕ) (found : ℕ → List ℕ) (value : ℕ �
       (λ made.
       let h = statement_held t found value parent at n A i c f eq made held in
       let p = h.parts in
-      let later = forest r₂ no_source.1 parent p.k p.rules_before e (omega (arith, p.k_is)) (omega (arith, end, p.end)) room p.after edge in
+      let later = forest r₂ no_source_lem.1 parent p.k p.rules_before e (omega (arith, p.k_is)) (omega (arith, end, p.end)) room p.after edge in
       statement_forest h low (omega (arith, end, p.end)) made
       (λ g. forest r₁ none_under at (j h) n p.k (omega arith) p.k_is (omega (arith, end, p.end)) p.under g)
       later)
       (λ made.
-      let p = plain_held t found value parent at n A i c f made (not-true (eqb A <source>) no_source.0) held in
-      let later = forest r₂ no_source.1 parent p.k p.rules_before e (omega (arith, p.k_is)) (omega (arith, end, p.end)) room p.after edge in
+      let p = plain_held t found value parent at n A i c f made (not-true (eqb A <source>) no_source_lem.0) held in
+      let later = forest r₂ no_source_lem.1 parent p.k p.rules_before e (omega (arith, p.k_is)) (omega (arith, end, p.end)) room p.after edge in
       plain_forest made (forest r₁ none_under parent at n p.k low p.k_is (omega (arith, end, p.end)) p.under later.edge) later)
 
 -- ---- the tree of a source

@@ -89,7 +89,7 @@ lexed_from (spelled_next {w = w} {k = k} {ws = ws} {ts = ts} s sp) (suc n) at {g
     let r = spells_reads s in
     let p = at + length g in
     rw (within_next before at n (text_of ws) r (gap_blank w))
-    (lexed_next k p (p + length w) (tokens_within n (gap_after w ∷ text_of ws) (p + length w)) (placed (p + length w + 1) ws ts) r.good (lexed_from sp n (p + length w) (one_blank (gap_blank w)) (omega arith)))
+    (lexed_next k p (p + length w) (tokens_within n (gap_after w ∷ text_of ws) (p + length w)) (placed (p + length w + 1) ws ts) r.good (lexed_from {ws = ws} sp n (p + length w) (one_blank (gap_blank w)) (omega arith)))
 
 -- a blank follows each word, so that there are as many bytes as words, and more
 words_few : (ws : List Word) → length ws ≤ length (text_of ws)

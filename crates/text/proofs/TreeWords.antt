@@ -172,7 +172,7 @@ module _ (t : List ℕ) (found : ℕ → List ℕ) (value : ℕ → ℕ) where
       let h = statement_held t found value parent at n A i c f eq made held in
       let p = h.parts in
       let within = tree_words r₁ none_under at _ n p.under in
-      let later = tree_words r₂ no_source.1 parent p.k p.rules_before p.after z in
+      let later = tree_words r₂ no_source_lem.1 parent p.k p.rules_before p.after z in
       let bare : holds A i ≡ false → items_of c done ≡ done = λ e. bare_none r₁ (bare_under A i a eq (rw (made, e, over A made))) done in
       let none : holds A i ≡ false → w ≡ [] = λ e. sym (append-nil w) ∙ sym (within done) ∙ ap (item_words found) (bare e) in
       let first = opening (found (place_at 0 c)) ++ inner_words found (code_of A i) (inner_of A i c) in
@@ -181,10 +181,10 @@ module _ (t : List ℕ) (found : ℕ → List ℕ) (value : ℕ → ℕ) where
       (statement_words first w (closing (code_of A i)) (words_of found f) (item_words found z)
       ∙ ap (λ (l : List Word). (l ++ words_of found f) ++ item_words found z) (sym (statement_around found c A i made (item_of_ten eq) w none)))))
       (λ made.
-      let apart = not-true (eqb A <source>) no_source.0 in
+      let apart = not-true (eqb A <source>) no_source_lem.0 in
       let p = plain_held t found value parent at n A i c f made apart held in
       let within = tree_words r₁ none_under parent at n p.under in
-      let later = tree_words r₂ no_source.1 parent p.k p.rules_before p.after z in
+      let later = tree_words r₂ no_source_lem.1 parent p.k p.rules_before p.after z in
       rw (made, items_of)
       (within (items_of f z)
       ∙ rw (later, none_around found c A i made apart w) (sym (append_assoc w (words_of found f) (item_words found z)))))

@@ -309,6 +309,18 @@ def last_expression(body):
 def as_record(body, names):
     at = last_expression(body)
     text = body[at:]
+    m = re.match(r"\s*(?:rw|simp) ", text)
+    if m and text.rstrip().endswith(")"):
+        # rw L (a, b): its last argument is the tuple
+        end, depth = len(text.rstrip()) - 1, 0
+        for k in range(end, -1, -1):
+            depth += text[k] in ")]}"
+            depth -= text[k] in "([{"
+            if depth == 0:
+                break
+        if k > m.end() and parts_of(text[k : end + 1]):
+            inner = as_record(text[k : end + 1], names)
+            return body[:at] + text[:k] + "(" + inner.strip() + ")"
     parts, k = [], text
     while len(parts) < len(names) - 1:
         two = parts_of(k)

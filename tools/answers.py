@@ -236,6 +236,7 @@ def paths(body, fn, said, place):
                             kind = ("call", names)
                             fields = [new]
                 else:
+                    label = label.replace("-", "_") if norm(label) in ("typeinv", "wellformed") else label
                     if label not in ("lifetimes", "ranges", "well_formed", "type_inv"):
                         said.append(f"label {label}")
                     fields = [label] + fields

@@ -53,4 +53,4 @@ returns-in-14 c = rw c.in-14.is (record { value = refl; lower_bound = omega arit
 pub returns-in_default : goal.returns-in_default
 returns-in_default c =
     let k : c.args.k ≡ 15 = omega (arith, past_all (Unit {0}) 0 15 c.args.k c.in_default.in_default-own.rest (λ u. omega arith)) in
-    rw k (refl, omega arith)
+    rw k (record { value = refl; lower_bound = omega arith })

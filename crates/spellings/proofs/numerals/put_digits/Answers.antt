@@ -10,4 +10,4 @@ returns c =
     let start = c in
     let end_is = rw c.digit_count.ensures at c.end_of-end.ensures in
     before_end end_is c.put_digits_back.ensures
-    (λ h. (omega arith, omega (arith, start.well-formed.0.1, digits_few start.args.n (omega (arith, start.ranges.n)))))
+    (λ h. (omega arith, omega (arith, start.well_formed.0.1, digits_few start.args.n (omega (arith, start.ranges.n)))))

@@ -128,6 +128,7 @@ class Function:
         for _, new in row["needs"]:
             self.goals.setdefault(norm_goal(new), new)
         self.order = [new for _, new in row["needs"]]
+        self.needs = row["needs"]
         self.settled = {norm_goal(it) for it in row["settled"]}
         self.args = {}
         for old, new in row["args"]:
@@ -428,6 +429,54 @@ def answer(name, text, fn, goal):
     return text
 
 
+def inline_answers(args, by_name, fn, said):
+    """The goals that the terms behind tie.spec answer, where these are not trivial."""
+    items = []
+    for it in args:
+        if it in by_name:
+            sig = by_name[it]["lines"][0]
+            if re.search(r"tie\.(invariant|decreases)-", sig):
+                continue
+            m = re.search(rf"tie\.Need-({NAME})", sig)
+            items.append((None, it, fn.goals.get(norm_goal(m[1])) if m else None, False))
+            continue
+        m = re.match(r"^\(λ c( κs)?\.\s+(.*)\)$", it, re.S)
+        body = m[2].strip() if m else it
+        items.append((bool(m and m[1]), body, None, body in TRIVIAL))
+    skips = len(items) - len(fn.order)
+    if skips < 0:
+        if any(not t and k is not None for k, _, _, t in items):
+            said.append(f"{len(items)} terms for {len(fn.order)} goals")
+        return []
+    kinds = [bool(re.search(r"requires(-\d+)?$", old)) for old, _ in fn.needs]
+
+    def fits(item, j):
+        kind, _, goal, _ = item
+        if kind is None:
+            return goal is None or goal == fn.order[j]
+        return kind == kinds[j]
+
+    n, m = len(items), len(fn.order)
+    can = [[False] * (m + 1) for _ in range(n + 1)]
+    can[n][m] = True
+    for i in range(n - 1, -1, -1):
+        for j in range(m, -1, -1):
+            loose = items[i][3] or (items[i][0] is None and items[i][2] is None)
+            can[i][j] = (j < m and fits(items[i], j) and can[i + 1][j + 1]) or (loose and can[i + 1][j])
+    if not can[0][0]:
+        said.append(f"the terms do not go with the goals: {n} for {m}")
+        return []
+    out, i, j = [], 0, 0
+    while i < n:
+        if j < m and fits(items[i], j) and can[i + 1][j + 1]:
+            if items[i][0] is not None and not items[i][3]:
+                out.append((fn.order[j], items[i][1]))
+            i, j = i + 1, j + 1
+        else:
+            i += 1
+    return out
+
+
 def turn(path, fn, crate):
     said = []
     text = open(path, encoding="utf-8").read().rstrip("\n")
@@ -436,7 +485,6 @@ def turn(path, fn, crate):
     if not spec or spec_args(spec[0]) is None:
         return None, ["no tie.spec"]
     args = spec_args(spec[0])
-    inline = len(args) == len(fn.order) and not fn.loops
     by_name = {d["name"]: d for d in decls}
     invariants, answers, helpers = [], [], []
     for d in decls:
@@ -468,18 +516,13 @@ def turn(path, fn, crate):
             said.append(f"helper {d['name']} names tie")
         helpers.append("\n".join(d["comment"] + [paths("\n".join(d["lines"]), fn, said, None)]))
     opened = "".join(l + "\n" for l in spec[0]["lines"] if l.strip().startswith("unfolding "))
-    for k, it in enumerate(args):
-        if it in by_name:
+    opens = [l.strip() for l in spec[0]["lines"][1:] if l.strip().startswith("unfolding ")]
+    for goal, body in inline_answers(args, by_name, fn, said):
+        if goal.startswith("shape_of"):
+            said.append(f"left to the check: {goal} ({body[:60]})")
             continue
-        m = re.match(r"^\(λ c(?: κs)?\.\s+(.*)\)$", it, re.S)
-        body = m[1].strip() if m else it
-        if body in TRIVIAL:
-            continue
-        if not inline:
-            said.append(f"inline argument {k + 1} of {len(args)}, goals {len(fn.order)}: {body[:70]}")
-            continue
-        goal = fn.order[k]
-        answers.append(f"pub {goal} : goal.{goal}\n" + opened + clausal(paths(f"{goal} c = {body}", fn, said, fn.at[goal]), goal, fn))
+        text = clausal(paths(f"{goal} c =\n    {body}" if "\n" in body else f"{goal} c = {body}", fn, said, fn.at[goal]), goal, fn)
+        answers.append("\n".join([f"pub {goal} : goal.{goal}"] + opens + [text]))
     folder = os.path.dirname(path)
     module = "Rattle." + crate + ".proofs." + os.path.relpath(folder, os.path.join(CRATE, "proofs")).replace("/", ".")
     comments = [l for l in head if l.startswith("--")]
@@ -490,6 +533,8 @@ def turn(path, fn, crate):
         out["Invariants.antt"] = "\n".join((comments if not answers and not helpers else comments) + uses(head, text) + [f"use {module}.Given as goal", "", text, ""])
     if answers or helpers:
         text = "\n\n".join(helpers + answers)
+        # the fact of a test `if !x` is now about x itself
+        text = re.sub(rf"(?<![\w'-])not-(?:true|false) (?:_|\([^()]*\)|{NAME}(?:\.{NAME})*) ((?:{NAME}\.)*if-not-{NAME}\.(?:true|false))", r"\1", text)
         if answers:
             out["Answers.antt"] = "\n".join(comments + uses(head, text) + [f"use {module}.Goals as goal", "", text, ""])
     return out, said

@@ -7,7 +7,7 @@ use mathlib.Core.List.{List, [], ◌∷◌, ◌++◌, append_assoc}
 use mathlib.Core.Logic.{◌≢◌}
 use native.Mathlib.Omega.{arith}
 use lib.ListN.{length, length-append}
-use Rattle.ll1.specs.Trees.{Token, token, Trees, nil, leaves, Symbol, Fits, fits_nil, Depth}
+use Rattle.ll1.specs.Trees.{Token, Trees, nil, leaves, Symbol, Fits, fits_nil, Depth}
 use Rattle.ll1.specs.Machine.{Due, due, due_all}
 use Rattle.grammar.specs.Grammar.{rules}
 use Rattle.grammar.specs.Derivation.{too_deep}

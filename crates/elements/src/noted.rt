@@ -4,7 +4,7 @@ ghost use Rattle.elements.specs.Marks.{mark_or, nothing_noted, with_second, with
 
 // The mark of the first second size or display word (document 02, W-204, No. 16), and that of the first number outside its
 // place (document 01, No. 5), each 0 where there is none. A mark is a place plus one.
-#[derive(Drop)]
+#[derive(Clone, Copy)]
 pub struct Noted {
     pub second: usize,
     pub outside: usize,

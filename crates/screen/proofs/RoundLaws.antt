@@ -66,7 +66,7 @@ module _ {code k : ℕ} {x : Formula} {f : Option Formula} {within later : Scree
 
 module _ (questions rules : ℕ → Scalar) where
   -- whether some condition of a kind, among those that hold the statement, is TRUE
-  unfoldable pub some_true : {code row : ℕ} {e : Option Formula} {inner s : Screen} → (ℕ → Bool) → Stands code e inner row s → Bool
+  unfoldable pub some_true : {code : ℕ} {e : Option Formula} {inner : Screen} {row : ℕ} {s : Screen} → (ℕ → Bool) → Stands code e inner row s → Bool
   some_true kind first = false
   some_true kind (in_it {k = k} {f = f} st q) = kind k && is_true (value_of questions rules f) || some_true kind st
   some_true kind (after_it st q) = some_true kind st
@@ -95,7 +95,7 @@ module _ (questions rules : ℕ → Scalar) where
     moved : {at row : ℕ} {a b : Screen} (s : Some at a) → Round s.code s.condition row b → Some row b
     moved s r = record { code = s.code; condition = s.condition; is = s.is; round = r; holds = s.holds }
 
-    pub true_some : {code row : ℕ} {e : Option Formula} {inner s : Screen} (st : Stands code e inner row s) → some_true kind st ≡ true → Some row s
+    pub true_some : {code : ℕ} {e : Option Formula} {inner : Screen} {row : ℕ} {s : Screen} (st : Stands code e inner row s) → some_true kind st ≡ true → Some row s
     unfolding some_true
     true_some first t = clash cc
     true_some (in_it {k = k} {f = f} st q) t =

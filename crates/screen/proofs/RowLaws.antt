@@ -33,7 +33,7 @@ stands_cases (in_it st q) one two three = two _ st q
 stands_cases (after_it st q) one two three = three _ st q
 
 -- its rows and those of what stands in it are among those of the screen
-pub stands_inside : {code row : ℕ} {e : Option Formula} {inner s : Screen} → Stands code e inner row s → row + (own_rows e + size inner) ≤ size s
+pub stands_inside : {code : ℕ} {e : Option Formula} {inner : Screen} {row : ℕ} {s : Screen} → Stands code e inner row s → row + (own_rows e + size inner) ≤ size s
 unfolding size
 stands_inside first = omega arith
 stands_inside (in_it st q) = omega (arith, stands_inside st)
@@ -107,7 +107,7 @@ module _ (questions rules : ℕ → Scalar) where
   -- ---- 0 of the rows of an expression, and of all rows where no item stands
 
   pub expression_zero :
-      {code at row : ℕ} {e : Option Formula} {inner s : Screen} → Stands code e inner at s → at < row → row < at + own_rows e
+      {code : ℕ} {e : Option Formula} {inner : Screen} {at row : ℕ} {s : Screen} → Stands code e inner at s → at < row → row < at + own_rows e
       → (h g : Bool) → get_or (bytes questions rules h g s) row 0 ≡ 0
   expression_zero {row = row} (first {later = later}) l m h g = expression_byte h g _ _ _ later row l (omega arith)
   expression_zero {row = row} (in_it {k = k} {f = f} {within = within} {later = later} st q) l m h g =

@@ -39,12 +39,12 @@ is_one_of A i = eqb A <item> && eqb i 6
 -- options stand only under a oneof and in their lists
 no_options : Under (λ A i. not (member A offering) && not (is_one_of A i)) offering
 unfolding rules
-no_options = tested _ _ refl
+no_options = tested (λ A i. not (member A offering) && not (is_one_of A i)) offering refl
 
 -- there no other statement stands
 only_options : Under (λ A i. eqb A <option>* || is_one_of A i) others
 unfolding rules
-only_options = tested _ _ refl
+only_options = tested (λ A i. eqb A <option>* || is_one_of A i) others refl
 
 both_empty : (ds es : List Draft) → ds ≡ [] → es ≡ [] → ds ++ es ≡ []
 both_empty ds es p q = rw (p, q)

@@ -35,7 +35,7 @@ pub record Sized (d : Draft) : Type 0 where
   pub limit_mark : d.limit_at < HALF
   pub default_mark : d.default_at < HALF
   pub place : cell column.PLACE d < HALF
-  pub name_mark_lem : cell column.NAME d < MARKS
+  pub name_mark : cell column.NAME d < MARKS
 
 pub sound_row :
     {d : Draft}

@@ -105,7 +105,7 @@ module _ (questions rules : ℕ → Scalar) where
         ]
     true_some (after_it st q) t = let s = true_some st t in moved s (after_round q s.round)
 
-    pub some_true_lem : {code row : ℕ} {e : Option Formula} {inner s : Screen} (st : Stands code e inner row s) → Some row s → some_true kind st ≡ true
+    pub some_true_lem : {code : ℕ} {e : Option Formula} {inner : Screen} {row : ℕ} {s : Screen} (st : Stands code e inner row s) → Some row s → some_true kind st ≡ true
     unfolding some_true
     some_true_lem first s = absurd (omega (arith, s.round.starts))
     some_true_lem (in_it {k = k} {f = f} st q) s =
@@ -119,11 +119,11 @@ module _ (questions rules : ℕ → Scalar) where
   -- ---- the byte of a statement says it
 
   pub stands_byte :
-      {code row : ℕ} {e : Option Formula} {inner s : Screen} (st : Stands code e inner row s) (h g : Bool)
+      {code : ℕ} {e : Option Formula} {inner : Screen} {row : ℕ} {s : Screen} (st : Stands code e inner row s) (h g : Bool)
       → get_or (bytes questions rules h g s) row 0 ≡ cond (is_item code) (byte (h || some_true hides st) (g || some_true greys st)) 0
   unfolding some_true
   stands_byte (first {later = later}) h g = own_byte questions rules h g _ _ _ later ∙ rw (or-false h, or-false g)
-  stands_byte {code} {row} (in_it {at = at} {k = k} {f = f} {within = within} {later = later} st q) h g =
+  stands_byte {code = code} {row = row} (in_it {at = at} {k = k} {f = f} {within = within} {later = later} st q) h g =
       let holds : Bool = is_true (value_of questions rules f) in
       inner_byte questions rules h g k f within later row at q (omega (arith, stands_inside st))
       ∙ stands_byte st (h || hides k && holds) (g || greys k && holds)

@@ -4,7 +4,8 @@
  * columns and the 0 in all that is lent past a result are those of document 02, the change requests (W-201), and so are
  * the screen and the refusals 14, 15 and 30 (W-202), that a rule serves its own form alone (W-203), the sizes,
  * displays and signed numbers of numerics with refusal 16 (W-204), and families of sources with refusal 17 (W-206).
- * The library is target/staticlib/libface.a, which `rt staticlib face` writes; it is for Linux on x86-64.
+ * The library is crates/face/out/libface.a, which `tools/prove face` makes; it is for Linux on x86-64, on
+ * processors of the level x86-64-v2 (SSE4.2, POPCNT) or above.
  *
  * Every function takes every input. It reads the source without changing it, writes nowhere but to the
  * buffers lent for results, keeps no pointer and allocates nothing. A buffer of length 0 is not touched, and its

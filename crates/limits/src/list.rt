@@ -11,7 +11,7 @@ use specimen::{Expected, Specimen};
 
 // The kind of a source, how many of that it has, how many rows are lent, and the number, place, row count, free count,
 // line and column that are expected.
-#[derive(Drop)]
+#[derive(Clone, Copy)]
 pub struct Made(
     pub u64,
     pub usize,

@@ -14,6 +14,7 @@ use list::{PAIRS, listed, specimen_of};
 use rows::columns::ROW;
 use specimen::counts;
 use specimen::counts::Counts;
+use std::io;
 use trials::tally::{Tally, print_tally};
 
 // More bytes than the longest source that is made.
@@ -23,42 +24,42 @@ const LONGEST: usize = 65538;
 const LARGEST: usize = 520 * ROW;
 
 // A pair's line.
-fn print_pair(pair: usize, agreed: Tally) {
+fn print_pair(rt: &impl Print, pair: usize, agreed: Tally) -> io::Result<()> {
     match pair {
-        0 => print_tally(b"32 and 33 parentheses", agreed),
-        1 => print_tally(b"16 and 17 conditions", agreed),
-        2 => print_tally(b"255 and 256 rules", agreed),
-        3 => print_tally(b"65536 and 65537 bytes", agreed),
-        _ => print_tally(b"a table one row short", agreed),
+        0 => print_tally(rt, b"32 and 33 parentheses", agreed),
+        1 => print_tally(rt, b"16 and 17 conditions", agreed),
+        2 => print_tally(rt, b"255 and 256 rules", agreed),
+        3 => print_tally(rt, b"65536 and 65537 bytes", agreed),
+        _ => print_tally(rt, b"a table one row short", agreed),
     }
 }
 
 // Makes and runs specimen k of the list, and counts it.
-fn run_made(k: usize, counts: Counts) -> Counts {
+fn run_made(rt: &impl Print, k: usize, counts: Counts) -> io::Result<Counts> {
     let mut src = [0u8; LONGEST];
     let mut cells = [0u64; LARGEST];
     let m = listed(k);
     let n = sources::put_source(m.0, m.1, &mut src);
     tables::put_rows(m.0, m.1, &mut cells);
     let s = specimen_of(k, m);
-    let ran = specimen::run(s, &src[0..n], &cells);
-    counts::add(counts, s.expected.number, ran)
+    let ran = specimen::run(rt, s, &src[0..n], &cells)?;
+    Ok(counts::add(counts, s.expected.number, ran))
 }
 
 // Runs both of a pair, and prints their line.
-fn run_pair(pair: usize, counts: Counts) -> Counts
+fn run_pair(rt: &impl Print, pair: usize, counts: Counts) -> io::Result<Counts>
     requires { pair < 5 }
 {
-    let first = run_made(2 * pair, counts::start_group(counts));
-    let second = run_made(2 * pair + 1, first);
-    print_pair(pair, second.group);
-    second
+    let first = run_made(rt, 2 * pair, counts::start_group(counts))?;
+    let second = run_made(rt, 2 * pair + 1, first)?;
+    print_pair(rt, pair, second.group)?;
+    Ok(second)
 }
 
-fn main() {
+fn main(rt: HostRuntime) -> io::Result<()> {
     let mut counts = counts::START;
     for pair in 0..PAIRS {
-        counts = run_pair(pair, counts);
+        counts = run_pair(&rt, pair, counts)?;
     }
-    counts::print_all(counts);
+    counts::print_all(&rt, counts)
 }

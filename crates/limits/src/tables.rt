@@ -25,7 +25,7 @@ const GUID_LOW: u64 = 0x0405060708090A0B;
 
 // A statement: its code, its parent's row, its own number, its place, the place plus one of its name, and the place of
 // the number in it.
-#[derive(Drop)]
+#[derive(Clone, Copy)]
 struct Statement {
     code: u64,
     parent: u64,

@@ -23,6 +23,8 @@ mod packed;
 use packed::Group;
 use specimen::counts::Counts;
 use specimen::{NUMBERS, counts};
+use std::io;
+use std::io::Read;
 use trials::input::{END, read_part};
 use trials::tally::print_tally;
 
@@ -36,46 +38,58 @@ const NAME: usize = 64;
 const GROUPS: usize = 256;
 
 // Runs the next case, and counts it.
-fn run_case(counts: Counts) -> Counts {
+fn run_case<R: Read>(rt: &impl Print, input: &mut R, counts: Counts) -> io::Result<Counts> {
     let mut src = [0u8; LONGEST];
     let mut cells = [0u64; NUMBERS];
-    let case = packed::read_case();
-    let n = packed::read_source(case, &mut src);
-    packed::read_cells(case, &mut cells);
+    let case = packed::read_case(input)?;
+    let n = packed::read_source(input, case, &mut src)?;
+    packed::read_cells(input, case, &mut cells)?;
     let s = case.specimen;
-    let ran = specimen::run(s, &src[0..n], &cells);
-    counts::add(counts, s.expected.number, ran)
+    let ran = specimen::run(rt, s, &src[0..n], &cells)?;
+    Ok(counts::add(counts, s.expected.number, ran))
 }
 
-fn run_cases(count: u64, counts: Counts) -> Counts {
+fn run_cases<R: Read>(
+    rt: &impl Print,
+    input: &mut R,
+    count: u64,
+    counts: Counts,
+) -> io::Result<Counts> {
     let mut after = counts;
-    for k in 0..count {
-        after = run_case(after);
+    for _ in 0..count {
+        after = run_case(rt, input, after)?;
     }
-    after
+    Ok(after)
 }
 
 // Runs a group, and prints its line.
-fn run_group(group: Group, counts: Counts) -> Counts {
+fn run_group<R: Read>(
+    rt: &impl Print,
+    input: &mut R,
+    group: Group,
+    counts: Counts,
+) -> io::Result<Counts> {
     let mut name = [0u8; NAME];
-    let n = read_part(group.name, &mut name);
-    let after = run_cases(group.cases, counts::start_group(counts));
-    print_tally(&name[0..n], after.group);
-    after
+    let n = read_part(input, group.name, &mut name)?;
+    let after = run_cases(rt, input, group.cases, counts::start_group(counts))?;
+    print_tally(rt, &name[0..n], after.group)?;
+    Ok(after)
 }
 
-fn run_groups() -> Counts {
+fn run_groups<R: Read>(rt: &impl Print, input: &mut R) -> io::Result<Counts> {
     let mut counts = counts::START;
-    for k in 0..GROUPS {
-        let group = packed::read_group();
+    for _ in 0..GROUPS {
+        let group = packed::read_group(input)?;
         if group.cases == END {
-            return counts;
+            return Ok(counts);
         }
-        counts = run_group(group, counts);
+        counts = run_group(rt, input, group, counts)?;
     }
-    counts
+    Ok(counts)
 }
 
-fn main() {
-    counts::print_all(run_groups());
+fn main(rt: HostRuntime) -> io::Result<()> {
+    let mut input = rt.stdin();
+    let counts = run_groups(&rt, &mut input)?;
+    counts::print_all(&rt, counts)
 }

@@ -1,12 +1,13 @@
 // Reads a source from standard input, and prints its resolved text or a line that tells the refusal.
 #![tactic(auto)]
 
-use libc::{STDIN_FILENO, STDOUT_FILENO};
 use rows::columns::ROW;
+use std::io;
+use std::io::Read;
 use text::{Answer, TOO_FEW_ROWS, TOO_LONG};
 
 // One more than the longest source has.
-const INPUT: usize = 65537;
+const INPUT: u64 = 65537;
 
 // 512 rows.
 const TABLE: usize = 512 * ROW;
@@ -14,30 +15,27 @@ const TABLE: usize = 512 * ROW;
 const OUTPUT: usize = 65536;
 
 // The first bytes of the output.
-fn print_text(out: &[u8], bytes: usize) {
+fn print_text(rt: &impl Print, out: &[u8], bytes: usize) -> io::Result<()> {
     if bytes <= out.len() {
-        io::write_all(STDOUT_FILENO, &out[0..bytes]);
+        return rt.write_all(&out[0..bytes]);
     }
+    Ok(())
 }
 
-fn print_refusal(number: u64, place: usize) {
-    io::write_all(STDOUT_FILENO, b"refused ");
-    io::print_decimal(STDOUT_FILENO, number);
-    io::write_all(STDOUT_FILENO, b" at ");
-    io::print_decimal(STDOUT_FILENO, place as u64);
-    io::write_all(STDOUT_FILENO, b"\n");
+fn print_refusal(rt: &impl Print, number: u64, place: usize) -> io::Result<()> {
+    println!(rt; "refused {number} at {place}")
 }
 
-fn main() {
-    let mut input = [0u8; INPUT];
-    let n = io::read_full(STDIN_FILENO, &mut input);
+fn main(rt: HostRuntime) -> io::Result<()> {
+    let mut input = Vec::new(rt.alloc());
+    rt.stdin().take(INPUT).read_to_end(&mut input)?;
     let mut table = [0u64; TABLE];
     let mut out = [0u8; OUTPUT];
-    let answer = text::resolve(&input[..n], &mut table, &mut out);
+    let answer = text::resolve(&input, &mut table, &mut out);
     match answer {
-        Answer::Resolved(_, _, bytes) => print_text(&out, bytes),
-        Answer::Refused(number, place, _, _) => print_refusal(number, place),
-        Answer::Short(_) => print_refusal(TOO_FEW_ROWS, 0),
-        Answer::Long(_) => print_refusal(TOO_LONG, 0),
+        Answer::Resolved(_, _, bytes) => print_text(&rt, &out, bytes),
+        Answer::Refused(number, place, _, _) => print_refusal(&rt, number, place),
+        Answer::Short(_) => print_refusal(&rt, TOO_FEW_ROWS, 0),
+        Answer::Long(_) => print_refusal(&rt, TOO_LONG, 0),
     }
 }

@@ -1,5 +1,5 @@
 // Reading a source into a table, and comparing all that comes back with what is expected.
-ghost use Rattle.std.specs.Prelude.{◌≡◌, true, length};
+ghost use Rattle.std.specs.Prelude.{◌≡◌, true, length, IfOk};
 ghost use Rattle.read.specs.Answers.{told};
 ghost use Rattle.answers.specs.WholeAnswer.{quick_check};
 ghost use Rattle.trials.specs.Differences.{padded};
@@ -8,6 +8,7 @@ ghost use Rattle.specimen.specs.Agreement.{reply_of, quick_of, cells_of, Agrees}
 use crate::{Expected, NUMBERS, SECOND_WORD, SHORT, Specimen};
 use read::Answer;
 use rows::columns::ROW;
+use std::io;
 use trials::differ::{first_number, number_at};
 use trials::fill::{UNCLEARED_NUMBER, fill_numbers};
 use trials::tally::{print_number, print_text};
@@ -76,64 +77,77 @@ fn expected_cells(expected: Expected, cells: &[u64]) -> &[u64]
 }
 
 // Which specimen differs.
-fn print_case(s: Specimen) {
-    print_text(b"case ");
-    print_number(s.id);
-    print_text(b" with ");
-    print_number(s.lent as u64);
-    print_text(b" lent: ");
+fn print_case(rt: &impl Print, s: Specimen) -> io::Result<()> {
+    print_text(rt, b"case ")?;
+    print_number(rt, s.id)?;
+    print_text(rt, b" with ")?;
+    print_number(rt, s.lent as u64)?;
+    print_text(rt, b" lent: ")
 }
 
 // What came, and what was expected.
-fn print_values(came: u64, expected: u64) {
-    print_text(b" ");
-    print_number(came);
-    print_text(b", expected ");
-    print_number(expected);
-    print_text(b"\n");
+fn print_values(rt: &impl Print, came: u64, expected: u64) -> io::Result<()> {
+    print_text(rt, b" ")?;
+    print_number(rt, came)?;
+    print_text(rt, b", expected ")?;
+    print_number(rt, expected)?;
+    print_text(rt, b"\n")
 }
 
 // Whether two values are the same; a difference is printed.
-fn is_same(s: Specimen, what: &[u8], came: u64, expected: u64) -> bool
-    ensures { result ≡ true → came ≡ expected }
+fn is_same(
+    rt: &impl Print,
+    s: Specimen,
+    what: &[u8],
+    came: u64,
+    expected: u64,
+) -> io::Result<bool>
+    ensures { IfOk result (λ same. same ≡ true → came ≡ expected) }
 {
     if came == expected {
-        return true;
+        return Ok(true);
     }
-    print_case(s);
-    print_text(what);
-    print_values(came, expected);
-    false
+    print_case(rt, s)?;
+    print_text(rt, what)?;
+    print_values(rt, came, expected)?;
+    Ok(false)
 }
 
 // Whether the six values are the expected ones.
-fn is_answer(s: Specimen, came: Expected) -> bool
-    ensures { result ≡ true → reply_of came ≡ reply_of s.expected }
+fn is_answer(rt: &impl Print, s: Specimen, came: Expected) -> io::Result<bool>
+    ensures { IfOk result (λ same. same ≡ true → reply_of came ≡ reply_of s.expected) }
 {
     let expected = s.expected;
-    let number = is_same(s, b"number", came.number, expected.number);
-    let place = is_same(s, b"place", came.place, expected.place);
-    let rows = is_same(s, b"row count", came.rows, expected.rows);
-    let free = is_same(s, b"free count", came.free, expected.free);
-    let line = is_same(s, b"line", came.line, expected.line);
-    let column = is_same(s, b"column", came.column, expected.column);
-    number & place & rows & free & line & column
+    let number = is_same(rt, s, b"number", came.number, expected.number)?;
+    let place = is_same(rt, s, b"place", came.place, expected.place)?;
+    let rows = is_same(rt, s, b"row count", came.rows, expected.rows)?;
+    let free = is_same(rt, s, b"free count", came.free, expected.free)?;
+    let line = is_same(rt, s, b"line", came.line, expected.line)?;
+    let column = is_same(rt, s, b"column", came.column, expected.column)?;
+    Ok(number & place & rows & free & line & column)
 }
 
 // Which number of the table differs.
-fn print_cell(s: Specimen, k: usize, came: u64, expected: u64) {
-    print_case(s);
-    print_text(b"table at ");
-    print_number(k as u64);
-    print_values(came, expected);
+fn print_cell(
+    rt: &impl Print,
+    s: Specimen,
+    k: usize,
+    came: u64,
+    expected: u64,
+) -> io::Result<()> {
+    print_case(rt, s)?;
+    print_text(rt, b"table at ")?;
+    print_number(rt, k as u64)?;
+    print_values(rt, came, expected)
 }
 
 // Whether the table holds these numbers and then zeros; the first difference is printed.
-fn is_table(s: Specimen, table: &[u64], cells: &[u64]) -> bool
-    ensures { result ≡ true → table.now ≡ padded cells.now (length table.now) }
+fn is_table(rt: &impl Print, s: Specimen, table: &[u64], cells: &[u64]) -> io::Result<bool>
+    ensures { IfOk result (λ same. same ≡ true → table.now ≡ padded cells.now (length table.now)) }
 {
     if table.len() < cells.len() {
         return is_same(
+            rt,
             s,
             b"numbers of the table",
             table.len() as u64,
@@ -142,47 +156,59 @@ fn is_table(s: Specimen, table: &[u64], cells: &[u64]) -> bool
     }
     let k = first_number(table, cells);
     if k < table.len() {
-        print_cell(s, k, table[k], number_at(cells, k));
-        return false;
+        print_cell(rt, s, k, table[k], number_at(cells, k))?;
+        return Ok(false);
     }
-    true
+    Ok(true)
 }
 
 // Whether the quick check answers what is expected.
-fn is_quick(s: Specimen, src: &[u8]) -> bool
-    ensures { result ≡ true → quick_check src.now ≡ quick_of s.expected }
+fn is_quick(rt: &impl Print, s: Specimen, src: &[u8]) -> io::Result<bool>
+    ensures { IfOk result (λ same. same ≡ true → quick_check src.now ≡ quick_of s.expected) }
 {
-    is_same(s, b"quick check", read::quick_check(src), quick(s.expected))
+    is_same(rt, s, b"quick check", read::quick_check(src), quick(s.expected))
 }
 
 // Whether reading a source into the table gives what is expected.
-fn is_read(s: Specimen, src: &[u8], table: &mut [u64], cells: &[u64]) -> bool
-    ensures { result ≡ true → Agrees src.now (length table.old) s.expected cells.now }
+fn is_read(
+    rt: &impl Print,
+    s: Specimen,
+    src: &[u8],
+    table: &mut [u64],
+    cells: &[u64],
+) -> io::Result<bool>
+    ensures { IfOk result (λ same. same ≡ true → Agrees src.now (length table.old) s.expected cells.now) }
 {
     fill_numbers(table, UNCLEARED_NUMBER);
     let answer = read::read(src, table);
-    let is_told = is_answer(s, values(answer));
-    let is_laid = is_table(s, table, cells);
-    let is_checked = is_quick(s, src);
-    is_told & is_laid & is_checked
+    let is_told = is_answer(rt, s, values(answer))?;
+    let is_laid = is_table(rt, s, table, cells)?;
+    let is_checked = is_quick(rt, s, src)?;
+    Ok(is_told & is_laid & is_checked)
 }
 
 // The same, with as many numbers of the space for the table as are to be lent.
-fn is_read_in(s: Specimen, src: &[u8], space: &mut [u64], cells: &[u64]) -> bool
-    ensures { result ≡ true → Agrees src.now s.lent s.expected cells.now }
+fn is_read_in(
+    rt: &impl Print,
+    s: Specimen,
+    src: &[u8],
+    space: &mut [u64],
+    cells: &[u64],
+) -> io::Result<bool>
+    ensures { IfOk result (λ same. same ≡ true → Agrees src.now s.lent s.expected cells.now) }
 {
     let n = s.lent;
     if space.len() < n {
-        return is_same(s, b"numbers to lend", space.len() as u64, n as u64);
+        return is_same(rt, s, b"numbers to lend", space.len() as u64, n as u64);
     }
-    is_read(s, src, &mut space[0..n], cells)
+    is_read(rt, s, src, &mut space[0..n], cells)
 }
 
 // Whether a specimen agrees. The cells start with those that are expected.
-pub fn agrees(s: Specimen, src: &[u8], cells: &[u64]) -> bool
-    ensures { result ≡ true → Agrees src.now s.lent s.expected (cells_of s.expected cells.now) }
+pub fn agrees(rt: &impl Print, s: Specimen, src: &[u8], cells: &[u64]) -> io::Result<bool>
+    ensures { IfOk result (λ same. same ≡ true → Agrees src.now s.lent s.expected (cells_of s.expected cells.now)) }
 {
     let mut space = [0u64; NUMBERS];
     let expected = expected_cells(s.expected, cells);
-    is_read_in(s, src, &mut space, expected)
+    is_read_in(rt, s, src, &mut space, expected)
 }

@@ -1,5 +1,6 @@
 // How many specimens agreed: in a group and in all, run again with other tables, and for each refusal number.
 use crate::Ran;
+use std::io;
 use std::num::wrapping_add_u64;
 use trials::tally::{NONE, Tally, print_number, print_tally, print_text, sum};
 
@@ -7,7 +8,7 @@ use trials::tally::{NONE, Tally, print_number, print_tally, print_text, sum};
 const NUMBERS: usize = 17;
 
 // Of the group that is run, of all groups, and how many that agreed met each number.
-#[derive(Drop)]
+#[derive(Clone, Copy)]
 pub struct Counts {
     pub group: Tally,
     pub all: Ran,
@@ -68,32 +69,33 @@ pub fn add(counts: Counts, number: u64, ran: Ran) -> Counts {
 }
 
 // How many met a refusal, if any did.
-fn print_number_met(number: u64, count: u64) {
+fn print_number_met(rt: &impl Print, number: u64, count: u64) -> io::Result<()> {
     if count == 0 {
-        return;
+        return Ok(());
     }
-    print_text(b"refusal ");
-    print_number(number);
-    print_text(b" met by ");
-    print_number(count);
-    print_text(b"\n");
+    print_text(rt, b"refusal ")?;
+    print_number(rt, number)?;
+    print_text(rt, b" met by ")?;
+    print_number(rt, count)?;
+    print_text(rt, b"\n")
 }
 
 // A line for each refusal of reading that was met.
-fn print_met(met: &[u64; NUMBERS]) {
+fn print_met(rt: &impl Print, met: &[u64; NUMBERS]) -> io::Result<()> {
     for k in 1..NUMBERS {
-        print_number_met(k as u64, met[k]);
+        print_number_met(rt, k as u64, met[k])?;
     }
+    Ok(())
 }
 
 // The lines of all groups together.
-pub fn print_all(counts: Counts) {
+pub fn print_all(rt: &impl Print, counts: Counts) -> io::Result<()> {
     let all = counts.all;
     let total = sum(sum(all.first, all.short), sum(all.enough, all.bare));
-    print_tally(b"again, one row short", all.short);
-    print_tally(b"again, rows just enough", all.enough);
-    print_tally(b"again, no table", all.bare);
+    print_tally(rt, b"again, one row short", all.short)?;
+    print_tally(rt, b"again, rows just enough", all.enough)?;
+    print_tally(rt, b"again, no table", all.bare)?;
     let met = counts.met;
-    print_met(&met);
-    print_tally(b"total", total);
+    print_met(rt, &met)?;
+    print_tally(rt, b"total", total)
 }

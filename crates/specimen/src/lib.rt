@@ -10,7 +10,7 @@ use rows::columns::ROW;
 pub use tables::{Ran, run};
 
 // The number, place, row count and free count that are expected, and the line and column beside the place (W-201).
-#[derive(Drop)]
+#[derive(Clone, Copy)]
 pub struct Expected {
     pub number: u64,
     pub place: u64,
@@ -21,7 +21,7 @@ pub struct Expected {
 }
 
 // Its number among others, how many numbers are lent, and what is expected.
-#[derive(Drop)]
+#[derive(Clone, Copy)]
 pub struct Specimen {
     pub id: u64,
     pub lent: usize,

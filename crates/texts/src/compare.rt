@@ -43,7 +43,7 @@ fn is_line(number: u64, place: usize, expected: &[u8]) -> bool
 {
     let mut bytes = [0u8; LINE];
     let n = put_refusal(&mut bytes, number, place as u64);
-    check::same(&bytes[0..n], expected)
+    &bytes[0..n] == expected
 }
 
 // Whether the line of a refusal is the expected one, and all that was lent is zeros.

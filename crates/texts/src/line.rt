@@ -2,6 +2,7 @@
 ghost use Rattle.std.specs.Prelude.{◌≤◌, length, take};
 ghost use Rattle.texts.specs.Line.{PutsDecimal, Line};
 
+use itoa::Buffer;
 use trials::put::put;
 
 // As many bytes as the longest line has, and some more.
@@ -11,9 +12,8 @@ pub const LINE: usize = 64;
 fn put_decimal(line: &mut [u8], at: usize, n: u64) -> usize
     ensures { PutsDecimal line.old at n line.new result }
 {
-    let mut digits = [0u8; 20];
-    let k = io::decimal(n, &mut digits);
-    put(line, at, &digits[..k])
+    let mut digits = Buffer::new();
+    put(line, at, digits.format(n).as_bytes())
 }
 
 // Writes the line, where there is room, and gives its length.

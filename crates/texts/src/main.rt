@@ -21,6 +21,8 @@ ghost use Rattle.texts.specs.Agreement.{Agreed};
 use compare::{agrees, is_resolved};
 use counts::Counts;
 use rows::columns::ROW;
+use std::io;
+use std::io::Read;
 use text::Answer;
 use trials::fill::{UNCLEARED_BYTE, UNCLEARED_NUMBER, fill_bytes, fill_numbers};
 use trials::input::{END, read_number, read_part};
@@ -41,7 +43,7 @@ const TABLE: usize = 512 * ROW;
 const CASES: u64 = 65536;
 
 // How a case went.
-#[derive(Drop)]
+#[derive(Clone, Copy)]
 pub struct Ran {
     pub agreed: bool,
     pub resolved: bool,
@@ -76,27 +78,29 @@ fn run(src: &[u8], expected: &[u8]) -> Ran {
 }
 
 // Runs the case whose source has so many bytes.
-fn run_case(size: u64) -> Ran {
+fn run_case<R: Read>(input: &mut R, size: u64) -> io::Result<Ran> {
     let mut src = [0u8; SOURCE];
     let mut expected = [0u8; EXPECTED];
-    let expected_size = read_number();
-    let n = read_part(size, &mut src);
-    let m = read_part(expected_size, &mut expected);
-    run(&src[0..n], &expected[0..m])
+    let expected_size = read_number(input)?;
+    let n = read_part(input, size, &mut src)?;
+    let m = read_part(input, expected_size, &mut expected)?;
+    Ok(run(&src[0..n], &expected[0..m]))
 }
 
-fn run_cases() -> Counts {
+fn run_cases<R: Read>(rt: &impl Print, input: &mut R) -> io::Result<Counts> {
     let mut counts = counts::START;
     for k in 0..CASES {
-        let size = read_number();
+        let size = read_number(input)?;
         if size == END {
-            return counts;
+            return Ok(counts);
         }
-        counts = counts::add(counts, k, run_case(size));
+        counts = counts::add(rt, counts, k, run_case(input, size)?)?;
     }
-    counts
+    Ok(counts)
 }
 
-fn main() {
-    counts::print_all(run_cases());
+fn main(rt: HostRuntime) -> io::Result<()> {
+    let mut input = rt.stdin();
+    let counts = run_cases(&rt, &mut input)?;
+    counts::print_all(&rt, counts)
 }

@@ -7,72 +7,63 @@ ghost use Rattle.std.specs.Prelude.{◌≤◌, length};
 
 use lex::Token;
 use lexemes::classes;
-use libc::{STDIN_FILENO, STDOUT_FILENO};
+use std::io;
+use std::io::Read;
 use viewer::Positioned;
+
+// The bytes of the input that are read.
+const INPUT: u64 = 65536;
 
 // A line break, four `-` and a line break.
 const SEPARATOR_LEN: usize = 6;
 
 // The bytes from `start` to `end`, if there are any.
-fn print_part(src: &[u8], start: usize, end: usize) {
+fn print_part(rt: &impl Print, src: &[u8], start: usize, end: usize) -> io::Result<()> {
     if start <= end {
         if end <= src.len() {
-            io::write_all(STDOUT_FILENO, &src[start..end]);
+            return rt.write_all(&src[start..end]);
         }
     }
+    Ok(())
 }
 
-fn print_class(src: &[u8], token: Token) {
-    let class = token.class;
-    match class {
-        classes::NAME => {
-            io::write_all(STDOUT_FILENO, b"NAME");
-        }
-        classes::HEX => {
-            io::write_all(STDOUT_FILENO, b"HEX");
-        }
-        classes::DECIMAL => {
-            io::write_all(STDOUT_FILENO, b"DECIMAL");
-        }
-        classes::BAD => {
-            io::write_all(STDOUT_FILENO, b"BAD");
-        }
-        classes::END => {
-            io::write_all(STDOUT_FILENO, b"END");
-        }
-        _ => {
-            print_part(src, token.start, token.end);
-        }
+fn print_class(rt: &impl Print, src: &[u8], token: Token) -> io::Result<()> {
+    match token.class {
+        classes::NAME => rt.print("NAME"),
+        classes::HEX => rt.print("HEX"),
+        classes::DECIMAL => rt.print("DECIMAL"),
+        classes::BAD => rt.print("BAD"),
+        classes::END => rt.print("END"),
+        _ => print_part(rt, src, token.start, token.end),
     }
 }
 
 // A space and a number.
-fn print_number(n: usize) {
-    io::write_all(STDOUT_FILENO, b" ");
-    io::print_decimal(STDOUT_FILENO, n as u64);
+fn print_number(rt: &impl Print, n: usize) -> io::Result<()> {
+    print!(rt; " {n}")
 }
 
-fn print_token(src: &[u8], seen: Positioned) {
+fn print_token(rt: &impl Print, src: &[u8], seen: Positioned) -> io::Result<()> {
     let token = seen.token;
-    print_class(src, token);
-    print_number(token.start);
-    print_number(token.end);
-    print_number(seen.line);
-    print_number(seen.column);
-    io::write_all(STDOUT_FILENO, b"\n");
+    print_class(rt, src, token)?;
+    print_number(rt, token.start)?;
+    print_number(rt, token.end)?;
+    print_number(rt, seen.line)?;
+    print_number(rt, seen.column)?;
+    println!(rt)
 }
 
 // All tokens of a source, up to the end or the first bad one.
-fn print_tokens(src: &[u8]) {
+fn print_tokens(rt: &impl Print, src: &[u8]) -> io::Result<()> {
     let mut at = 0;
     let mut line = 1;
     let mut column = 1;
     loop {
         let seen = viewer::view(src, at, line, column);
         let token = seen.token;
-        print_token(src, token);
+        print_token(rt, src, token)?;
         if classes::BAD <= token.token.class {
-            return;
+            return Ok(());
         }
         at = seen.at;
         line = seen.line;
@@ -111,26 +102,26 @@ fn source_end(src: &[u8], at: usize) -> usize
     i
 }
 
-fn print_separator() {
-    io::write_all(STDOUT_FILENO, b"----\n");
+fn print_separator(rt: &impl Print) -> io::Result<()> {
+    println!(rt; "----")
 }
 
 // The tokens of each source.
-fn print_sources(src: &[u8]) {
+fn print_sources(rt: &impl Print, src: &[u8]) -> io::Result<()> {
     let mut at = 0;
     loop {
         let end = source_end(src, at);
-        print_tokens(&src[at..end]);
+        print_tokens(rt, &src[at..end])?;
         if src.len() - end < SEPARATOR_LEN {
-            return;
+            return Ok(());
         }
-        print_separator();
+        print_separator(rt)?;
         at = end + SEPARATOR_LEN;
     }
 }
 
-fn main() {
-    let mut input = io::large_buffer();
-    let n = io::read_full(STDIN_FILENO, &mut input);
-    print_sources(&input[..n]);
+fn main(rt: HostRuntime) -> io::Result<()> {
+    let mut input = Vec::new(rt.alloc());
+    rt.stdin().take(INPUT).read_to_end(&mut input)?;
+    print_sources(&rt, &input)
 }

@@ -1,8 +1,9 @@
-// Packed cases on standard input: numbers, and parts whose length a number says.
-ghost use Rattle.std.specs.Prelude.{◌≡◌, ◌%◌, ◌<◌, ◌≤◌, length};
+// Packed cases read from an input: numbers, and parts whose length a number says.
+ghost use Rattle.std.specs.Prelude.{◌≡◌, ◌%◌, ◌<◌, ◌≤◌, length, IfOk};
 ghost use Rattle.trials.specs.Values.{big_endian};
 
-use libc::STDIN_FILENO;
+use std::io;
+use std::io::Read;
 
 // The bytes of a number.
 const NUMBER: usize = 4;
@@ -31,23 +32,38 @@ pub fn value(bytes: &[u8]) -> u64
     n
 }
 
-// The next number of the input, or END.
-pub fn read_number() -> u64 {
-    let mut bytes = [0u8; NUMBER];
-    let n = io::read_full(STDIN_FILENO, &mut bytes);
-    if n < NUMBER {
-        return END;
+// Reads until the buffer is full or the input ends, and gives how many bytes came.
+fn read_full<R: Read>(input: &mut R, bytes: &mut [u8]) -> io::Result<usize>
+    ensures { IfOk result (λ n. n ≤ length bytes.new) }
+{
+    let mut done = 0;
+    while done < bytes.len() {
+        let n = input.read(&mut bytes[done..])?;
+        if n == 0 {
+            break;
+        }
+        done += n;
     }
-    value(&bytes)
+    Ok(done)
+}
+
+// The next number of the input, or END.
+pub fn read_number<R: Read>(input: &mut R) -> io::Result<u64> {
+    let mut bytes = [0u8; NUMBER];
+    let n = read_full(input, &mut bytes)?;
+    if n < NUMBER {
+        return Ok(END);
+    }
+    Ok(value(&bytes))
 }
 
 // Reads so many bytes, where there is room for them, and gives how many came.
-pub fn read_part(size: u64, bytes: &mut [u8]) -> usize
-    ensures { result ≤ length bytes.new }
+pub fn read_part<R: Read>(input: &mut R, size: u64, bytes: &mut [u8]) -> io::Result<usize>
+    ensures { IfOk result (λ n. n ≤ length bytes.new) }
 {
     let n = size as usize;
     if bytes.len() < n {
-        return 0;
+        return Ok(0);
     }
-    io::read_full(STDIN_FILENO, &mut bytes[0..n])
+    read_full(input, &mut bytes[0..n])
 }

@@ -1,11 +1,11 @@
 // How many agreed, of how many, and the line that says so.
 ghost use Rattle.std.specs.Prelude.{◌≡◌, ◌+◌, ◌%◌, ◌^◌, if◌then◌else◌};
 
-use libc::STDOUT_FILENO;
+use std::io;
 use std::num::wrapping_add_u64;
 
 // How many agreed, and how many there are.
-#[derive(Drop)]
+#[derive(Clone, Copy)]
 pub struct Tally {
     pub agreed: u64,
     pub all: u64,
@@ -31,20 +31,20 @@ pub fn sum(a: Tally, b: Tally) -> Tally
     Tally { agreed, all }
 }
 
-pub fn print_text(text: &[u8]) {
-    io::write_all(STDOUT_FILENO, text);
+pub fn print_text(rt: &impl Print, text: &[u8]) -> io::Result<()> {
+    rt.write_all(text)
 }
 
-pub fn print_number(n: u64) {
-    io::print_decimal(STDOUT_FILENO, n);
+pub fn print_number(rt: &impl Print, n: u64) -> io::Result<()> {
+    rt.print(n)
 }
 
 // A name, how many agreed and of how many.
-pub fn print_tally(name: &[u8], tally: Tally) {
-    print_text(name);
-    print_text(b": ");
-    print_number(tally.agreed);
-    print_text(b" of ");
-    print_number(tally.all);
-    print_text(b"\n");
+pub fn print_tally(rt: &impl Print, name: &[u8], tally: Tally) -> io::Result<()> {
+    print_text(rt, name)?;
+    print_text(rt, b": ")?;
+    print_number(rt, tally.agreed)?;
+    print_text(rt, b" of ")?;
+    print_number(rt, tally.all)?;
+    print_text(rt, b"\n")
 }

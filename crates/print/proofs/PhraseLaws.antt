@@ -6,7 +6,6 @@ use native.Mathlib.Omega.{arith}
 use mathlib.Core.Path.{◌≡◌, refl, sym, ap, ◌∙◌}
 use mathlib.Core.Bool.{Bool, true, false, cond}
 use mathlib.Core.List.{List, [], ◌∷◌, ◌++◌}
-use lib.Dec.{eqb}
 use lib.ListN.{length, get_or, drop, get_or-eq_default, drop_of_length-le}
 use lib.Seq.{drop-cons, drop-drop, get_or-drop}
 use borrow.Author.Tests.{ne_eqb, lt-ltb, le-ltb}
@@ -20,7 +19,7 @@ use Rattle.spellings.specs.Output.{Prints}
 use Rattle.print.specs.Phrase.{element_words, numeric_flags, element_of, shown_by, has_flags, has_default, GUID, value_from, one_more}
 use Rattle.print.specs.Phrase.{added, skip_after, passed_after, phrase_from, shown_in, element_in}
 use Rattle.print.specs.Steps.{left_of, Entered, Stepped}
-use Rattle.spellings.proofs.Outputs.{prints_none, prints_then, text_append, as_words}
+use Rattle.spellings.proofs.Outputs.{prints_none, text_append}
 
 -- ---- what an element is printed as
 

@@ -49,7 +49,7 @@ module _ (rows : List (List ℕ)) where
   -- it is a ruleref, and stands in a rule
   pub record InRule (i a : ℕ) : Type 0 where
     pub is_reference : column_of rows column.CODE i ≡ code.RULE_REF
-    pub is_rule_lem : column_of rows column.CODE (column_of rows column.PARENT i) ≡ code.RULE
+    pub is_rule : column_of rows column.CODE (column_of rows column.PARENT i) ≡ code.RULE
     pub numbered : column_of rows column.OWN (column_of rows column.PARENT i) ≡ a
 
   in_rule : (i : ℕ) {a : ℕ} → is_rule a ≡ true → rule_round rows (get_or rows i []) ≡ a → InRule i a

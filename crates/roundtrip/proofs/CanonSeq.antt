@@ -128,5 +128,5 @@ module _ (t : List ℕ) (look look' : ℕ → List ℕ) (source : ℕ → ℕ) w
   pub told_over : (d : Depth) (A i : ℕ) (x : Shape) {T : Trees} → Fitted d (nonterminal A ∷ []) (node A i (flat x) nil) → Over t T x → Told N look' T
   told_over d A i x {T} h o = by (to_fits (over_fitted {x = s_node A i x s_nil} (over_node o over_nil) h))
     where
-      by : Fits rules (nonterminal A ∷ []) (node A i T nil) → Told N look' T
+      by : {B : ℕ} → Fits rules (nonterminal B ∷ []) (node A i T nil) → Told N look' T
       by (fits_node e r₁ r₂) = told N look' r₁

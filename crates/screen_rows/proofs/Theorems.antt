@@ -33,7 +33,7 @@ use Rattle.screen.specs.Kinds.{items, hiding, greying, is_item, hides, greys, by
 use Rattle.screen.specs.Screen.{Screen, screen_of, source_screen}
 use Rattle.screen.specs.Bytes.{bytes}
 use Rattle.screen.specs.Round.{size, Stands, ItemAt, EachExpression}
-use Rattle.screen.proofs.RowLaws.{stands_cases, in_item}
+use Rattle.screen.proofs.RowLaws.{stands_cases, stands_inside, in_item}
 use Rattle.screen.proofs.ExpressionLaws.{each_within}
 use Rattle.screen.proofs.Theorems.{bytes_named, source_shallow}
 use Rattle.screen_rows.specs.StatementRow.{StatementRow}
@@ -58,7 +58,7 @@ module _ (t : List ℕ) (count : ℕ) (found : ℕ → List ℕ) {tree : Trees} 
       stands_cases st
       (λ z c e x. rw (z, c, e) (record { inside = omega (arith, laid_rows); code_is = laid.kind; expression = λ y q. clash cc }))
       (λ at u q. stands_laid t count found laid.forms u (omega arith))
-      (λ at u q. elim u [ ])
+      (λ at u q. absurd (omega (arith, stands_inside u)))
 
   -- and the items of the screen stand where the table has rows of items
   item_row : (row : ℕ) → (row < count) × (is_item (cell_at t row column.CODE) ≡ true) → ItemAt row (source_screen found tree)

@@ -1,6 +1,5 @@
 -- Worked examples: the text of numerics' rows (document 02, W-204 and W-208), which has flags always, size and display after the others, and the step always.
 -- Assumes nothing.
-use Prim.Native.Nat.{ℕ}
 use Prim.Native.String.{String}
 use mathlib.Core.Path.{◌≡◌, refl}
 use mathlib.Core.List.{List, [], ◌∷◌, ◌++◌}

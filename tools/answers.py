@@ -540,6 +540,85 @@ def turn(path, fn, crate):
     return out, said
 
 
+def measure(text, params, name):
+    """The measure of a function in a cycle: its arguments are parts of the nested pair a."""
+
+    def field(m):
+        steps = m[1].split(".")[1:]
+        k, last = 0, len(params) - 1
+        while steps and steps[0] == "1" and k < last:
+            k, steps = k + 1, steps[1:]
+        if steps and steps[0] == "0" and k < last:
+            steps = steps[1:]
+        return ".".join([f"l.{params[k]}"] + steps)
+
+    m = re.search(rf"^{re.escape(name)} κs a =", text, re.M)
+    return re.sub(rf"(?<![\w.])a((?:\.{NAME})+)", field, text[m.end() :])
+
+
+def turn_cycle(path, rows, stem, crate, inner):
+    """proofs/+name/Proof.antt: functions that call one another, or themselves."""
+    said = []
+    text = open(path, encoding="utf-8").read().rstrip("\n")
+    head, decls = blocks(text)
+    module, _, _ = inner.rpartition(".")
+    fns = {k[len(stem) + 1 :]: row for k, row in rows.items() if k.startswith(stem + "-")}
+    fns = {f: Function(row, "::".join([crate] + [it for it in module.split(".") if it] + [f])) for f, row in fns.items()}
+    params = {f: next((v for k, v in rows[f"{stem}-{f}"]["params"].items() if k.split("::")[-1] == f), []) for f in fns}
+    invariants, answers, helpers = [], [], []
+    prefix = lambda f: f + "-" if len(fns) > 1 else ""
+    for d in decls:
+        sig = d["lines"][0].split(" : ", 1)[1] if " : " in d["lines"][0] else ""
+        body = "\n".join(d["lines"][1:])
+        m = re.match(rf"\(t : ℕ\) → ({NAME})-lts\.Need-({NAME})", sig)
+        if m:
+            fn = fns[m[1].replace("-", "_")] if m[1] not in fns else fns[m[1]]
+            f = fn.path.split("::")[-1]
+            goal = fn.goals.get(norm_goal(m[2]))
+            plain = re.sub(rf"^{re.escape(d['name'])}(?: t)?(?: c)?(?: κs)? =\s*", "", body).strip()
+            if plain in TRIVIAL:
+                continue
+            if goal is None:
+                said.append(f"{f}: goal {m[2]} not found: {plain[:60]}")
+                continue
+            if goal.startswith("shape_of"):
+                said.append(f"left to the check: {f} {goal} ({plain[:60]})")
+                continue
+            name = prefix(f) + goal
+            got = re.sub(rf"(?m)^{re.escape(d['name'])} t c κs =", f"{d['name']} t c =", body)
+            got = re.sub(rf"(?m)^{re.escape(d['name'])}(?= )", name, got)
+            got = paths(got, fn, said, fn.at[goal])
+            answers.append("\n".join(d["comment"] + [f"pub {name} : goal.{name}", clausal(got, goal, fn)]))
+            continue
+        m = re.match(rf"({NAME})-lts\.(invariant|decreases)-({NAME})", sig)
+        if m:
+            f = m[1] if m[1] in fns else m[1].replace("-", "_")
+            name = f"{m[2]}-{m[3]}"
+            got = invariant({"name": name, "lines": [d["lines"][0], re.sub(rf"(?m)^{re.escape(d['name'])}(?= )", name, body)], "comment": []}, fns[f], said)
+            if got:
+                got = re.sub(rf"(?<![\w-]){m[2]}-(?={re.escape(fns[f].loops[0][1].split('-')[0])})", f"{m[2]}-{prefix(f)}", got)
+                invariants.append(got)
+            continue
+        m = re.match(rf"Measures \d+ ({NAME})-kinds\.ps", sig)
+        if m:
+            f = m[1] if m[1] in fns else m[1].replace("-", "_")
+            invariants.insert(0, f"abbrev pub decreases-{f} : goal.decreases-{f}\ndecreases-{f} l ={measure(body, params[f], d['name'])}")
+            continue
+        if d["name"].endswith("_spec") or re.search(r"-lts\.Claims|: ℕ → In \d", d["lines"][0]):
+            continue
+        helpers.append("\n".join(d["comment"] + ["\n".join(d["lines"])]))
+    comments = [l for l in head if l.startswith("--")]
+    where = f"Rattle.{crate}.proofs.{inner}"
+    out = {}
+    text = "\n\n".join(invariants)
+    out["Invariants.antt"] = "\n".join(comments + uses(head, text) + [f"use {where}.Given as goal", "", text, ""])
+    if answers or helpers:
+        text = "\n\n".join(helpers + answers)
+        text = re.sub(rf"(?<![\w'-])not-(?:true|false) (?:_|\([^()]*\)|{NAME}(?:\.{NAME})*) ((?:{NAME}\.)*if-not-{NAME}\.(?:true|false))", r"\1", text)
+        out["Answers.antt"] = "\n".join(comments + uses(head, text) + [f"use {where}.Goals as goal", "", text, ""])
+    return out, said
+
+
 def main(argv):
     global CRATE
     check = "--check" in argv
@@ -554,11 +633,15 @@ def main(argv):
         folder = os.path.dirname(path)
         inner = os.path.relpath(folder, os.path.join(CRATE, "proofs")).replace("/", ".")
         key = f"Rattle-{crate}-proofs.{inner}.Lts"
-        if key not in rows:
+        cycle = any(k.startswith(key + "-") for k in rows)
+        if key not in rows and not cycle:
             print(f"{inner}: no names")
             continue
         try:
-            out, said = turn(path, Function(rows[key], "::".join([crate] + inner.split("."))), crate)
+            if cycle:
+                out, said = turn_cycle(path, rows, key, crate, inner)
+            else:
+                out, said = turn(path, Function(rows[key], "::".join([crate] + inner.split("."))), crate)
         except (ValueError, AttributeError, IndexError) as e:
             print(f"{inner}: {type(e).__name__} {e}")
             continue

@@ -429,6 +429,14 @@ def answer(name, text, fn, goal):
     return text
 
 
+def older(text):
+    """A file that port.py left with names that were old then: .pre, .taken and .left."""
+    if re.search(r"\.taken\b|\.pre\b", text):
+        text = re.sub(r"\.pre\b", ".requires", re.sub(r"\.taken\b", ".true", text))
+        text = re.sub(r"\b(if\d+)\.left\b", r"\1.false", text)
+    return text
+
+
 def inline_answers(args, by_name, fn, said):
     """The goals that the terms behind tie.spec answer, where these are not trivial."""
     items = []
@@ -479,7 +487,7 @@ def inline_answers(args, by_name, fn, said):
 
 def turn(path, fn, crate):
     said = []
-    text = open(path, encoding="utf-8").read().rstrip("\n")
+    text = older(open(path, encoding="utf-8").read().rstrip("\n"))
     head, decls = blocks(text)
     spec = [d for d in decls if d["name"].endswith("_spec")]
     if not spec or spec_args(spec[0]) is None:
@@ -559,7 +567,7 @@ def measure(text, params, name):
 def turn_cycle(path, rows, stem, crate, inner):
     """proofs/+name/Proof.antt: functions that call one another, or themselves."""
     said = []
-    text = open(path, encoding="utf-8").read().rstrip("\n")
+    text = older(open(path, encoding="utf-8").read().rstrip("\n"))
     head, decls = blocks(text)
     module, _, _ = inner.rpartition(".")
     fns = {k[len(stem) + 1 :]: row for k, row in rows.items() if k.startswith(stem + "-")}
@@ -588,6 +596,9 @@ def turn_cycle(path, rows, stem, crate, inner):
             got = re.sub(rf"(?m)^{re.escape(d['name'])} t c κs =", f"{d['name']} t c =", body)
             got = re.sub(rf"(?m)^{re.escape(d['name'])}(?= )", name, got)
             got = paths(got, fn, said, fn.at[goal])
+            # `.requires` has no measure before the contract's own any more
+            got = re.sub(r"\(arith, (?:pre|c\.requires)\.0, ", "(arith, ", re.sub(r"omega \(arith, (?:pre|c\.requires)\.0\)", "omega arith", got))
+            got = re.sub(r"(?<![\w.])(pre|c\.requires)\.1(?=\.[0-9])", r"\1", got)
             answers.append("\n".join(d["comment"] + [f"pub {name} : goal.{name}", clausal(got, goal, fn)]))
             continue
         m = re.match(rf"({NAME})-lts\.(invariant|decreases)-({NAME})", sig)

@@ -22,7 +22,7 @@ use phrases::SYNTAX;
 
 // Where a walk stands: the refusal or 0, the token, how many rows and how many rules there are so far, and the faults that
 // are noted.
-#[derive(Drop)]
+#[derive(Clone, Copy)]
 pub struct State {
     pub no: u64,
     pub token: Token,

@@ -1,0 +1,15 @@
+-- `walk::items::option_list` meets its contract. The loop's invariant: whoever ends the list from here ends it from its start.
+-- Assumes nothing.
+use mathlib.Core.Path.{◌≡◌}
+use mathlib.Core.Bool.{false}
+use Rattle.grammar.specs.Rules.{<option>*}
+use Rattle.grammar.specs.Derivation.{too_deep}
+use Rattle.walk.proofs.Rooms.{ahead}
+use Rattle.walk.proofs.ListSteps.{ListLoop}
+use Rattle.walk.proofs.items.option_list.Given as goal
+
+abbrev pub invariant-loop-s : goal.invariant-loop-s
+invariant-loop-s l = ListLoop l.src (λ d. too_deep d ≡ false) <option>* l.parent l.initial.table l.initial.s l.table l.s
+
+abbrev pub decreases-loop-s : goal.decreases-loop-s
+decreases-loop-s l = ahead l.src l.s

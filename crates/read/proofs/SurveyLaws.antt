@@ -20,7 +20,7 @@ use Rattle.grammar.specs.Reading.{verdict, derivation}
 use Rattle.grammar.specs.Ranges.{out_of_range, second_words}
 use Rattle.grammar.specs.Source.{source_tokens}
 use Rattle.answers.specs.Answer.{LONGEST}
-use Rattle.answers.specs.WholeAnswer.{refusal, derived, checked, parsed}
+use Rattle.answers.specs.WholeAnswer.{refusal, checked, parsed}
 use Rattle.answers.specs.Demand3.{Grammatical}
 use Rattle.grammar.proofs.Theorems.{verdict_right, accepted_exactly, one_derivation}
 use Rattle.answers.proofs.Checks.{checked_1, checked_2, checked_parsed, checked_16, checked_5, checked_derived}

@@ -1,6 +1,6 @@
 -- The whole answer of resolving, for every source, table and output lent (document 01, Refusal numbers and Resolved text).
 -- Assumes nothing.
-use Rattle.std.specs.Prelude.{ℕ, ◌+◌, ◌-◌, min, true, false, cond, List, [], ◌++◌, eqb, ltb, length, replicate}
+use Rattle.std.specs.Prelude.{ℕ, ◌-◌, min, true, false, cond, List, [], ◌++◌, eqb, ltb, length, replicate}
 use Rattle.rows.specs.Rows.{laid}
 use Rattle.answers.specs.Answer.{LONGEST, Answer}
 use Rattle.answers.specs.WholeAnswer.{refusal, derived, checked, read_answer, rows_of}

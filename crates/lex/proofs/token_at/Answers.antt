@@ -1,6 +1,5 @@
 -- `lex::token_at` meets its contract. The loop's invariant: blanks and comments end at the same place from here as from the start.
 use mathlib.Core.Path.{sym, ◌∙◌}
-use mathlib.Core.Bool.{false}
 use native.Mathlib.Omega.{arith}
 use Rattle.lex.proofs.Comments.{after_blank, after_comment, comment_moves, gap_none, gap_past}
 use Rattle.lex.proofs.Cases.{token_from_lem, token_end}

@@ -1,6 +1,6 @@
 -- `lex::word_token` meets its contract. The loop's invariant: no word goes on past `end`, and where it is sure, the word ends there.
 use mathlib.Core.Path.{◌≡◌, ap, ◌∙◌}
-use mathlib.Core.Bool.{true, false≢true}
+use mathlib.Core.Bool.{false≢true}
 use Prim.Native.Nat.{◌+◌}
 use native.Mathlib.Omega.{arith}
 use lib.ListN.{drop}

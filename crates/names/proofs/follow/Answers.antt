@@ -1,7 +1,6 @@
 -- `stages::names::follow` meets its contract: the chain from the loop's entry ends like the whole one.
 use native.Mathlib.Omega.{arith}
 use lib.ListN.{length}
-use Rattle.names.specs.Names.{matches}
 use Rattle.names.proofs.ChainLaws.{inside, following_start, following_here, following_stop, following_next, following_end}
 use Rattle.names.proofs.follow.Goals as goal
 

@@ -93,12 +93,7 @@ fn put_run(src: &mut [u8], at: usize, size: usize, byte: u8) -> usize
 }
 
 // Reads what is left of a source so long, and gives where it ends.
-fn read_rest<R: Read>(
-    input: &mut R,
-    src: &mut [u8],
-    at: usize,
-    size: usize,
-) -> io::Result<usize>
+fn read_rest<R: Read>(input: &mut R, src: &mut [u8], at: usize, size: usize) -> io::Result<usize>
     ensures { IfOk result (λ end. end ≤ length src.new) }
 {
     if src.len() < size {

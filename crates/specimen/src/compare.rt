@@ -95,13 +95,7 @@ fn print_values(rt: &impl Print, came: u64, expected: u64) -> io::Result<()> {
 }
 
 // Whether two values are the same; a difference is printed.
-fn is_same(
-    rt: &impl Print,
-    s: Specimen,
-    what: &[u8],
-    came: u64,
-    expected: u64,
-) -> io::Result<bool>
+fn is_same(rt: &impl Print, s: Specimen, what: &[u8], came: u64, expected: u64) -> io::Result<bool>
     ensures { IfOk result (λ same. same ≡ true → came ≡ expected) }
 {
     if came == expected {
@@ -128,13 +122,7 @@ fn is_answer(rt: &impl Print, s: Specimen, came: Expected) -> io::Result<bool>
 }
 
 // Which number of the table differs.
-fn print_cell(
-    rt: &impl Print,
-    s: Specimen,
-    k: usize,
-    came: u64,
-    expected: u64,
-) -> io::Result<()> {
+fn print_cell(rt: &impl Print, s: Specimen, k: usize, came: u64, expected: u64) -> io::Result<()> {
     print_case(rt, s)?;
     print_text(rt, b"table at ")?;
     print_number(rt, k as u64)?;
@@ -166,7 +154,13 @@ fn is_table(rt: &impl Print, s: Specimen, table: &[u64], cells: &[u64]) -> io::R
 fn is_quick(rt: &impl Print, s: Specimen, src: &[u8]) -> io::Result<bool>
     ensures { IfOk result (λ same. same ≡ true → quick_check src.now ≡ quick_of s.expected) }
 {
-    is_same(rt, s, b"quick check", read::quick_check(src), quick(s.expected))
+    is_same(
+        rt,
+        s,
+        b"quick check",
+        read::quick_check(src),
+        quick(s.expected),
+    )
 }
 
 // Whether reading a source into the table gives what is expected.

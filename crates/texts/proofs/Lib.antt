@@ -1,3 +1,2 @@
--- The laws of the line and of equal lengths.
-mod LineLaws
-mod LengthLaws
+-- The laws of decimal digits, of the line and of equal lengths.
+mod DecimalLaws

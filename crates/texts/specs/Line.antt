@@ -1,7 +1,7 @@
 -- The line that the program `resolve` prints of a refusal.
 -- Assumes nothing.
 use Rattle.std.specs.Prelude.{◌≡◌, ℕ, ◌≤◌, List, ◌++◌, length}
-use Rattle.io.specs.Digits.{last_digits, IsDigitCount}
+use Rattle.texts.specs.Digits.{last_digits, IsDigitCount}
 use Rattle.lexemes.specs.Lexemes.{bytes}
 use Rattle.trials.specs.Puts.{Puts}
 

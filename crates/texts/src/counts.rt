@@ -39,6 +39,9 @@ pub fn print_all(rt: &impl Print, counts: Counts) -> io::Result<()> {
     print_text(rt, b" agree\n")?;
     print_number(rt, counts.resolved.agreed)?;
     print_text(rt, b" resolved, ")?;
-    print_number(rt, wrapping_sub_u64(counts.resolved.all, counts.resolved.agreed))?;
+    print_number(
+        rt,
+        wrapping_sub_u64(counts.resolved.all, counts.resolved.agreed),
+    )?;
     print_text(rt, b" refused\n")
 }

@@ -18,7 +18,7 @@ pub struct Reader<'a> {
 }
 
 // A token with the line and column of its start.
-#[derive(Drop)]
+#[derive(Clone, Copy)]
 pub struct Positioned {
     pub token: Token,
     pub line: usize,
@@ -26,7 +26,7 @@ pub struct Positioned {
 }
 
 // A token, and the place past it with its line and column.
-#[derive(Drop)]
+#[derive(Clone, Copy)]
 pub struct Seen {
     pub token: Positioned,
     pub at: usize,

@@ -24,7 +24,7 @@ pub const TOO_LONG: u64 = 13;
 // What resolving answers: rows, free numbers and bytes; a refusal's number and place, and that place's line and column, as
 // reading tells them; the rows needed, where fewer whole ones are lent (No. 6); the bytes needed, where the output or the
 // longest text is shorter (No. 13).
-#[derive(Drop)]
+#[derive(Clone, Copy)]
 pub enum Answer {
     Resolved(usize, u64, usize),
     Refused(u64, usize, usize, usize),

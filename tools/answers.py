@@ -553,10 +553,10 @@ def measure(text, params, name):
 
     def field(m):
         steps = m[1].split(".")[1:]
-        k, last = 0, len(params) - 1
-        while steps and steps[0] == "1" and k < last:
+        k = 0
+        while steps and steps[0] == "1" and k < len(params) - 1:
             k, steps = k + 1, steps[1:]
-        if steps and steps[0] == "0" and k < last:
+        if steps and steps[0] == "0":
             steps = steps[1:]
         return ".".join([f"l.{params[k]}"] + steps)
 

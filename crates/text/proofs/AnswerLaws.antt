@@ -15,7 +15,6 @@ use Rattle.answers.specs.Resolution.{room, resolved_into}
 use Rattle.replies.specs.Replies.{position_of, resolve_replied}
 use Rattle.spellings.specs.Output.{MOST}
 use Rattle.spellings.proofs.Outputs.{few_bytes}
-use Rattle.text.specs.declared.Answer.{Answer}
 use Rattle.text.specs.declared.Answer.TheVariants.{Resolved, Long}
 use Rattle.text.specs.Printing.{TextPrinted}
 use Rattle.text.specs.Answers.{told, HasText, RowsPrinted}

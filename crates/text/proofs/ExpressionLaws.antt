@@ -15,7 +15,7 @@ use Rattle.rows.specs.Codes as code
 use Rattle.rows.specs.Columns as column
 use Rattle.rows.specs.Table.{row_at, cell_at}
 use Rattle.answers.specs.Expression.{Expression, negation, binary, Operator, operator_code, operator_class, level, constant_class}
-use Rattle.answers.specs.Text.{Word, words, lexeme, printed, text_of}
+use Rattle.answers.specs.Text.{Word, lexeme, printed, text_of}
 use Rattle.spellings.specs.Output.{MOST, end_of, Prints, PrintsBefore}
 use Rattle.statements.specs.Statements.{operand_words}
 use Rattle.spellings.proofs.Outputs.{few_bytes, text_append, prints_then, print_before, counted_before, before_end, count_before}

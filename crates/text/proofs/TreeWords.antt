@@ -122,7 +122,7 @@ over A h = all_member (λ B. states B) (<item> ∷ <option> ∷ <rule> ∷ <form
 -- a rule that has no statement under it has none in its alternatives; nor has a statement that holds none
 bare_under : Under (λ A i. not (states A && (not (makes_row A) || holds A i))) statements
 unfolding rules
-bare_under = tested _ _ refl
+bare_under = tested _ statements refl
 
 bare_none : {σ : List Symbol} {f : Trees} → Fits rules σ f → free statements σ ≡ true → (z : Items) → items_of f z ≡ z
 unfolding items_of

@@ -13,7 +13,6 @@ use Rattle.rows.specs.Codes as code
 use Rattle.rows.specs.Codes.{is_expression, expressions}
 use Rattle.rows.specs.Columns as column
 use Rattle.ll1.specs.Trees.{Trees}
-use Rattle.ll1.specs.ParseTable.{member}
 use Rattle.ll1.proofs.Basics.{clash}
 use Rattle.grammar.specs.Rules.{<source>, <form>, <rule>, <item>, <option>}
 use Rattle.grammar.specs.Parts.{place_at}

@@ -1,2 +1,0 @@
--- The law of agreement.
-mod AgreementLaws

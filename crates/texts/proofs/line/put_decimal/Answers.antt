@@ -1,8 +1,7 @@
 -- `line::put_decimal` meets its contract: what `itoa` formats is the digits that the number takes, at most 20.
 -- Assumes nothing.
-use Rattle.std.proofs.Common.{sym, subst, arith}
+use Rattle.std.proofs.Common.{arith}
 use Rattle.texts.proofs.DecimalLaws.{decimal_written}
-use Rattle.texts.specs.Line.{Decimal}
 use Rattle.texts.proofs.line.put_decimal.Goals as goal
 
 pub returns : goal.returns

@@ -3,11 +3,11 @@
 
 use rows::columns::ROW;
 use std::io;
-use std::io::Read;
 use text::{Answer, TOO_FEW_ROWS, TOO_LONG};
+use trials::input::read_part;
 
 // One more than the longest source has.
-const INPUT: u64 = 65537;
+const INPUT: usize = 65537;
 
 // 512 rows.
 const TABLE: usize = 512 * ROW;
@@ -27,11 +27,11 @@ fn print_refusal(rt: &impl Print, number: u64, place: usize) -> io::Result<()> {
 }
 
 fn main(rt: HostRuntime) -> io::Result<()> {
-    let mut input = Vec::new(rt.alloc());
-    rt.stdin().take(INPUT).read_to_end(&mut input)?;
+    let mut input = [0u8; INPUT];
+    let n = read_part(&mut rt.stdin(), INPUT as u64, &mut input)?;
     let mut table = [0u64; TABLE];
     let mut out = [0u8; OUTPUT];
-    let answer = text::resolve(&input, &mut table, &mut out);
+    let answer = text::resolve(&input[..n], &mut table, &mut out);
     match answer {
         Answer::Resolved(_, _, bytes) => print_text(&rt, &out, bytes),
         Answer::Refused(number, place, _, _) => print_refusal(&rt, number, place),

@@ -8,11 +8,11 @@ ghost use Rattle.std.specs.Prelude.{◌≤◌, length};
 use lex::Token;
 use lexemes::classes;
 use std::io;
-use std::io::Read;
+use trials::input::read_part;
 use viewer::Positioned;
 
 // The bytes of the input that are read.
-const INPUT: u64 = 65536;
+const INPUT: usize = 65536;
 
 // A line break, four `-` and a line break.
 const SEPARATOR_LEN: usize = 6;
@@ -121,7 +121,7 @@ fn print_sources(rt: &impl Print, src: &[u8]) -> io::Result<()> {
 }
 
 fn main(rt: HostRuntime) -> io::Result<()> {
-    let mut input = Vec::new(rt.alloc());
-    rt.stdin().take(INPUT).read_to_end(&mut input)?;
-    print_sources(&rt, &input)
+    let mut input = [0u8; INPUT];
+    let n = read_part(&mut rt.stdin(), INPUT as u64, &mut input)?;
+    print_sources(&rt, &input[..n])
 }

@@ -1,5 +1,5 @@
 // Packed cases read from an input: numbers, and parts whose length a number says.
-ghost use Rattle.std.specs.Prelude.{◌≡◌, ◌%◌, ◌<◌, ◌≤◌, length, IfOk};
+ghost use Rattle.std.specs.Prelude.{◌≡◌, ◌%◌, ◌<◌, ◌≤◌, length, IfOk, OnErr};
 ghost use Rattle.trials.specs.Values.{big_endian};
 
 use std::io;
@@ -34,7 +34,10 @@ pub fn value(bytes: &[u8]) -> u64
 
 // Reads until the buffer is full or the input ends, and gives how many bytes came.
 fn read_full<R: Read>(input: &mut R, bytes: &mut [u8]) -> io::Result<usize>
-    ensures { IfOk result (λ n. n ≤ length bytes.new) }
+    ensures ok { IfOk result (λ n. n ≤ length bytes.new) }
+
+    // The error is the input's. What came before it may stand in the buffer.
+    ensures err { OnErr result (length bytes.new ≡ length bytes.old) }
 {
     let mut done = 0;
     while done < bytes.len() {
@@ -59,7 +62,10 @@ pub fn read_number<R: Read>(input: &mut R) -> io::Result<u64> {
 
 // Reads so many bytes, where there is room for them, and gives how many came.
 pub fn read_part<R: Read>(input: &mut R, size: u64, bytes: &mut [u8]) -> io::Result<usize>
-    ensures { IfOk result (λ n. n ≤ length bytes.new) }
+    ensures ok { IfOk result (λ n. n ≤ length bytes.new) }
+
+    // The error is the input's. What came before it may stand in the buffer.
+    ensures err { OnErr result (length bytes.new ≡ length bytes.old) }
 {
     let n = size as usize;
     if bytes.len() < n {

@@ -11,7 +11,7 @@ use borrow.Author.Tests.{eq-eqb, eqb-true, lt-ltb, not-true}
 use Rattle.lexemes.proofs.Lists.{either}
 use Rattle.numbers.specs.Numbers.{is_number, mem, written, distinct, numbered, Below}
 use Rattle.numbers.proofs.Ranges.{and_yes, or_no}
-use Rattle.numbers.proofs.Lists.{mem_get_d}
+use Rattle.numbers.proofs.Lists.{mem_get_or}
 use Rattle.numbers.proofs.FreeNumbers.{number_range}
 use Rattle.numbers.proofs.Numbering.{Own, numbered_own, numbering_only}
 use Rattle.rows.specs.Columns as column
@@ -114,7 +114,7 @@ pub numbered_kept : {l : List ℕ} → Own l → numbered l ≡ l
 numbered_kept {l} v = sym (numbering_only (record { long = refl; stands = λ j z. refl; gets = λ j h z. absurd (never j h z) }))
   where
     never : (j : ℕ) → j < length l → get_or l j 0 ≡ 0 → ⊥
-    never j h z = let n : is_number 0 ≡ true = rw z at (v.within (get_or l j 0) (mem_get_d l j h)) in omega (arith, number_range 0 n)
+    never j h z = let n : is_number 0 ≡ true = rw z at (v.within (get_or l j 0) (mem_get_or l j h)) in omega (arith, number_range 0 n)
 
 -- and none repeats one
 module _ {before : List Draft} (d : Draft) where

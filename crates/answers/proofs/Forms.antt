@@ -14,17 +14,17 @@ use Rattle.answers.specs.Stages.{cell, is, row_among, form_from, form_round, dra
 use Rattle.answers.specs.Forms.{column_of, StandsIn, directly, within}
 
 -- an element of a list's image, also past the end
-pub map_get_d : {A B : Type 0} (f : A → B) (l : List A) (i : ℕ) (x : A) → get_or (map f l) i (f x) ≡ f (get_or l i x)
-map_get_d f [] i x = refl
-map_get_d f (a ∷ l) zero x = refl
-map_get_d f (a ∷ l) (suc i) x = map_get_d f l i x
+pub map_get_or : {A B : Type 0} (f : A → B) (l : List A) (i : ℕ) (x : A) → get_or (map f l) i (f x) ≡ f (get_or l i x)
+map_get_or f [] i x = refl
+map_get_or f (a ∷ l) zero x = refl
+map_get_or f (a ∷ l) (suc i) x = map_get_or f l i x
 
 -- ---- by codes and parents
 
 module _ (ds es : List Draft) where
   cell_same : (c : ℕ) → map (cell c) ds ≡ map (cell c) es → (p : ℕ) → cell c (row_among ds p) ≡ cell c (row_among es p)
   cell_same c e p =
-      sym (map_get_d (cell c) ds p (without_marks [])) ∙ ap (λ (l : List ℕ). get_or l p 0) e ∙ map_get_d (cell c) es p (without_marks [])
+      sym (map_get_or (cell c) ds p (without_marks [])) ∙ ap (λ (l : List ℕ). get_or l p 0) e ∙ map_get_or (cell c) es p (without_marks [])
 
   module _ (codes : map (cell column.CODE) ds ≡ map (cell column.CODE) es) (parents : map (cell column.PARENT) ds ≡ map (cell column.PARENT) es) where
     from_same : (n p : ℕ) → form_from ds n p ≡ form_from es n p
@@ -60,7 +60,7 @@ stands_same {rows} {others} codes parents {f} {i} (within n v) =
 module _ (ds : List Draft) where
   -- a column of a draft's row
   pub column_is : (c p : ℕ) → column_of (draft_rows ds) c p ≡ cell c (row_among ds p)
-  column_is c p = ap (λ (r : List ℕ). get_or r c 0) (map_get_d (λ (d : Draft). d.row) ds p (without_marks []))
+  column_is c p = ap (λ (r : List ℕ). get_or r c 0) (map_get_or (λ (d : Draft). d.row) ds p (without_marks []))
 
   abbrev IsForm : ℕ → Type 0
   IsForm p = is code.FORM (row_among ds p) ≡ true

@@ -21,7 +21,7 @@ use Rattle.answers.specs.WholeAnswer.{Checked, refusal, derived, checked, read_a
 use Rattle.answers.specs.Reached.{Reached}
 use Rattle.answers.specs.Forms.{column_of}
 use Rattle.answers.specs.MissingStep.{Stepped, drafts_before, answer_before, without_step, writes_steps}
-use Rattle.answers.proofs.Forms.{map_get_d}
+use Rattle.answers.proofs.Forms.{map_get_or}
 use Rattle.answers.proofs.FoundRows.{finished_column}
 use Rattle.answers.proofs.Walks.{own_among}
 use Rattle.answers.proofs.UncheckedStep.{drafts_alike, answer_same, rows_besides}
@@ -39,9 +39,9 @@ module _ (s : List ℕ) (tree : Trees) where
       let d = item (number_at s) parent item_numeric c in
       let m = own_among (number_at s) r in
       let is : column_of (finished s ds) column.C at ≡ cell column.C d =
-      sym (map_get_d (λ r. get_or r column.C 0) (finished s ds) at [])
+      sym (map_get_or (λ r. get_or r column.C 0) (finished s ds) at [])
       ∙ ap (λ (l : List ℕ). get_or l at 0) (finished_column s ds column.C (λ e. omega arith) (λ e. omega arith))
-      ∙ map_get_d (cell column.C) ds at (without_marks [])
+      ∙ map_get_or (cell column.C) ds at (without_marks [])
       ∙ ap (cell column.C) (ap (λ (l : List Draft). get_or l at (without_marks [])) m.are ∙ get_or_at m.before d _ (without_marks []) at m.number) in
       record { absent = λ e. rw e at is; stays = λ e. rw e at is }
 

@@ -25,7 +25,7 @@ use Rattle.answers.proofs.Demand3.{rows_whole}
 use Rattle.answers.proofs.Faults.{fault_first}
 use Rattle.answers.proofs.FoundRows.{map_map, finished_column, finished_count}
 use Rattle.answers.proofs.FoundRules.{finds_rule_lem, first_own, found_rule}
-use Rattle.answers.proofs.Forms.{map_get_d, column_is, stands_once, stands_same, parent_stands, round_stands}
+use Rattle.answers.proofs.Forms.{map_get_or, column_is, stands_once, stands_same, parent_stands, round_stands}
 use Rattle.answers.proofs.RuleForms.{RuleForms, rule_forms}
 use Rattle.answers.proofs.RuleNames.{any_row, any_only, named_once}
 
@@ -34,9 +34,9 @@ use Rattle.answers.proofs.RuleNames.{any_row, any_only, named_once}
 module _ (s : List ℕ) (ds : List Draft) where
   column_same : (c : ℕ) → c ≢ column.OWN → c ≢ column.A → (p : ℕ) → column_of (draft_rows ds) c p ≡ column_of (finished s ds) c p
   column_same c own a p =
-      sym (map_get_d (λ (r : List ℕ). get_or r c 0) (draft_rows ds) p [])
+      sym (map_get_or (λ (r : List ℕ). get_or r c 0) (draft_rows ds) p [])
       ∙ ap (λ (l : List ℕ). get_or l p 0) (sym (map_map (λ (r : List ℕ). get_or r c 0) (λ (d : Draft). d.row) ds) ∙ sym (finished_column s ds c own a))
-      ∙ map_get_d (λ (r : List ℕ). get_or r c 0) (finished s ds) p []
+      ∙ map_get_or (λ (r : List ℕ). get_or r c 0) (finished s ds) p []
 
   finished_stands : {f i : ℕ} → StandsIn (draft_rows ds) f i → StandsIn (finished s ds) f i
   finished_stands =

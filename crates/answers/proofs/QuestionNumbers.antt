@@ -14,7 +14,7 @@ use Rattle.lexemes.proofs.Lists.{either}
 use Rattle.numbers.specs.Numbers.{number_limit, is_number, picked, free_from, mem, borne, free_numbers, free_count, unwritten, numbered}
 use Rattle.numbers.proofs.Ranges.{and_yes, one, pick_no, count_none, count_next, count_add, pick_index}
 use Rattle.numbers.proofs.FreeNumbers.{number_range, free_exactly}
-use Rattle.numbers.proofs.Lists.{mem_get_d, unwritten_before}
+use Rattle.numbers.proofs.Lists.{mem_get_or, unwritten_before}
 use Rattle.numbers.proofs.Numbering.{Numbering, numbering, enough_free}
 use Rattle.rows.specs.Codes as code
 use Rattle.rows.specs.Codes.{member, questions, is_question}
@@ -152,7 +152,7 @@ module _ (l n : List ℕ) (few : length l ≤ 65535) (v : Numbering l n) where
     number : (is_number (get_or n j 0) ≡ true) × (mem (get_or n j 0) l ≡ false)
     number =
         let k = get_or (free_numbers l) i 0 in
-        let e = and_yes (is_number k) (not (mem k l)) (sym (free_exactly l k) ∙ mem_get_d (free_numbers l) i there) in
+        let e = and_yes (is_number k) (not (mem k l)) (sym (free_exactly l k) ∙ mem_get_or (free_numbers l) i there) in
         rw (v.gets j h z) (e.0, not-true (mem k l) e.1)
 
     below : unwritten_below l (get_or n j 0) ≡ i

@@ -1,4 +1,4 @@
--- Every rule stands directly in a form, and every ruleref in one, however deep in conditions, so that `formRound` finds a form (document 02, W-203).
+-- Every rule stands directly in a form, and every ruleref in one, however deep in conditions, so that `form_round` finds a form (document 02, W-203).
 -- By one induction over a derivation's trees, which is told where they stand: anywhere; in a form, however deep in conditions; or directly in a form.
 -- Assumes nothing.
 use mathlib.Core.Path.{◌≡◌, refl}

@@ -1,4 +1,4 @@
--- A walk down a derivation, with what `draftsOf` tells of where it has come: the parent, the next row's number, the rules before;
+-- A walk down a derivation, with what `drafts_of` tells of where it has come: the parent, the next row's number, the rules before;
 -- and rows that are found by their places.
 -- Assumes nothing.
 use Rattle.std.specs.Prelude.{◌≡◌, List, [], ◌∷◌, ◌++◌, ℕ, suc, ◌+◌, length, get_or}

@@ -22,8 +22,8 @@ use Rattle.answers.specs.Expression.{operator_code, expression}
 
 -- A row, and the marks of what later stages name in it:
 -- own_at    a form's number, a question's written number, what a reference names
--- limitAt  a goto's form number, a numeric's maximum, an option's value
--- defaultAt  a numeric's default, an option's word DEFAULT
+-- limit_at  a goto's form number, a numeric's maximum, an option's value
+-- default_at  a numeric's default, an option's word DEFAULT
 pub record Draft : Type 0 where
   pub row : List ℕ
   pub own_at : ℕ

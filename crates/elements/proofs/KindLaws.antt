@@ -98,7 +98,7 @@ not_list k h = rw (ne_eqb k FLAG_LIST (λ e. omega arith)) (ne_eqb k NUMERIC_FLA
 
 -- ---- an element that keeps something is a token with bytes
 
--- the lists of `startsOf` from ID on
+-- the lists of `starts_of` from ID on
 abbrev starts_by : (a b c d e f : Bool) → List ℕ
 starts_by a b c d e f =
     cond a numbers (cond b (DECIMAL ∷ HEX ∷ «DEFAULT» ∷ [])

@@ -1,5 +1,5 @@
 -- The parse table of the grammar: FIRST and FOLLOW of each rule, its rank, and an alternative that leads to a finished text.
--- It is no part of the grammar. The test of ll1 checks it against the grammar (theorem `grammar-passes`), and nothing rests on it otherwise.
+-- It is no part of the grammar. The test of ll1 checks it against the grammar (theorem `grammar_passes`), and nothing rests on it otherwise.
 -- Assumes nothing.
 use Rattle.std.specs.Prelude.{List, [], ◌∷◌, map, ℕ}
 use Rattle.lexemes.specs.Classes.{open_brace, close_brace, open_paren, close_paren, comma, semicolon}

@@ -1,5 +1,5 @@
 -- Where the parts of a statement stand among the trees under it, counted from 0: by the statement's word and the part's, under the grammar's own
--- line. Theorem `parts-as-named` holds them to the table.
+-- line. Theorem `parts_as_named` holds them to the table.
 -- Assumes nothing.
 use Rattle.std.specs.Prelude.{ℕ, ◌*◌}
 

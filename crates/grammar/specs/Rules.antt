@@ -1,5 +1,5 @@
 -- The numbers of the grammar's rules, by name: document 01's order, and after each of its lines the rules that the line needs besides.
--- A name with `*` is of none or more, one with `?` is of a part in square brackets. Theorem `productions-in-order` holds them to the table.
+-- A name with `*` is of none or more, one with `?` is of a part in square brackets. Theorem `productions_in_order` holds them to the table.
 -- Assumes nothing.
 use Rattle.std.specs.Prelude.{ℕ, ◌+◌, ◌*◌}
 

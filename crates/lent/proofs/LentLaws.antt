@@ -8,7 +8,7 @@ use native.Mathlib.Nat.{eq-or-lt_of_le}
 use native.Mathlib.Omega.{arith}
 use lib.ListN.{length, get_or, set, replicate, length-append, length-take, length-replicate}
 use lib.Seq.{ext_get_or, get_or-take, get_or-set_same, get_or-set_other}
-use Rattle.rows.proofs.CellLaws.{get_d_padded}
+use Rattle.rows.proofs.CellLaws.{get_or_padded}
 use Rattle.lent.specs.Numbers.{in_lent}
 
 -- the first k numbers of t are those of l, with zeros behind
@@ -29,4 +29,4 @@ module _ (t l : List ℕ) where
   written_all n long all =
       ext_get_or 0 t (in_lent n l)
       (long ∙ sym (simp (length-take, length-append, length-replicate) (omega arith)))
-      (λ i h. all i (omega arith) ∙ sym (get_or-take n (l ++ replicate n 0) i 0 (omega arith) ∙ get_d_padded l n i))
+      (λ i h. all i (omega arith) ∙ sym (get_or-take n (l ++ replicate n 0) i 0 (omega arith) ∙ get_or_padded l n i))

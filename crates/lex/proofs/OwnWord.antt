@@ -70,15 +70,15 @@ module _ (s : List ℕ) (at : ℕ) where
       (λ h. rw (past_end s at h) (past_end s (length s) (omega arith)))
 
   -- a word's or a number's bytes are the word that starts at its start, and its class is that word's
-  module _ (is_IsWord : SIGNS ≤ t.class) (some : t.class < BAD) where
+  module _ (is_word : SIGNS ≤ t.class) (some : t.class < BAD) where
     pub own_length : t.end ≡ t.start + length (word (drop t.start s))
-    own_length = ((shape s at).worded is_IsWord some).0
+    own_length = ((shape s at).worded is_word some).0
 
     pub own_word : take (t.end - t.start) (drop t.start s) ≡ word (drop t.start s)
     own_word = word_part s t.start t.end (omega (arith, own_length, word_length (drop t.start s)))
 
     pub own_class : t.class ≡ word_class (word (drop t.start s))
-    own_class = ((shape s at).worded is_IsWord some).1
+    own_class = ((shape s at).worded is_word some).1
 
     -- so that a number's value and the count of its digits are its own too
     pub own_value : value_at s t.start ≡ fitted (numeral (take (t.end - t.start) (drop t.start s)))

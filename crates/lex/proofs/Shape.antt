@@ -34,7 +34,7 @@ pub record Shape (s : List ℕ) (i : ℕ) (t : Token) : Type 0 where
 some_shape : (s : List ℕ) (i k : ℕ) (w : List ℕ) → k < BAD → 0 < length w → length w ≤ length s →
     (k < SIGNS → take (length w) s ≡ get_or signs k []) → (SIGNS ≤ k → (w ≡ word s) × (k ≡ word_class (word s))) →
     Shape s i (record { class = k; start = i; end = i + length w })
-some_shape s i k w small some fits is_sign is_IsWord =
+some_shape s i k w small some fits is_sign is_word =
     record {
       starts = refl;
       known = omega arith;
@@ -42,7 +42,7 @@ some_shape s i k w small some fits is_sign is_IsWord =
       bad = λ h. absurd (omega arith);
       done = λ h. absurd (omega arith);
       sign = λ h. rw add-sub_cancel_left (is_sign h);
-      worded = λ h _. (ap (λ (w : List ℕ). i + length w) (is_IsWord h).0, (is_IsWord h).1);
+      worded = λ h _. (ap (λ (w : List ℕ). i + length w) (is_word h).0, (is_word h).1);
     }
 
 -- a token of the class k without bytes

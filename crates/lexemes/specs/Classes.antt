@@ -1,5 +1,5 @@
 -- The classes of tokens, each named once. A sign's or a reserved word's class is its place among the lexemes: the theorem
--- `classes-named` of proofs/ says so of each name here.
+-- `classes_named` of proofs/ says so of each name here.
 -- Assumes nothing.
 use Rattle.std.specs.Prelude.{ℕ}
 

@@ -66,14 +66,14 @@ module _ {A : Type 0} where
 
 module _ {A B : Type 0} (p : A → B → Bool) where
   -- past both ends the test is of the defaults
-  pub all_pairs_get_d :
+  pub all_pairs_get_or :
       (k : List A) (l : List B) (i : ℕ) (x : A) (y : B)
       → all_pairs p k l ≡ true → p x y ≡ true → p (get_or k i x) (get_or l i y) ≡ true
-  all_pairs_get_d [] [] i x y h q = q
-  all_pairs_get_d [] (b ∷ l) i x y h q = clash cc
-  all_pairs_get_d (a ∷ k) [] i x y h q = clash cc
-  all_pairs_get_d (a ∷ k) (b ∷ l) zero x y h q = (both (p a b) _ h).0
-  all_pairs_get_d (a ∷ k) (b ∷ l) (suc i) x y h q = all_pairs_get_d k l i x y (both (p a b) _ h).1 q
+  all_pairs_get_or [] [] i x y h q = q
+  all_pairs_get_or [] (b ∷ l) i x y h q = clash cc
+  all_pairs_get_or (a ∷ k) [] i x y h q = clash cc
+  all_pairs_get_or (a ∷ k) (b ∷ l) zero x y h q = (both (p a b) _ h).0
+  all_pairs_get_or (a ∷ k) (b ∷ l) (suc i) x y h q = all_pairs_get_or k l i x y (both (p a b) _ h).1 q
 
   pub all_pairs_at :
       (k : List A) (l : List B) (i : ℕ) (x : A) (y : B)

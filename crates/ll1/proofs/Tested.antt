@@ -12,7 +12,7 @@ use Rattle.ll1.specs.Trees.{token, Trees, nil, leaf, node, Symbol, terminal, non
 use Rattle.ll1.specs.ParseTable.{ParseTable, entry, entry_of, predict, member, is_empty, starts_empty, nullable}
 use Rattle.ll1.specs.Machine.{all_nullable}
 use Rattle.ll1.specs.Test.{all, all_at, all_pairs, subset, joined, keep_if, is_some, is_place, is_nil, first_of, follows?, ranks?, alternative?, rule?, trees_by, trees_of, short_trees, finishes?, ll1?}
-use Rattle.ll1.proofs.Basics.{clash, both, implied, is_none, is_place_lem, all_at_at, all_pairs_get_d, all_pairs_at, all_member, member_append, member_keep, find_joined, find_member}
+use Rattle.ll1.proofs.Basics.{clash, both, implied, is_none, is_place_lem, all_at_at, all_pairs_get_or, all_pairs_at, all_member, member_append, member_keep, find_joined, find_member}
 use Rattle.ll1.proofs.Ll1.{empty_alternative, first, Inside, Leads, leads_nil, leads_class, leads_in, leads_past, leads_nowhere, Ll1}
 
 is_nil_lem : (α : List Symbol) → is_nil α ≡ true → α ≡ []
@@ -138,7 +138,7 @@ module _ (G : Grammar) (P : ParseTable) where
 
     rule_tested : (A : ℕ) → RuleTested A
     rule_tested A =
-        let t = all_pairs_get_d (rule? G P) G P A [] (entry [] [] 0 0) parts.1 parts.0 in
+        let t = all_pairs_get_or (rule? G P) G P A [] (entry [] [] 0 0) parts.1 parts.0 in
         let u = both (all_at (alternative? G P (get_or G A []) (entry_of P A)) (get_or G A [])) _ t in
         let v = both (not (nullable G A) || all (λ k. not (is_some (predict P A k))) (entry_of P A).follow) _ u.1 in
         record { alternatives = u.0; absent = v.0; rank = v.1 }

@@ -23,7 +23,7 @@ abbrev pub Allowed : (Depth → Bool) → List Depth → Type 0
 Allowed too_deep [] = Unit {0}
 Allowed too_deep (d ∷ ds) = (too_deep d ≡ false) × Allowed too_deep ds
 
--- ---- what a verdict says, where `tooDeep` tells which depths are too deep
+-- ---- what a verdict says, where `too_deep` tells which depths are too deep
 
 module _ (too_deep : Depth → Bool) (G : Grammar) where
   -- the tokens have a derivation, and no leaf of it is too deep

@@ -95,7 +95,7 @@ module _ (questions : ℕ → Scalar) where
       go (Number n) e = e
       go Undefined e = refl
 
--- so stages 10 and 11 do not suffice: without `NoCircle`, `rules-solved` would be false
+-- so stages 10 and 11 do not suffice: without `NoCircle`, `rules_solved` would be false
 pub circle_not_solved : ((rules : List Formula) → RuleSet rules → (questions : ℕ → Scalar) → OneSolution rules questions) → ⊥
 circle_not_solved all =
     let one = all itself itself_set (λ n. Undefined) in

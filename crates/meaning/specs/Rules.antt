@@ -38,7 +38,7 @@ module _ (rules : List Formula) (questions : ℕ → Scalar) where
   rounds zero n = Undefined
   rounds (suc k) n = meaning questions (rounds k) (rule_at rules n)
 
-  -- what the rule of number n is worth: without circles more rounds than there are rules change nothing (proofs/Theorems, `worth-only`)
+  -- what the rule of number n is worth: without circles more rounds than there are rules change nothing (proofs/Theorems, `worth_only`)
   unfoldable pub worth : ℕ → Scalar
   worth n = rounds (suc (length rules)) n
 

@@ -23,7 +23,7 @@ number_past n e l = ltb-false n number_limit (rw (lt-ltb 0 n l) at e)
 
 -- ---- the next free number
 
--- r is the smallest number from n up that is not taken, numberLimit where there is none
+-- r is the smallest number from n up that is not taken, number_limit where there is none
 pub record Smallest (taken : ℕ → Bool) (n r : ℕ) : Type 0 where
   pub high : r ≤ number_limit
   pub on : r < number_limit → n ≤ r

@@ -23,11 +23,11 @@ pub mem_cons : (k n : ℕ) (l : List ℕ) → mem k (n ∷ l) ≡ (mem k l || eq
 unfolding mem
 mem_cons k n l = or_comm (eqb k n) (mem k l)
 
-pub mem_get_d : (l : List ℕ) (i : ℕ) → i < length l → mem (get_or l i 0) l ≡ true
+pub mem_get_or : (l : List ℕ) (i : ℕ) → i < length l → mem (get_or l i 0) l ≡ true
 unfolding mem
-mem_get_d [] i h = absurd (omega arith)
-mem_get_d (q ∷ l) zero h = rw (eq-eqb q q refl)
-mem_get_d (q ∷ l) (suc i) h = rw (mem_get_d l i (omega arith), or-true (eqb (get_or l i 0) q))
+mem_get_or [] i h = absurd (omega arith)
+mem_get_or (q ∷ l) zero h = rw (eq-eqb q q refl)
+mem_get_or (q ∷ l) (suc i) h = rw (mem_get_or l i (omega arith), or-true (eqb (get_or l i 0) q))
 
 pub mem_take : (k n : ℕ) (l : List ℕ) → mem k l ≡ false → mem k (take n l) ≡ false
 unfolding mem

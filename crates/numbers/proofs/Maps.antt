@@ -30,14 +30,14 @@ pub used_past : (ws : List ℕ) (n : ℕ) → length ws ≤ n / 64 → used ws n
 unfolding used
 used_past ws n h = rw (get_or-eq_default ws 0 h, digit_past 0 0 (n % 64) (zero-lt-suc 0) zero-le)
 
-get_d_zeros : (n i : ℕ) → ◌≡◌ {A = ℕ} (get_or (replicate n 0) i 0) 0
-get_d_zeros zero i = refl
-get_d_zeros (suc n) zero = refl
-get_d_zeros (suc n) (suc i) = get_d_zeros n i
+get_or_zeros : (n i : ℕ) → ◌≡◌ {A = ℕ} (get_or (replicate n 0) i 0) 0
+get_or_zeros zero i = refl
+get_or_zeros (suc n) zero = refl
+get_or_zeros (suc n) (suc i) = get_or_zeros n i
 
 pub used_empty : (k : ℕ) → used empty_map k ≡ false
 unfolding used empty_map
-used_empty k = rw (get_d_zeros 1024 (k / 64), digit_past 0 0 (k % 64) (zero-lt-suc 0) zero-le)
+used_empty k = rw (get_or_zeros 1024 (k / 64), digit_past 0 0 (k % 64) (zero-lt-suc 0) zero-le)
 
 -- ---- marking
 

@@ -15,7 +15,7 @@ use Rattle.numbers.proofs.Lists.{mem_append, mem_take, mem_written, suc_written,
 
 -- ---- which number
 -- A number that is written stands. A question that writes none, with i such questions before it, gets the number with i before it among the numbers
--- from 1 up that no question writes, ascending: `free-exactly` and `free-ascend` say that these are `freeNumbers`. Where they have run out, 0 stays.
+-- from 1 up that no question writes, ascending: `free_exactly` and `free_ascend` say that these are `free_numbers`. Where they have run out, 0 stays.
 
 pub record Numbering (l n : List ℕ) : Type 0 where
   pub long : length n ≡ length l

@@ -19,7 +19,7 @@ use lexemes::classes::BAD;
 pub const SYNTAX: u64 = 3;
 
 // Where the reader of a phrase stands: the refusal or 0, the token, the faults that are noted, how many entries are kept.
-#[derive(Drop)]
+#[derive(Clone, Copy)]
 pub struct Cursor {
     pub no: u64,
     pub token: Token,

@@ -17,7 +17,7 @@ use spellings::words::put_word;
 
 // Where the printer of a phrase stands: the bytes so far, the next element, how many of those that have values it has
 // passed.
-#[derive(Drop)]
+#[derive(Clone, Copy)]
 pub struct Progress {
     pub at: usize,
     pub next: usize,

@@ -22,7 +22,7 @@ fn is_set(set: u64, flag: u64) -> bool
 }
 
 // A flag word: its class and its value.
-#[derive(Drop)]
+#[derive(Clone, Copy)]
 struct FlagWord(u8, u64);
 
 // How many flag words there are, each at its place in document 01's order.

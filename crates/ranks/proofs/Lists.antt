@@ -9,7 +9,7 @@ use borrow.Author.Tests.{eq-eqb, eqb-true, not-true}
 use lib.Dec.{eqb}
 use lib.ListN.{length, get_or}
 use Rattle.numbers.specs.Numbers.{picked, mem, distinct}
-use Rattle.numbers.proofs.Lists.{mem_append, mem_get_d}
+use Rattle.numbers.proofs.Lists.{mem_append, mem_get_or}
 use Rattle.numbers.proofs.Ranges.{and_yes, pick_none, pick_same, pick_inside, count_both, count_or}
 use Rattle.circles.proofs.Reaching.{or_yes, or_first}
 
@@ -34,7 +34,7 @@ distinct_at [] d i j h g e = absurd (omega arith)
 distinct_at (q ∷ l) d i zero h g e = absurd (omega arith)
 distinct_at (q ∷ l) d zero (suc j) h g e =
     let z = and_yes (not (mem q l)) (distinct l) d in
-    false≢true (sym (not-true (mem q l) z.0) ∙ ap (λ (x : ℕ). mem x l) e ∙ mem_get_d l j (omega arith))
+    false≢true (sym (not-true (mem q l) z.0) ∙ ap (λ (x : ℕ). mem x l) e ∙ mem_get_or l j (omega arith))
 distinct_at (q ∷ l) d (suc i) (suc j) h g e =
     let z = and_yes (not (mem q l)) (distinct l) d in
     distinct_at l z.1 i j (omega arith) (omega arith) e

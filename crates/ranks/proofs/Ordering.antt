@@ -11,7 +11,7 @@ use lib.Dec.{ltb, leb, eqb}
 use lib.ListN.{length, get_or, length-append, get_or-append}
 use lib.Seq.{get_or-append-add}
 use Rattle.numbers.specs.Numbers.{picked, mem, distinct}
-use Rattle.numbers.proofs.Lists.{mem_append, mem_get_d}
+use Rattle.numbers.proofs.Lists.{mem_append, mem_get_or}
 use Rattle.numbers.proofs.Ranges.{and_yes, pick_none, pick_same, pick_inside, pick_outside, pick_distinct, count_or}
 use Rattle.circles.proofs.Reaching.{or_yes, or_first, not_yes}
 use Rattle.circles.proofs.Turns.{below_next}
@@ -105,8 +105,8 @@ module _ (ranks : ℕ → ℕ) (n : ℕ) where
           let m : ℕ = j - length l in
           let e : j ≡ length l + m = omega arith in
           let there : get_or (l ++ of_rank k) j 0 ≡ get_or (of_rank k) m 0 = ap (λ (x : ℕ). get_or (l ++ of_rank k) x 0) e ∙ get_or-append-add l (of_rank k) m 0 in
-          let last : ranks (get_or (of_rank k) m 0) ≡ k = (of_rank_lem k _ (mem_get_d (of_rank k) m (omega (arith, length-append l (of_rank k))))).2 in
-          let first : ranks (get_or (l ++ of_rank k) i 0) < suc k = (ranked_rule (suc k) _ (mem_get_d (l ++ of_rank k) i (omega arith))).2 in
+          let last : ranks (get_or (of_rank k) m 0) ≡ k = (of_rank_lem k _ (mem_get_or (of_rank k) m (omega (arith, length-append l (of_rank k))))).2 in
+          let first : ranks (get_or (l ++ of_rank k) i 0) < suc k = (ranked_rule (suc k) _ (mem_get_or (l ++ of_rank k) i (omega arith))).2 in
           rw there (omega arith)
 
   -- ---- where every rank lies below n
@@ -120,7 +120,7 @@ module _ (ranks : ℕ → ℕ) (n : ℕ) where
 
     -- at every place stands a rule
     pub order_rule : (i : ℕ) → i < n → (0 < get_or in_order i 0) × (get_or in_order i 0 ≤ n)
-    order_rule i h = let u = ranked_rule n _ (mem_get_d in_order i (omega (arith, order_length))) in (u.0, u.1)
+    order_rule i h = let u = ranked_rule n _ (mem_get_or in_order i (omega (arith, order_length))) in (u.0, u.1)
 
     -- every rule stands at a place
     pub order_place : (a : ℕ) → 0 < a → a ≤ n → (i : ℕ) × (i < n) × (get_or in_order i 0 ≡ a)

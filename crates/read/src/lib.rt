@@ -17,7 +17,7 @@ use crate::whole::read_rows;
 
 // What reading answers: rows and free numbers; a refusal's number and place, and that place's line and column (0 and 0 at
 // No. 1, whose place is always 0); or, where fewer whole rows are lent than the source needs, the need (No. 6).
-#[derive(Drop)]
+#[derive(Clone, Copy)]
 pub enum Answer {
     Accepted(usize, u64),
     Refused(u64, usize, usize, usize),
@@ -25,7 +25,7 @@ pub enum Answer {
 }
 
 // The same without line and column.
-#[derive(Drop)]
+#[derive(Clone, Copy)]
 enum Outcome {
     Accepted(usize, u64),
     Refused(u64, usize),
@@ -33,7 +33,7 @@ enum Outcome {
 }
 
 // A refusal's number and place, or number and place 0 and the rows needed.
-#[derive(Drop)]
+#[derive(Clone, Copy)]
 pub struct Survey {
     pub number: u64,
     pub place: usize,
@@ -41,7 +41,7 @@ pub struct Survey {
 }
 
 // The number and place of the first fault of stages 7 to 12, or 0 and 0.
-#[derive(Drop)]
+#[derive(Clone, Copy)]
 pub struct Fault {
     pub number: u64,
     pub place: usize,

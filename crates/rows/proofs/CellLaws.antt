@@ -16,16 +16,16 @@ set_append_add : (p s : List ℕ) (i v : ℕ) → set (p ++ s) (length p + i) v 
 set_append_add [] s i v = rw zero-add
 set_append_add (x ∷ p) s i v = rw suc-add (ap (λ (l : List ℕ). x ∷ l) (set_append_add p s i v))
 
-pub get_d_zeros : (n i : ℕ) → get_or {A = ℕ} (replicate n 0) i 0 ≡ 0
-get_d_zeros zero i = refl
-get_d_zeros (suc n) zero = refl
-get_d_zeros (suc n) (suc i) = get_d_zeros n i
+pub get_or_zeros : (n i : ℕ) → get_or {A = ℕ} (replicate n 0) i 0 ≡ 0
+get_or_zeros zero i = refl
+get_or_zeros (suc n) zero = refl
+get_or_zeros (suc n) (suc i) = get_or_zeros n i
 
 -- zeros behind a list change no number of it
-pub get_d_padded : (l : List ℕ) (m i : ℕ) → get_or (l ++ replicate m 0) i 0 ≡ get_or l i 0
-get_d_padded [] m i = get_d_zeros m i
-get_d_padded (x ∷ l) m zero = refl
-get_d_padded (x ∷ l) m (suc i) = get_d_padded l m i
+pub get_or_padded : (l : List ℕ) (m i : ℕ) → get_or (l ++ replicate m 0) i 0 ≡ get_or l i 0
+get_or_padded [] m i = get_or_zeros m i
+get_or_padded (x ∷ l) m zero = refl
+get_or_padded (x ∷ l) m (suc i) = get_or_padded l m i
 
 module _ (t : List ℕ) (n c : ℕ) where
   -- ---- a cell inside, one of no row, and one past its row
@@ -34,7 +34,7 @@ module _ (t : List ℕ) (n c : ℕ) where
   cell_inside h k = sym (rw (row_inside t n h) (get_or-take ROW (drop (n * ROW) t) c 0 k ∙ get_or-drop (n * ROW) t c 0))
 
   pub cell_outside : whole_rows t ≤ n → cell_at t n c ≡ 0
-  cell_outside h = rw (row_outside t n h) (get_d_zeros ROW c)
+  cell_outside h = rw (row_outside t n h) (get_or_zeros ROW c)
 
   pub cell_past : ROW ≤ c → cell_at t n c ≡ 0
   cell_past k = get_or-eq_default (row_at t n) 0 (rw (length_row t n) k)

@@ -11,7 +11,7 @@ use Rattle.rows.specs.Columns.{ROW}
 use Rattle.rows.specs.Table.{whole_rows, row_at, cell_at, cleared}
 use Rattle.rows.specs.Rows.{AreRows, put, laid}
 use Rattle.rows.proofs.RowLaws.{inside_or_not}
-use Rattle.rows.proofs.CellLaws.{get_d_zeros, cell_inside, cell_outside, cell_past}
+use Rattle.rows.proofs.CellLaws.{get_or_zeros, cell_inside, cell_outside, cell_past}
 use Rattle.rows.proofs.FlatLaws.{length_flatten, row_flat, cell_flat}
 use Rattle.rows.proofs.RunLaws.{length_put, put_fits}
 
@@ -20,10 +20,10 @@ pub laid_none : (n : ℕ) → laid [] n ≡ replicate n 0
 unfolding laid flatten
 laid_none n = rw sub-zero
 
-get_d_past : (p : List ℕ) (n i : ℕ) → length p ≤ i → get_or (p ++ replicate n 0) i 0 ≡ 0
-get_d_past [] n i h = get_d_zeros n i
-get_d_past (x ∷ p) n zero h = absurd (not-suc-le-zero h)
-get_d_past (x ∷ p) n (suc i) h = get_d_past p n i (le_of_suc-le-suc h)
+get_or_past : (p : List ℕ) (n i : ℕ) → length p ≤ i → get_or (p ++ replicate n 0) i 0 ≡ 0
+get_or_past [] n i h = get_or_zeros n i
+get_or_past (x ∷ p) n zero h = absurd (not-suc-le-zero h)
+get_or_past (x ∷ p) n (suc i) h = get_or_past p n i (le_of_suc-le-suc h)
 
 module _ {rs : List (List ℕ)} (w : AreRows rs) where
   pub length_laid : (n : ℕ) → length rs * ROW ≤ n → length (laid rs n) ≡ n
@@ -55,7 +55,7 @@ module _ {rs : List (List ℕ)} (w : AreRows rs) where
           let past : length (flatten rs) ≤ i * ROW + c = omega (arith, length_flatten w) in
           none (omega arith)
           (inside_or_not t i
-          (λ j. sym (cell_inside t i c j k) ∙ get_d_past (flatten rs) (n - length (flatten rs)) (i * ROW + c) past)
+          (λ j. sym (cell_inside t i c j k) ∙ get_or_past (flatten rs) (n - length (flatten rs)) (i * ROW + c) past)
           (λ j. cell_outside t i c j))
 
   -- a table that starts with rows, cleared past them

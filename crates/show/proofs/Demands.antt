@@ -18,7 +18,7 @@ use Rattle.rows.specs.Columns as column
 use Rattle.rows.specs.Columns.{ROW}
 use Rattle.rows.specs.Table.{cell_at}
 use Rattle.rows.specs.Rows.{laid}
-use Rattle.rows.proofs.CellLaws.{get_d_padded}
+use Rattle.rows.proofs.CellLaws.{get_or_padded}
 use Rattle.ll1.specs.Trees.{Trees}
 use Rattle.answers.specs.Answer as answer
 use Rattle.answers.specs.Answer.{LONGEST, refuses, drafts}
@@ -214,7 +214,7 @@ module _ {s answers : List ℕ} {n m : ℕ} {r : Answer} {t' o' : List ℕ} (v :
       items_exactly = rw (rows_told, reads_first.1) (accepted_items s n reads tree sound)
 
       byte_is : (row : ℕ) → get_or o' row 0 ≡ get_or (screen_bytes s tree answers) row 0
-      byte_is row = rw bytes_then_zeros (get_d_padded (screen_bytes s tree answers) (m - (told r).rows) row)
+      byte_is row = rw bytes_then_zeros (get_or_padded (screen_bytes s tree answers) (m - (told r).rows) row)
 
       -- what an expression of the source is worth by the answers
       abbrev value : Formula → Scalar

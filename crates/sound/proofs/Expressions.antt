@@ -18,7 +18,7 @@ use Rattle.answers.specs.Expression.{Operator, or, and, bit_or, bit_and, equal, 
 use Rattle.answers.specs.Expression.{Constant, true', false', zero', one', ones', undefined', constant_code}
 use Rattle.answers.specs.Expression.{Expression, number, constant, question_named, question_numbered, rule_named, negation, binary, Pending, nothing, operator, operator_among, joined, asked, atom, spelled, expression}
 use Rattle.answers.specs.Rows.{operand, expression_rows}
-use Rattle.sound.proofs.Lists.{All, none, more, all_append, all_get_d}
+use Rattle.sound.proofs.Lists.{All, none, more, all_append, all_get_or}
 use Rattle.sound.proofs.Places.{Bounded, place_le, child_bounded}
 use Rattle.sound.proofs.SoundRow.{is_bare, Other, bare, reference_other}
 
@@ -58,7 +58,7 @@ asked_placed p c h b =
 atom_placed : (i : ℕ) (c : Trees) (inner : Expression) → Bounded c → Placed inner → Placed (atom i c inner)
 atom_placed i c inner b h =
     let p = place_le 0 c b in
-    all_get_d {P = Placed} i
+    all_get_or {P = Placed} i
     (more (p, h) (more h (more p (more p (more p (more p (more p (more p
     (more (place_le 0 (child 0 c) (child_bounded 0 c b)) (more (asked_placed (place_at 0 c) c p b) (more (p, place_le 2 c b) none)))))))))))
     h

@@ -19,10 +19,10 @@ module _ {X : Type 0} where
     all_append none q = q
     all_append (more h p) q = more h (all_append p q)
 
-    pub all_get_d : {l : List X} {x : X} (i : ℕ) → All P l → P x → P (get_or l i x)
-    all_get_d i none d = d
-    all_get_d zero (more h p) d = h
-    all_get_d (suc i) (more h p) d = all_get_d i p d
+    pub all_get_or : {l : List X} {x : X} (i : ℕ) → All P l → P x → P (get_or l i x)
+    all_get_or i none d = d
+    all_get_or zero (more h p) d = h
+    all_get_or (suc i) (more h p) d = all_get_or i p d
 
 -- of the images
 pub all_map : {X Y : Type 0} {P : Y → Type 0} (f : X → Y) {l : List X} → All (λ x. P (f x)) l → All P (map f l)

@@ -38,7 +38,7 @@ use Rattle.answers.specs.Answer.{LONGEST, drafts}
 use Rattle.answers.specs.Demand3.{Sound}
 use Rattle.answers.proofs.Faults.{no_fault_lem}
 use Rattle.sound.specs.SizedRows.{sizes_named, size, display, below, SizedRow, ColumnTwelve}
-use Rattle.sound.proofs.Lists.{All, none, more, all_append, all_get_d, all_map, apart}
+use Rattle.sound.proofs.Lists.{All, none, more, all_append, all_get_or, all_map, apart}
 use Rattle.sound.proofs.Places.{source_bounded}
 use Rattle.sound.proofs.Kept.{kept, Node, sized}
 use Rattle.sound.proofs.SoundRow.{is_bare}
@@ -248,4 +248,4 @@ module _ (s : List ℕ) where
 
     -- row i
     pub sized_row : (i : ℕ) → ColumnTwelve (get_or (finished s (drafts s tree)) i [])
-    sized_row i = all_get_d i sized_rows (plain [] refl refl)
+    sized_row i = all_get_or i sized_rows (plain [] refl refl)

@@ -9,7 +9,7 @@ use crate::bytes::{end_of, put};
 // A text as three numbers, the lowest byte first, and how many bytes it has. The first and the third number are its first
 // and its last two bytes, or four from four bytes on, or eight from nine on; the second is those after its first eight, if
 // there are more than sixteen, and else 0.
-#[derive(Drop)]
+#[derive(Clone, Copy)]
 pub struct Spelling(pub u64, pub u64, pub u64, pub usize);
 
 // Room for a short text: none has more bytes.

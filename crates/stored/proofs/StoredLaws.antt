@@ -9,7 +9,7 @@ use mathlib.Core.List.{List}
 use lib.ListN.{length, get_or, set, replicate, length-set}
 use lib.Seq.{get_or-set_same, get_or-set_other}
 use borrow.Author.Tests.{lt-ltb, le-ltb}
-use Rattle.rows.proofs.CellLaws.{get_d_zeros}
+use Rattle.rows.proofs.CellLaws.{get_or_zeros}
 use Rattle.operators.specs.declared.Scalar.{Scalar}
 use Rattle.operators.specs.declared.Scalar.TheVariants.{Boolean, Number, Undefined}
 use Rattle.stored.specs.Stored.{sort_of, number_of, scalar_of, room, value_at, with_value}
@@ -37,7 +37,7 @@ unfolding scalar_of
 zeros_undefined n k = go (dec_lt k (room (replicate n 0)))
   where
     go : Dec (k < room (replicate n 0)) → value_at (replicate n 0) k ≡ Undefined
-    go (yes h) = value_inside (replicate n 0) k h ∙ ap₂ scalar_of (get_d_zeros n (2 * k)) (get_d_zeros n (2 * k + 1))
+    go (yes h) = value_inside (replicate n 0) k h ∙ ap₂ scalar_of (get_or_zeros n (2 * k)) (get_or_zeros n (2 * k + 1))
     go (no h) = value_outside (replicate n 0) k (omega arith)
 
 module _ (s : List ℕ) (k : ℕ) (v : Scalar) where

@@ -26,7 +26,7 @@ use Rattle.answers.proofs.MissingStep as MissingStep
 use Rattle.replies.specs.Replies.{Reply, position_of, accepting, read_replied, resolve_replied, resolve_reply}
 use Rattle.replies.specs.Lines.{GivesLine}
 use Rattle.replies.proofs.Laws.{gives_line}
-use Rattle.read.specs.declared.Answer as read_answer
+use Rattle.read.specs.declared.Answer as answer_of_read
 use Rattle.read.specs.Answers as read_answers
 use Rattle.read.proofs.Demands as read
 use Rattle.roundtrip.specs.Demand2.{ReadsAgain, SameTables}
@@ -134,7 +134,7 @@ module _ {s : List ℕ} {n m : ℕ} {r : Answer} {t' o' : List ℕ} (v : Resolvi
 
     -- so a second `read`, of the text, ends with the same counts and leaves the same rows in its table, but the places
     pub read_again :
-        (r₂ : read_answer.Answer) (t₂ : List ℕ) → read.Reading (text_of_source s) n r₂ t₂
+        (r₂ : answer_of_read.Answer) (t₂ : List ℕ) → read.Reading (text_of_source s) n r₂ t₂
         → (read_answers.told r₂ ≡ accepting (told r).rows (told r).free 0) × SameTables n (told r).rows t₂ t'
     unfolding position_of
     read_again r₂ t₂ w = (w.answer ∙ ap (read_replied (text_of_source s)) (reads_again.same_answer ∙ read_counts), same_tables w.table)

@@ -18,7 +18,7 @@ use spellings::words::{put_word, word_length};
 use statements::put_operand;
 
 // Where printing from the end stands: the rows and the bytes before.
-#[derive(Drop)]
+#[derive(Clone, Copy)]
 pub struct Ahead {
     pub row: usize,
     pub at: usize,

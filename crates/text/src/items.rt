@@ -9,7 +9,7 @@ use rows::{cell, codes};
 use statements::{put_closing, put_expression_end, put_opening};
 
 // Where the printer stands: the next row, the bytes so far.
-#[derive(Drop)]
+#[derive(Clone, Copy)]
 pub struct Printed {
     pub row: usize,
     pub at: usize,

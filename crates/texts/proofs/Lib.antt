@@ -1,2 +1,4 @@
 -- The laws of decimal digits, of the line and of equal lengths.
 mod DecimalLaws
+mod LineLaws
+mod LengthLaws

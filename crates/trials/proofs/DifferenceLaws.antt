@@ -15,15 +15,15 @@ module _ (xs ys : List ℕ) where
     by (inl p) = rw p e
     by (inr l) = s i l
 
-get_d_zeros : (m i : ℕ) → get_or (replicate m zero) i 0 ≡ zero
-get_d_zeros zero i = refl
-get_d_zeros (suc m) zero = refl
-get_d_zeros (suc m) (suc i) = get_d_zeros m i
+get_or_zeros : (m i : ℕ) → get_or (replicate m zero) i 0 ≡ zero
+get_or_zeros zero i = refl
+get_or_zeros (suc m) zero = refl
+get_or_zeros (suc m) (suc i) = get_or_zeros m i
 
-get_d_padded : (ys : List ℕ) (m i : ℕ) → get_or (ys ++ replicate m zero) i 0 ≡ get_or ys i 0
-get_d_padded [] m i = get_d_zeros m i
-get_d_padded (y ∷ ys) m zero = refl
-get_d_padded (y ∷ ys) m (suc i) = get_d_padded ys m i
+get_or_padded : (ys : List ℕ) (m i : ℕ) → get_or (ys ++ replicate m zero) i 0 ≡ get_or ys i 0
+get_or_padded [] m i = get_or_zeros m i
+get_or_padded (y ∷ ys) m zero = refl
+get_or_padded (y ∷ ys) m (suc i) = get_or_padded ys m i
 
 module _ (xs ys : List ℕ) (r : ℕ) where
   -- a list that differs nowhere from one that is no longer is that one with zeros behind it
@@ -32,4 +32,4 @@ module _ (xs ys : List ℕ) (r : ℕ) where
   no_difference d h k =
       ext_get_or 0 xs (ys ++ replicate (length xs - length ys) zero)
       (simp (length-append, length-replicate) (omega arith))
-      (λ i l. d.same i (omega arith) ∙ sym (get_d_padded ys (length xs - length ys) i))
+      (λ i l. d.same i (omega arith) ∙ sym (get_or_padded ys (length xs - length ys) i))

@@ -11,7 +11,7 @@ use lexemes::bytes::{byte_at, in_word, is_digit};
 use lexemes::words::word_end;
 
 // The value of a number.
-#[derive(Drop)]
+#[derive(Clone, Copy)]
 pub enum Value {
     Fits(u64),
     // 2^64 or more.

@@ -9,7 +9,7 @@ use lex::Token;
 use lexemes::classes::BAD;
 use positions::Position;
 
-#[derive(Drop)]
+#[derive(Clone, Copy)]
 pub struct Reader<'a> {
     pub src: &'a [u8],
     pub at: usize,

@@ -33,7 +33,7 @@ pub struct State {
 
 // What a walk ends with: the refusal's number and place, or 0 and 0; how many rows and rules there are, and the faults
 // that are noted. Where there is a refusal, all these are 0.
-#[derive(Drop)]
+#[derive(Clone, Copy)]
 pub struct Outcome {
     pub no: u64,
     pub place: usize,

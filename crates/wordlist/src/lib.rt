@@ -10,7 +10,7 @@ ghost use Rattle.wordlist.specs.Filled.{pack_of};
 ghost use Rattle.wordlist.specs.Words.{reserved};
 
 // Sixteen bytes as two numbers, of which the lowest byte comes first.
-#[derive(Drop)]
+#[derive(Clone, Copy)]
 pub struct Packed {
     pub first: u64,
     pub rest: u64,

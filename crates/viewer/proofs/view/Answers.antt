@@ -1,4 +1,4 @@
--- `viewer::view` meets its contract: the branch's test says whether the place moves (`seen-past`) or stays (`seen-stays`).
+-- `viewer::view` meets its contract: the branch's test says whether the place moves (`seen_past`) or stays (`seen_stays`).
 -- Assumes nothing.
 use borrow.Author.Rules.{rules}
 use Rattle.viewer.proofs.Onward.{seen_past, seen_stays}

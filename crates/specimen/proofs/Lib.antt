@@ -1,0 +1,2 @@
+-- The law of agreement.
+mod AgreementLaws

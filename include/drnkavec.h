@@ -10,9 +10,9 @@
  * Every function takes every input. It reads the source without changing it, writes nowhere but to the
  * buffers lent for results, keeps no pointer and allocates nothing. A buffer of length 0 is not touched, and its
  * pointer may be NULL. Two things are left to the caller: the buffers of one call do not overlap, and there is stack
- * enough. vfr_read, vfr_read_family and vfr_resolve take about 140 KB of it for a source that is not deep and 295 KB
+ * enough. vfr_read, vfr_read_family and vfr_resolve take about 140 KB of it for a source that is not deep and 300 KB
  * for the deepest, vfr_show 45 KB more of either, so that a thread wants 320 KB, or 370 KB for vfr_show;
- * vfr_quick_check takes about 180 KB at most, vfr_token under 1 KB.
+ * vfr_quick_check takes about 190 KB at most, vfr_token under 1 KB.
  */
 #ifndef DRNKAVEC_H
 #define DRNKAVEC_H

@@ -78,7 +78,7 @@ is_flag_list e = eqb e FLAG_LIST || eqb e NUMERIC_FLAGS
 unfoldable pub starts_of : ℕ → List ℕ
 starts_of e =
     cond (ltb e ID) (e ∷ [])
-    -- ID, SMALL, LARGE, NUMERIC-VALUE
+    -- ID, SMALL, LARGE, NUMERIC_VALUE
     (cond (ltb e OPTION_FLAGS) numbers
     (cond (eqb e OPTION_FLAGS) (DECIMAL ∷ HEX ∷ «DEFAULT» ∷ [])
     (cond (eqb e REFERENCE) (NAME ∷ numbers)

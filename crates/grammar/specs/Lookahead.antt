@@ -121,7 +121,7 @@ lookahead =
     ∷ entry ([] ∷ items ∷ []) («endif» ∷ []) 1 0
     -- <option>
     ∷ entry ((«option» ∷ []) ∷ []) («option» ∷ «endoneof» ∷ []) 0 0
-    -- <option-flags>
+    -- <option_flags>
     ∷ entry (numbers ∷ («DEFAULT» ∷ []) ∷ []) (semicolon ∷ []) 1 1
     -- <head>
     ∷ entry ((«name» ∷ «questionid» ∷ «prompt» ∷ []) ∷ []) (comma ∷ semicolon ∷ []) 1 0
@@ -167,14 +167,14 @@ lookahead =
     («UNDEFINED» ∷ []) ∷ numbers ∷ («questionref» ∷ []) ∷ («ruleref» ∷ []) ∷ []) after_atom 1 2
     -- <name-or-number>
     ∷ entry ((NAME ∷ []) ∷ numbers ∷ []) (close_paren ∷ []) 1 0
-    -- <numeric-flags>?
+    -- <numeric_flags>?
     ∷ entry ([] ∷ («flags» ∷ []) ∷ []) («minimum» ∷ []) 0 0
-    -- <numeric-fl>
+    -- <numeric_fl>
     ∷ entry (numeric_words ∷ []) (comma ∷ []) 1 0
-    -- <numeric-flag>*
+    -- <numeric_flag>*
     ∷ entry ([] ∷ («|» ∷ []) ∷ []) (comma ∷ []) 0 0
-    -- <numeric-flag>
+    -- <numeric_flag>
     ∷ entry (singles numeric_words) («|» ∷ comma ∷ []) 0 0
-    -- <numeric-value>
+    -- <numeric_value>
     ∷ entry (singles numbers) (comma ∷ []) 0 0
     ∷ []

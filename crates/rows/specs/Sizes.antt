@@ -5,7 +5,7 @@ use Rattle.std.specs.Prelude.{ℕ, ◌+◌, ◌*◌, ◌/◌, ◌%◌}
 abbrev pub NO_SIZE : ℕ
 NO_SIZE = 8
 
--- the displays, "0, 1 or 2 for the display in the order above"; absent means UINT-DEC
+-- the displays, "0, 1 or 2 for the display in the order above"; absent means UINT_DEC
 abbrev pub INT_DEC : ℕ
 INT_DEC = 0
 

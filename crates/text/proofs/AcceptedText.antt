@@ -58,7 +58,7 @@ module _ (t : List ℕ) (found : ℕ → List ℕ) (value : ℕ → ℕ) {tree :
           is = ap text_of (source_words t found value fits held);
         }
 
-    -- and it is no longer than EACH-ROW bytes a row
+    -- and it is no longer than EACH_ROW bytes a row
     whole_short : ((j k : ℕ) → cell_at t j k < 2 ^ 64) → length (text_of (words_of found tree)) ≤ OPENING + EACH_ROW * length ds + 16
     unfolding whole
     whole_short small =

@@ -1,4 +1,4 @@
--- A text is short: no row's part of it is longer than EACH-ROW bytes.
+-- A text is short: no row's part of it is longer than EACH_ROW bytes.
 -- Assumes nothing.
 use Prim.Native.Nat.{ℕ, zero, suc, ◌+◌, ◌-◌, ◌*◌, ◌/◌, ◌%◌, ◌^◌, ◌≤◌, ◌<◌}
 use native.Mathlib.Omega.{arith}

@@ -1,5 +1,5 @@
 // Reading groups and cases from an input.
-ghost use Rattle.std.specs.Prelude.{◌≡◌, ◌≤◌, length, IfOk};
+ghost use Rattle.std.specs.Prelude.{◌≡◌, ◌≤◌, length, IfOk, OnErr};
 ghost use Rattle.readings.specs.Packed.{unpacked};
 
 use specimen::{Expected, Specimen};
@@ -94,7 +94,10 @@ fn put_run(src: &mut [u8], at: usize, size: usize, byte: u8) -> usize
 
 // Reads what is left of a source so long, and gives where it ends.
 fn read_rest<R: Read>(input: &mut R, src: &mut [u8], at: usize, size: usize) -> io::Result<usize>
-    ensures { IfOk result (λ end. end ≤ length src.new) }
+    ensures ok { IfOk result (λ end. end ≤ length src.new) }
+
+    // The error is the input's. What came before it may stand in the buffer.
+    ensures err { OnErr result (length src.new ≡ length src.old) }
 {
     if src.len() < size {
         return Ok(0);
@@ -108,7 +111,10 @@ fn read_rest<R: Read>(input: &mut R, src: &mut [u8], at: usize, size: usize) -> 
 
 // Reads a case's source, its run put in, and gives its length.
 pub fn read_source<R: Read>(input: &mut R, case: Case, src: &mut [u8]) -> io::Result<usize>
-    ensures { IfOk result (λ end. end ≤ length src.new) }
+    ensures ok { IfOk result (λ end. end ≤ length src.new) }
+
+    // The error is the input's. What came before it may stand in the buffer.
+    ensures err { OnErr result (length src.new ≡ length src.old) }
 {
     let start = read_part(input, case.run_start, src)?;
     let byte = (case.run_byte % 256) as u8;

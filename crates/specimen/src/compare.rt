@@ -1,7 +1,7 @@
 // Reading a source into a table, and comparing all that comes back with what is expected.
 ghost use Rattle.std.specs.Prelude.{◌≡◌, true, length, IfOk};
 ghost use Rattle.read.specs.Answers.{told};
-ghost use Rattle.answers.specs.WholeAnswer.{quick_check};
+ghost use Rattle.answers.specs.WholeAnswer.{quick_check, read_table};
 ghost use Rattle.trials.specs.Differences.{padded};
 ghost use Rattle.specimen.specs.Agreement.{reply_of, quick_of, cells_of, Agrees};
 
@@ -171,7 +171,10 @@ fn is_read(
     table: &mut [u64],
     cells: &[u64],
 ) -> io::Result<bool>
-    ensures { IfOk result (λ same. same ≡ true → Agrees src.now (length table.old) s.expected cells.now) }
+    ensures ok { IfOk result (λ same. same ≡ true → Agrees src.now (length table.old) s.expected cells.now) }
+
+    // Printing changes nothing that is lent: the table is as reading leaves it.
+    ensures table_after { table.new ≡ read_table src.now (length table.old) }
 {
     fill_numbers(table, UNCLEARED_NUMBER);
     let answer = read::read(src, table);
@@ -189,7 +192,10 @@ fn is_read_in(
     space: &mut [u64],
     cells: &[u64],
 ) -> io::Result<bool>
-    ensures { IfOk result (λ same. same ≡ true → Agrees src.now s.lent s.expected cells.now) }
+    ensures ok { IfOk result (λ same. same ≡ true → Agrees src.now s.lent s.expected cells.now) }
+
+    // An error is one of printing, and leaves the space as it is without one.
+    ensures space_after { length space.new ≡ length space.old }
 {
     let n = s.lent;
     if space.len() < n {

@@ -7,3 +7,4 @@ pub mod Sizes
 pub mod Draft
 pub mod Table
 pub mod Rows
+pub mod Marks

@@ -77,12 +77,9 @@ pub fn set_if(there: bool, number: u64) -> u64
 fn second_mark(w: Words, class: u8, mark: usize) -> usize
     ensures { result ≡ when (repeats w class) mark }
 {
-    if (w.size.is_some() & size(class).is_some())
-        | (w.display.is_some() & display(class).is_some())
-    {
-        return mark;
-    }
-    0
+    let sized_again = w.size.is_some() & size(class).is_some();
+    let shown_again = w.display.is_some() & display(class).is_some();
+    if sized_again | shown_again { mark } else { 0 }
 }
 
 // The words with one of the class at a mark; a repeated flag adds nothing, and the first size and display stay.

@@ -1,11 +1,12 @@
 -- Reading a phrase: a list of elements, from a token on.
 -- Assumes nothing.
-use Rattle.std.specs.Prelude.{ℕ, zero, suc, ◌+◌, ◌-◌, Bool, cond, ◌&&◌, List, [], ◌∷◌, map, eqb, ltb, leb, length, get_or, set}
+use Rattle.std.specs.Prelude.{ℕ, zero, suc, ◌+◌, ◌-◌, Bool, cond, ◌&&◌, List, [], ◌∷◌, map, eqb, ltb, leb, length, get_or, set, Result, Ok, Err}
 use Rattle.lex.specs.declared.Token.{Token}
 use Rattle.lexemes.specs.Classes.{«|», BAD}
 use Rattle.lex.specs.Tokens.{token_at}
 use Rattle.ll1.specs.ParseTable.{member}
 use Rattle.phrases.specs.declared.Cursor.{Cursor}
+use Rattle.phrases.specs.declared.reader.Standing.{Standing}
 use Rattle.elements.specs.declared.flags.Words.{Words}
 use Rattle.elements.specs.declared.noted.Noted.{Noted}
 use Rattle.elements.specs.Words.{no_words, with_word, list_entry, list_second}
@@ -58,10 +59,6 @@ starting t n l = ready t n (kept_at 0 l)
 abbrev pub passing : List ℕ → Reader → Reader
 passing s x = ready (token_at s x.token.end) x.noted x.kept
 
--- past the last token of an element; a refusal stays
-abbrev pub onward : List ℕ → Reader → Reader
-onward s x = cond (eqb x.no 0) (passing s x) x
-
 -- with n elements to leave out
 abbrev pub skipping : Reader → ℕ → Reader
 skipping x n = record { no = x.no; token = x.token; noted = x.noted; skip = n; kept = x.kept }
@@ -77,6 +74,15 @@ leaving x = skipping (ready x.token x.noted (with_entry x.kept 0)) GROUP
 -- one element less to leave out
 abbrev pub leaving_one : Reader → Reader
 leaving_one x = skipping x (x.skip - 1)
+
+-- where the code's reader stands
+abbrev pub stands : Standing → List ℕ → Reader
+stands at l = ready at.token at.noted (kept_at at.count l)
+
+-- and where it comes to, or is refused
+abbrev pub went : Result Standing Standing → List ℕ → Reader
+went (Ok at) l = stands at l
+went (Err at) l = refusing (stands at l) at.token
 
 -- ---- elements of one token
 

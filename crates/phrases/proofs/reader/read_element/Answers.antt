@@ -6,7 +6,7 @@ use Rattle.phrases.proofs.ReadingLaws.{refuses, takes_flags, takes_token}
 use Rattle.phrases.proofs.reader.read_element.Goals as goal
 
 pub returns-then-not-suits : goal.returns-then-not-suits
-returns-then-not-suits c = rw c.standing.ensures (sym (refuses _ _ _ (sym c.suits.ensures ∙ c.if-not-suits.true)))
+returns-then-not-suits c = sym (refuses _ _ _ (sym c.suits.ensures ∙ c.if-not-suits.true))
 
 pub take_flags-requires : goal.take_flags-requires
 take_flags-requires c = (c.if-want.true, sym c.suits.ensures ∙ c.if-not-suits.false, c.requires)

@@ -12,8 +12,8 @@ keep_element-count-requires c = c.requires c.if-want.true
 
 pub returns-then-want : goal.returns-then-want
 unfolding taking
-returns-then-want c = rw (c.standing.ensures, c.if-want.true, ← c.note_range-noted.ensures, ← c.keep_element-count.ensures)
+returns-then-want c = rw (c.token_at-token.ensures, c.if-want.true, ← c.note_range-noted.ensures, ← c.keep_element-count.ensures)
 
 pub returns : goal.returns
 unfolding taking
-returns c = rw (c.standing-2.ensures, c.if-want.false)
+returns c = rw (c.token_at-token.ensures, c.if-want.false)

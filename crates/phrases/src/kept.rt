@@ -3,6 +3,7 @@ ghost use Rattle.std.specs.Prelude.{◌≡◌, ◌<◌, ◌+◌, ◌^◌};
 ghost use Rattle.elements.specs.Kinds.{element_entry, reference_entries, element_entries};
 ghost use Rattle.phrases.specs.Phrase.{kept_at, with_entry, with_entries};
 
+use elements::flags::set_if;
 use elements::kinds::*;
 use lex::Token;
 use lexemes::classes::*;
@@ -22,32 +23,28 @@ pub fn keep(kept: &mut [u64], count: usize, entry: u64) -> usize
 fn keep_reference(kept: &mut [u64], count: usize, class: u8, mark: u64) -> usize
     ensures { kept_at result kept.new ≡ with_entries (kept_at count kept.old) (reference_entries class mark) }
 {
-    if class == NAME {
-        let one = keep(kept, count, mark);
-        return keep(kept, one, 0);
-    }
-    let one = keep(kept, count, 0);
-    keep(kept, one, mark)
+    let (name, number) = if class == NAME { (mark, 0) } else { (0, mark) };
+    let one = keep(kept, count, name);
+    keep(kept, one, number)
 }
 
 // What any other element of one token keeps: the mark of a name or a number; of an option's flags that of DEFAULT; of
 // a truth 2 for TRUE and 1 for FALSE.
+#[tactic(auto, unfolding(elements::specs::Kinds::element_entry))]
 fn entry_of(want: u8, class: u8, mark: u64) -> u64
     ensures { result ≡ element_entry want class mark }
 {
-    if want == OPTION_FLAGS {
-        if class == DEFAULT {
-            return mark;
+    match want {
+        OPTION_FLAGS => set_if(class == DEFAULT, mark),
+        TRUTH => {
+            if class == TRUE {
+                2
+            } else {
+                1
+            }
         }
-        return 0;
+        _ => mark,
     }
-    if want == TRUTH {
-        if class == TRUE {
-            return 2;
-        }
-        return 1;
-    }
-    mark
 }
 
 // Keeps what the token keeps as the element.

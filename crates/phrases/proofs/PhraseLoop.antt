@@ -1,16 +1,14 @@
 -- The loop over a pattern's elements, turn by turn.
 -- Assumes nothing.
-use Prim.Native.Nat.{ℕ, zero, suc, ◌+◌, ◌-◌, ◌≤◌, ◌<◌, min}
+use Prim.Native.Nat.{ℕ, zero, suc, ◌-◌, ◌<◌, min}
 use Rattle.std.proofs.lemmas.List.{take_all, drop_min}
-use mathlib.Core.Path.{◌≡◌, refl, sym, ap, ◌∙◌, subst}
+use mathlib.Core.Path.{◌≡◌, refl, sym, ap, ◌∙◌}
 use mathlib.Core.Bool.{Bool, true, false, cond}
 use mathlib.Core.List.{List, [], ◌∷◌}
 use mathlib.Core.Logic.{◌≢◌}
-use native.Mathlib.Numerals.{add-one}
 use native.Mathlib.Omega.{arith}
 use lib.Dec.{eqb}
 use lib.ListN.{length, get_or, take, drop, length-drop}
-use borrow.Author.Tests.{eq-eqb, ne_eqb}
 use Rattle.lex.specs.declared.Token.{Token}
 use Rattle.lexemes.specs.Classes.{«|», NAME}
 use Rattle.lex.specs.Tokens.{token_at}
@@ -21,7 +19,7 @@ use Rattle.elements.specs.Words.{with_word}
 use Rattle.grammar.specs.Parts.{mark}
 use Rattle.phrases.specs.Stream.{Within}
 use Rattle.elements.specs.Kinds.{MAYBE, GROUP, is_flag_list, starts_of, is_kept}
-use Rattle.phrases.specs.Phrase.{Kept, kept_at, with_entry, Reader, ready, skipping, refusing, taking, flags_from, taking_flags, fitting, step_of, phrase_from}
+use Rattle.phrases.specs.Phrase.{Kept, with_entries, Reader, ready, skipping, refusing, taking, flags_from, taking_flags, fitting, step_of, phrase_from}
 use Rattle.phrases.proofs.Streams.{within_at}
 use Rattle.phrases.proofs.ReadingLaws.{reads_group, leaves_group, reads_tokens, takes_word, refuses_word, step_on, left_out, handed_on}
 
@@ -107,8 +105,9 @@ module _ {s p : List ℕ} {x : Reader} {e : ℕ} {q : List ℕ} {t : Token} {was
   turns_group m f c = turns_more w (sym (step_on s here e next refl refl ∙ reads_group s here e next m (c ∙ f))) w.within
 
   pub turns_absent :
-      {n m : ℕ} {kept' : Kept} → e ≡ MAYBE → n ≡ next → t.class ≢ n → kept' ≡ with_entry kept 0 → m ≡ min GROUP (length q)
+      {n m : ℕ} {kept' : Kept} → e ≡ MAYBE → n ≡ next → t.class ≢ n → kept' ≡ with_entries kept (0 ∷ []) → m ≡ min GROUP (length q)
       → Turns s p x (take (length q - m) (drop m q)) (ready t was kept')
+  unfolding with_entries
   turns_absent {kept' = kept'} m f c k g =
       rw (g, past_group q)
       (turns_skip (ready t was kept') GROUP

@@ -1,6 +1,6 @@
 -- What reading a phrase gives: its elements spell symbols of the grammar.
 -- Assumes nothing.
-use Prim.Native.Nat.{ℕ, ◌≤◌, ◌<◌}
+use Prim.Native.Nat.{ℕ, ◌≤◌}
 use mathlib.Core.Path.{◌≡◌, refl, sym, ap, ◌∙◌, subst}
 use mathlib.Core.Bool.{true, false, not, ◌||◌}
 use mathlib.Core.List.{List, [], ◌++◌}
@@ -12,12 +12,15 @@ use borrow.Author.Tests.{eq-eqb, ne_eqb}
 use Rattle.lex.specs.declared.Token.{Token}
 use Rattle.ll1.specs.Trees.{Symbol}
 use Rattle.ll1.specs.Machine.{due_all}
+use Rattle.std.specs.Prelude.{Result}
 use Rattle.phrases.specs.declared.Cursor.{Cursor}
+use Rattle.phrases.specs.declared.kept.Entries.{Entries}
+use Rattle.phrases.specs.declared.reader.Standing.{Standing}
 use Rattle.elements.specs.declared.noted.Noted.{Noted}
 use Rattle.elements.specs.Entries.{KEPT, entries}
 use Rattle.elements.specs.Symbols.{symbols_of, elements_of}
 use Rattle.phrases.specs.Stream.{Within}
-use Rattle.phrases.specs.Phrase.{Kept, Reader, reader, starting, skipping, phrase_from, starts_past, unread, phrase_read}
+use Rattle.phrases.specs.Phrase.{Kept, kept_at, Reader, reader, went_at, went, starting, skipping, phrase_from, starts_past, unread, phrase_read}
 use Rattle.phrases.specs.Passed.{Passed}
 use Rattle.elements.proofs.Spelling.{widths, Spells}
 use Rattle.elements.proofs.EachSpelled.{phrase_spelled, phrase_has_room}
@@ -104,3 +107,8 @@ module _ {s : List ℕ} {n : ℕ} {t : Token} {was : Noted} {l : List ℕ} {c : 
       by : Dec (n ≡ 0) → Passed s (symbols_of k) n t was l c l'
       by (yes z) = rw z (read_spelled (phrase_spelled k) (phrase_has_room k) (e ∙ read_on s n t was k l z (not_past s t w)))
       by (no h) = same_reader (e ∙ read_refused s n t was k l h) (handed_on s n t was k l h)
+
+-- ---- the slice that was lent holds what was kept
+
+pub landed : (r : Result Standing Standing) (k : Entries) {l : List ℕ} {x : Reader} → went r k ≡ x → l ≡ k.lent.now → went_at r (kept_at k.count l) ≡ x
+landed r k e f = rw f e

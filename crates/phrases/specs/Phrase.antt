@@ -1,11 +1,12 @@
 -- Reading a phrase: a list of elements, from a token on.
 -- Assumes nothing.
-use Rattle.std.specs.Prelude.{ℕ, zero, suc, ◌+◌, ◌-◌, Bool, cond, ◌&&◌, List, [], ◌∷◌, map, eqb, ltb, leb, length, get_or, set, Result, Ok, Err}
+use Rattle.std.specs.Prelude.{ℕ, zero, suc, ◌+◌, ◌-◌, Bool, cond, ◌&&◌, List, [], ◌∷◌, map, eqb, ltb, leb, length, get_or, set, Result, Ok, Err, ◌≡◌}
 use Rattle.lex.specs.declared.Token.{Token}
 use Rattle.lexemes.specs.Classes.{«|», BAD}
 use Rattle.lex.specs.Tokens.{token_at}
 use Rattle.ll1.specs.ParseTable.{member}
 use Rattle.phrases.specs.declared.Cursor.{Cursor}
+use Rattle.phrases.specs.declared.kept.Entries.{Entries}
 use Rattle.phrases.specs.declared.reader.Standing.{Standing}
 use Rattle.elements.specs.declared.flags.Words.{Words}
 use Rattle.elements.specs.declared.noted.Noted.{Noted}
@@ -33,6 +34,19 @@ with_entry k e = record { count = cond (ltb k.count (length k.list)) (k.count + 
 unfoldable pub with_entries : Kept → List ℕ → Kept
 with_entries k [] = k
 with_entries k (e ∷ es) = with_entries (with_entry k e) es
+
+-- those of the code, in the slice that was lent
+abbrev pub held : Entries → Kept
+held k = kept_at k.count k.lent.now
+
+-- the slice that was lent stays the one that is written
+abbrev pub IsSameSlice : Entries → Entries → Type 0
+IsSameSlice k k' = k'.lent.ghost_name ≡ k.lent.ghost_name
+
+-- entries es after those of k, which then is k'
+pub record Keeps (k : Entries) (es : List ℕ) (k' : Entries) : Type 0 where
+  pub kept : held k' ≡ with_entries (held k) es
+  pub lent : IsSameSlice k k'
 
 -- ---- where the reader stands
 
@@ -76,13 +90,16 @@ abbrev pub leaving_one : Reader → Reader
 leaving_one x = skipping x (x.skip - 1)
 
 -- where the code's reader stands
-abbrev pub stands : Standing → List ℕ → Reader
-stands at l = ready at.token at.noted (kept_at at.count l)
+abbrev pub stands : Standing → Entries → Reader
+stands at k = ready at.token at.noted (held k)
 
 -- and where it comes to, or is refused
-abbrev pub went : Result Standing Standing → List ℕ → Reader
-went (Ok at) l = stands at l
-went (Err at) l = refusing (stands at l) at.token
+abbrev pub went_at : Result Standing Standing → Kept → Reader
+went_at (Ok at) k = ready at.token at.noted k
+went_at (Err at) k = refusing (ready at.token at.noted k) at.token
+
+abbrev pub went : Result Standing Standing → Entries → Reader
+went r k = went_at r (held k)
 
 -- ---- elements of one token
 

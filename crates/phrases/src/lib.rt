@@ -5,8 +5,9 @@ mod kept;
 mod reader;
 
 ghost use Rattle.std.specs.Prelude.{◌≡◌};
-ghost use Rattle.phrases.specs.Phrase.{reader, went, phrase_read};
+ghost use Rattle.phrases.specs.Phrase.{kept_at, reader, went_at, phrase_read};
 
+use crate::kept::Entries;
 use crate::reader::{Standing, read_phrase};
 use elements::noted::Noted;
 use elements::patterns::pattern;
@@ -27,23 +28,19 @@ pub struct Cursor {
     pub count: usize,
 }
 
-// Where a phrase ends, or is refused.
-fn ended(end: Result<Standing, Standing>) -> Cursor
-    ensures { (l : _) → reader result l ≡ went end l }
+// Where a phrase ends, or is refused, with how many entries it has kept.
+fn ended(end: Result<Standing, Standing>, count: usize) -> Cursor
+    ensures { (l : _) → reader result l ≡ went_at end (kept_at count l) }
 {
-    match end {
-        Ok(at) => Cursor {
-            no: 0,
-            token: at.token,
-            noted: at.noted,
-            count: at.count,
-        },
-        Err(at) => Cursor {
-            no: SYNTAX,
-            token: at.token,
-            noted: at.noted,
-            count: at.count,
-        },
+    let (no, at) = match end {
+        Ok(at) => (0, at),
+        Err(at) => (SYNTAX, at),
+    };
+    Cursor {
+        no,
+        token: at.token,
+        noted: at.noted,
+        count,
     }
 }
 
@@ -62,10 +59,15 @@ pub fn read(src: &[u8], no: u64, token: Token, noted: Noted, phrase: u8, kept: &
             count: 0,
         };
     }
-    let first = Standing {
-        token,
-        noted,
+    let mut entries = Entries {
+        lent: kept,
         count: 0,
     };
-    ended(read_phrase(src, first, pattern(phrase), kept))
+    let end = read_phrase(
+        src,
+        Standing { token, noted },
+        pattern(phrase),
+        &mut entries,
+    );
+    ended(end, entries.count)
 }

@@ -5,21 +5,20 @@ ghost use Rattle.ll1.specs.ParseTable.{member};
 ghost use Rattle.elements.specs.Marks.{outside, noting};
 ghost use Rattle.grammar.specs.Ranges.{out_of};
 ghost use Rattle.elements.specs.Kinds.{is_flag_list, starts_of, is_kept, element_range};
-ghost use Rattle.phrases.specs.Phrase.{stands, went, taking, taking_flags, fitting, phrase_from};
+ghost use Rattle.phrases.specs.Phrase.{IsSameSlice, stands, went, taking, taking_flags, fitting, phrase_from};
 
-use crate::kept::{keep, keep_element};
+use crate::kept::Entries;
 use elements::flags;
 use elements::kinds::*;
 use elements::noted::{Noted, with_outside, with_second};
 use lex::Token;
 use lexemes::classes::*;
 
-// Where the reader stands: the token, the faults that are noted, how many entries are kept. A refusal is where it stood then.
+// Where the reader stands: the token, and the faults that are noted. A refusal is where it stood then.
 #[derive(Clone, Copy)]
 pub struct Standing {
     pub token: Token,
     pub noted: Noted,
-    pub count: usize,
 }
 
 // The faults that are noted, with the token, which suits the element: a number may be out of its range.
@@ -34,25 +33,27 @@ fn note_range(src: &[u8], noted: Noted, token: Token, want: u8) -> Noted
 }
 
 // The reader past the token, which suits the element.
-fn take_token(src: &[u8], at: Standing, kept: &mut [u64], want: u8) -> Standing
+fn take_token(src: &[u8], at: Standing, kept: &mut Entries, want: u8) -> Standing
     requires { is_kept want ≡ true → at.token.start + 1 < 2 ^ 64 }
-    ensures { stands result kept.new ≡ taking src.now (stands at kept.old) want }
+    ensures reads { stands result kept.new ≡ taking src.now (stands at kept.old) want }
+    ensures lent { IsSameSlice kept.old kept.new }
 {
     let token = lex::token_at(src, at.token.end);
     // Of a sign or a reserved word nothing is kept.
     if (want == NAME) | (ID <= want) {
         let noted = note_range(src, at.noted, at.token, want);
-        let count = keep_element(kept, at.count, want, at.token);
-        return Standing { token, noted, count };
+        kept.push_element(want, at.token);
+        return Standing { token, noted };
     }
     Standing { token, ..at }
 }
 
 // The reader past the element's flag words, of which its token is one; or the refusal. Their entry is kept, and a numeric's
 // second size or display word is noted.
-fn take_flags(src: &[u8], at: Standing, kept: &mut [u64], want: u8) -> Result<Standing, Standing>
+fn take_flags(src: &[u8], at: Standing, kept: &mut Entries, want: u8) -> Result<Standing, Standing>
     requires { (is_flag_list want ≡ true) × (member at.token.class (starts_of want) ≡ true) × Within src.now at.token }
-    ensures { went result kept.new ≡ taking_flags src.now (stands at kept.old) want }
+    ensures reads { went result kept.new ≡ taking_flags src.now (stands at kept.old) want }
+    ensures lent { IsSameSlice kept.old kept.new }
 {
     let mut word = at.token;
     let mut words = flags::no_words();
@@ -60,9 +61,9 @@ fn take_flags(src: &[u8], at: Standing, kept: &mut [u64], want: u8) -> Result<St
         words = flags::with_word(words, word.class, word.start + 1);
         let bar = lex::token_at(src, word.end);
         if bar.class != BAR {
-            let count = keep(kept, at.count, flags::list_entry(want, words));
+            kept.push(flags::list_entry(want, words));
             let noted = with_second(at.noted, flags::list_second(want, words));
-            return Ok(Standing { token: bar, noted, count });
+            return Ok(Standing { token: bar, noted });
         }
         word = lex::token_at(src, bar.end);
         if !suits(want, word.class) {
@@ -72,9 +73,15 @@ fn take_flags(src: &[u8], at: Standing, kept: &mut [u64], want: u8) -> Result<St
 }
 
 // The reader past an element other than MAYBE, or the refusal.
-fn read_element(src: &[u8], at: Standing, kept: &mut [u64], want: u8) -> Result<Standing, Standing>
+fn read_element(
+    src: &[u8],
+    at: Standing,
+    kept: &mut Entries,
+    want: u8,
+) -> Result<Standing, Standing>
     requires { Within src.now at.token }
-    ensures { went result kept.new ≡ fitting src.now (stands at kept.old) want }
+    ensures reads { went result kept.new ≡ fitting src.now (stands at kept.old) want }
+    ensures lent { IsSameSlice kept.old kept.new }
 {
     if !suits(want, at.token.class) {
         return Err(at);
@@ -86,9 +93,15 @@ fn read_element(src: &[u8], at: Standing, kept: &mut [u64], want: u8) -> Result<
 }
 
 // Reads a phrase from a token on: the reader past it, or the refusal. Its entries are kept after those that are kept before.
-pub fn read_phrase(src: &[u8], first: Standing, pattern: &[u8], kept: &mut [u64]) -> Result<Standing, Standing>
+pub fn read_phrase(
+    src: &[u8],
+    first: Standing,
+    pattern: &[u8],
+    kept: &mut Entries,
+) -> Result<Standing, Standing>
     requires { Within src.now first.token }
-    ensures { went result kept.new ≡ phrase_from src.now pattern.now (stands first kept.old) }
+    ensures reads { went result kept.new ≡ phrase_from src.now pattern.now (stands first kept.old) }
+    ensures lent { IsSameSlice kept.old kept.new }
 {
     let mut at = first;
     let mut left = pattern;
@@ -103,7 +116,7 @@ pub fn read_phrase(src: &[u8], first: Standing, pattern: &[u8], kept: &mut [u64]
         } else if want == MAYBE {
             let next = rest.first().copied().unwrap_or(0);
             if at.token.class != next {
-                at.count = keep(kept, at.count, 0);
+                kept.push(0);
                 left = &rest[GROUP.min(rest.len())..];
             }
         } else {

@@ -15,7 +15,7 @@ returns-then-noted-ne0 c =
     let args = c.args in
     let p = args.token.start in
     elim c.then-noted-ne0.branch [
-      then-noted-ne0-via-then-noted-ne0 w ↦ sym (outside_stays args.noted (out_of args.src.now (element_range args.want args.token.class) (p ∷ [])) w.if-noted-ne0.true)
+      | then-noted-ne0-via-then-noted-ne0 w ↦ sym (outside_stays args.noted (out_of args.src.now (element_range args.want args.token.class) (p ∷ [])) w.if-noted-ne0.true)
       | then-noted-ne0-via-else-noted-ne0+then-in_range w ↦ rw (sym w.in_range.ensures ∙ w.if-in_range.true)
     ]
 

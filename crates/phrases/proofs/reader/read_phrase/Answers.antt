@@ -1,8 +1,7 @@
 -- `phrases::reader::read_phrase` meets its contract.
-use mathlib.Core.Path.{refl, sym, ◌∙◌}
+use mathlib.Core.Path.{refl, ◌∙◌}
 use native.Mathlib.Omega.{arith}
 use Rattle.std.proofs.lemmas.Option.{unwrap_or-slice_get}
-use Rattle.std.proofs.lemmas.List.{drop_min}
 use Rattle.std.proofs.lemmas.Result.{err_from_is_err_and}
 use Rattle.phrases.proofs.PhraseLoop.{turns_none, turns_all, turns_word, refused_word, turns_group, turns_absent, turns_taken, refused_element}
 use Rattle.phrases.proofs.reader.read_phrase.Goals as goal
@@ -10,8 +9,8 @@ use Rattle.phrases.proofs.reader.read_phrase.Goals as goal
 pub loop-want-init : goal.loop-want-init
 loop-want-init c = (turns_none _ _ _ c.requires, refl)
 
-pub returns-then-at-want : goal.returns-then-at-want
-returns-then-at-want c = refused_word (rw c.in-Some.ensures.cases.0 at c.loop-want.invariant.0) c.if-want-lt-NAME.true c.if-at-want.true
+pub returns-then-at-want-clause-reads : goal.returns-then-at-want-clause-reads
+returns-then-at-want-clause-reads c = refused_word (rw c.in-Some.ensures.cases.0 at c.loop-want.invariant.0) c.if-want-lt-NAME.true c.if-at-want.true
 
 pub loop-want-preserved-then-want-lt-NAME : goal.loop-want-preserved-then-want-lt-NAME
 loop-want-preserved-then-want-lt-NAME c =
@@ -22,7 +21,7 @@ pub loop-want-preserved-then-at-next : goal.loop-want-preserved-then-at-next
 loop-want-preserved-then-at-next c =
     let left = rw c.in-Some.ensures.cases.0 at c.loop-want.invariant.0 in
     let next = rw (c.copied.ensures, c.first.ensures.value) at c.unwrap_or-next.ensures ∙ unwrap_or-slice_get c.in-Some.rest.now 0 0 in
-    (turns_absent left c.if-want.true next c.if-at-next.true c.keep.ensures c.min.ensures, c.keep.auto.kept ∙ c.loop-want.invariant.1)
+    (turns_absent left c.if-want.true next c.if-at-next.true c.push.ensures.kept c.min.ensures, c.push.ensures.lent ∙ c.loop-want.invariant.1)
 
 pub loop-want-preserved-else-at-next : goal.loop-want-preserved-else-at-next
 loop-want-preserved-else-at-next c =
@@ -33,16 +32,19 @@ loop-want-preserved-else-at-next c =
 pub read_element-requires : goal.read_element-requires
 read_element-requires c = c.loop-want.invariant.0.within
 
-pub returns-in_err-at : goal.returns-in_err-at
-returns-in_err-at c =
+pub returns-in_err-at-clause-reads : goal.returns-in_err-at-clause-reads
+returns-in_err-at-clause-reads c =
     let left = rw c.in-Some.ensures.cases.0 at c.loop-want.invariant.0 in
     let p = err_from_is_err_and c.from_residual.result c.from_residual.ensures.1 in
-    rw (p.1, p.2) (refused_element left c.if-want.false c.in_err-at.ensures refl (λ z. omega arith))
+    rw (p.1, p.2) (refused_element left c.if-want.false c.in_err-at.ensures.reads refl (λ z. omega arith))
+
+pub returns-in_err-at-clause-lent : goal.returns-in_err-at-clause-lent
+returns-in_err-at-clause-lent c = c.in_err-at.ensures.lent ∙ c.loop-want.invariant.1
 
 pub loop-want-preserved : goal.loop-want-preserved
 loop-want-preserved c =
     let left = rw c.in-Some.ensures.cases.0 at c.loop-want.invariant.0 in
-    (turns_taken left c.if-want.false c.in_ok-at.ensures, c.read_element.auto.kept ∙ c.loop-want.invariant.1)
+    (turns_taken left c.if-want.false c.in_ok-at.ensures.reads, c.in_ok-at.ensures.lent ∙ c.loop-want.invariant.1)
 
-pub returns : goal.returns
-returns c = turns_all c.in_default.ensures.cases c.loop-want.invariant.0
+pub returns-clause-reads : goal.returns-clause-reads
+returns-clause-reads c = turns_all c.in_default.ensures.cases c.loop-want.invariant.0

@@ -16,18 +16,21 @@ overflow_add-word c =
     let inside = i.3 (flag_below _ _ i.1.is_list i.2) in
     record { fits = omega arith }
 
-pub returns-then-bar-ne-BAR : goal.returns-then-bar-ne-BAR
-returns-then-bar-ne-BAR c =
+pub returns-then-bar-ne-BAR-clause-reads : goal.returns-then-bar-ne-BAR-clause-reads
+returns-then-bar-ne-BAR-clause-reads c =
     let last = c in
     let turn = last in
     let i = turn.loop-kept.invariant in
-    let kept = rw i.0 at last.keep-count.ensures in
+    let kept = rw i.0 at last.push.ensures.kept in
     let taken = loop_last i.1 turn.token_at-bar.ensures i.2 in
     taken last.if-bar-ne-BAR.true turn.with_word-words.ensures last.list_entry.ensures kept
     c.list_second.ensures c.with_second-noted.ensures
 
-pub returns-then-not-suits : goal.returns-then-not-suits
-returns-then-not-suits c =
+pub returns-then-bar-ne-BAR-clause-lent : goal.returns-then-bar-ne-BAR-clause-lent
+returns-then-bar-ne-BAR-clause-lent c = rw c.loop-kept.invariant.0 at c.push.ensures.lent
+
+pub returns-then-not-suits-clause-reads : goal.returns-then-not-suits-clause-reads
+returns-then-not-suits-clause-reads c =
     let turn = c in
     let i = turn.loop-kept.invariant in
     let next = loop_more i.1 turn.token_at-bar.ensures i.2 in

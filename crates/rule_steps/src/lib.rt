@@ -49,7 +49,8 @@ pub fn add_steps(table: &[u64], count: usize, map: &mut Map) -> Option<u64>
 {
     let mut last = None;
     for row in 0..count {
-        last = last.max(add_step(table, count, row, map));
+        let rule = add_step(table, count, row, map);
+        last = last.max(rule);
     }
     last
 }

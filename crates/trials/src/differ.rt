@@ -1,46 +1,23 @@
 // Where what came differs from what is expected. Behind what is expected stand zeros.
-ghost use Rattle.std.specs.Prelude.{◌≡◌, slice_index};
-ghost use Rattle.trials.specs.Differences.{FirstDifference};
+ghost use Rattle.std.specs.Prelude.{◌≡◌, ◌<◌, length, slice_index, IfSome};
+ghost use Rattle.trials.specs.Differences.{FirstDifference, index_or};
 
 // The number at an index, and 0 past the end.
 pub fn number_at(numbers: &[u64], k: usize) -> u64
     ensures { result ≡ slice_index numbers.now k }
 {
-    if k < numbers.len() {
-        return numbers[k];
-    }
-    0
+    numbers.get(k).copied().unwrap_or(0)
 }
 
-fn byte_at(bytes: &[u8], k: usize) -> u8
-    ensures { result ≡ slice_index bytes.now k }
+// The first index at which a table differs from the expected numbers.
+pub fn first_difference(table: &[u64], expected: &[u64]) -> Option<usize>
+    ensures first { FirstDifference table.now expected.now (index_or (length table.now) result) }
+    ensures inside { IfSome result (λ k. k < length table.now) }
 {
-    if k < bytes.len() {
-        return bytes[k];
-    }
-    0
-}
-
-// The first index at which a table differs from the expected numbers; the table's length if there is none.
-pub fn first_number(table: &[u64], expected: &[u64]) -> usize
-    ensures { FirstDifference table.now expected.now result }
-{
-    for k in 0..table.len() {
-        if table[k] != number_at(expected, k) {
-            return k;
+    for (k, number) in table.iter().enumerate() {
+        if *number != number_at(expected, k) {
+            return Some(k);
         }
     }
-    table.len()
-}
-
-// The first index at which an output differs from the expected bytes; the output's length if there is none.
-pub fn first_byte(out: &[u8], expected: &[u8]) -> usize
-    ensures { FirstDifference out.now expected.now result }
-{
-    for k in 0..out.len() {
-        if out[k] != byte_at(expected, k) {
-            return k;
-        }
-    }
-    out.len()
+    None
 }

@@ -8,26 +8,20 @@ use std::io::Read;
 // The bytes of a number.
 const NUMBER: usize = 4;
 
-// The number where the input ends, or stops within a number.
-pub const END: u64 = 0xFFFFFFFF;
+// The number behind the last case, and where the input ends or stops within a number.
+// Stays: it stands in the packed inputs, so it is a number; `read_count` tells of it by an Option.
+const END: u64 = 0xFFFFFFFF;
 
 // 2^56: a number below it has room for one more byte.
 const TOP: u64 = 72057594037927936;
-
-// A byte as a number.
-pub fn wide(b: u8) -> u64
-    ensures { (result ≡ b) × (result < 256) }
-{
-    b as u64
-}
 
 // The number of these bytes, the high one first; its low 64 bits if they are more than eight.
 pub fn value(bytes: &[u8]) -> u64
     ensures { result ≡ big_endian bytes.now % 18446744073709551616 }
 {
     let mut n = 0;
-    for k in 0..bytes.len() {
-        n = n % TOP * 256 + wide(bytes[k]);
+    for byte in bytes {
+        n = n % TOP * 256 + u64::from(*byte);
     }
     n
 }
@@ -58,6 +52,12 @@ pub fn read_number<R: Read>(input: &mut R) -> io::Result<u64> {
         return Ok(END);
     }
     Ok(value(&bytes))
+}
+
+// The next number of the input, if it is not END.
+pub fn read_count<R: Read>(input: &mut R) -> io::Result<Option<u64>> {
+    let n = read_number(input)?;
+    Ok(if n == END { None } else { Some(n) })
 }
 
 // Reads so many bytes, where there is room for them, and gives how many came.

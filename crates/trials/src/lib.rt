@@ -1,5 +1,5 @@
-// What the programs that run stored cases through the library share: packed numbers read from an input, buffers
-// filled with a mark, what came compared with what is expected, texts put into a buffer, and lines that count.
+// What the programs that run stored cases through the library share: packed numbers read from an input, the marks that
+// buffers are filled with, what came compared with what is expected, texts put into a buffer, and tallies.
 #![tactic(auto)]
 
 pub mod differ;

@@ -1,18 +1,14 @@
 // Texts put into a buffer, one behind the other.
-ghost use Rattle.trials.specs.Puts.{Puts};
+ghost use Rattle.trials.specs.Puts.{Puts, place_or_zero};
 
-// Writes a text at a place, where it fits, and gives the place behind it; where it does not fit, 0.
-pub fn put(out: &mut [u8], at: usize, text: &[u8]) -> usize
-    ensures { Puts out.old at text.now out.new result }
+// Writes a text at a place, where it fits, and gives the place behind it.
+pub fn put(out: &mut [u8], at: usize, text: &[u8]) -> Option<usize>
+    ensures { Puts out.old at text.now out.new (place_or_zero result) }
 {
-    if out.len() < at {
-        return 0;
+    let end = at.checked_add(text.len())?;
+    if out.len() < end {
+        return None;
     }
-    if out.len() - at < text.len() {
-        return 0;
-    }
-    for k in 0..text.len() {
-        out[at + k] = text[k];
-    }
-    at + text.len()
+    out[at..end].copy_from_slice(text);
+    Some(end)
 }

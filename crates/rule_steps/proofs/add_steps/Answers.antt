@@ -9,9 +9,9 @@ loop-row-init c = adding_start _ _ _
 
 pub loop-row-preserved : goal.loop-row-preserved
 loop-row-preserved c =
-    let step = c.add_step.ensures in
+    let step = c.add_step-rule.ensures in
     adding_next _ _ c.loop-row.invariant (omega arith) step.adds step.tells
-    (ap rule_or_zero c.max-last.ensures ∙ greater_or_zero c.loop-row.last c.add_step.result)
+    (ap rule_or_zero c.max-last.ensures ∙ greater_or_zero c.loop-row.last c.add_step-rule.result)
 
 pub returns-clause-adds : goal.returns-clause-adds
 returns-clause-adds c = (adding_end _ _ c.loop-row.invariant (omega arith)).0

@@ -1,25 +1,17 @@
 -- `input::value` meets its contract: a remainder by 2^56 leaves room for a byte, and loses nothing of the low 64 bits.
 -- Assumes nothing.
-use Rattle.std.proofs.Common.{◌+◌, take, refl, ◌∙◌, arith, take_all, rules}
+use Rattle.std.proofs.Common.{◌+◌, take, refl, ◌∙◌, arith}
 use Rattle.trials.specs.Values.{value_after, big_endian}
 use Rattle.trials.proofs.ValueLaws.{value_next, low_next}
 use Rattle.trials.proofs.input.value.Goals as goal
 
-pub loop-k-init : goal.loop-k-init
+pub loop-byte-init : goal.loop-byte-init
 unfolding value_after
-loop-k-init c = (search rules, refl)
+loop-byte-init c = refl
 
-pub loop-k-preserved : goal.loop-k-preserved
-loop-k-preserved c =
+pub loop-byte-preserved : goal.loop-byte-preserved
+loop-byte-preserved c =
     let bs = c.args.bytes.now in
-    let l = c.loop-k in (
-      omega arith,
-      low_next (big_endian (take l.k bs)) l.n (big_endian (take (l.k + 1) bs)) c.wide.result c.wide.ensures.1 l.invariant.1
-          (value_next bs l.k (omega arith) ∙ rw c.wide.ensures.0 refl),
-    )
-
-pub returns : goal.returns
-returns c =
-    let bs = c.args.bytes.now in
-    let l = c.loop-k in
-    l.invariant.1 ∙ rw (take_all l.k bs (omega arith)) refl
+    let l = c.loop-byte in
+    low_next (big_endian (take l.byte-index bs)) l.n (big_endian (take (l.byte-index + 1) bs)) c.from.result (omega (arith, c.from.ensures, c.type_inv.bytes l.byte-index)) l.invariant
+    (value_next bs l.byte-index (omega arith) ∙ rw c.from.ensures refl)

@@ -1,17 +1,14 @@
 -- The flags in a row, by the code's tests.
 -- Assumes nothing.
-use Prim.Native.Nat.{ℕ, ◌≤◌, ◌<◌}
+use Prim.Native.Nat.{ℕ}
 use mathlib.Core.Path.{◌≡◌, refl, sym, ap, ap₂, ◌∙◌}
-use mathlib.Core.Bool.{Bool, true, false, not, ◌||◌, and-false}
+use mathlib.Core.Bool.{true, false}
 use mathlib.Core.List.{List}
 use lib.Bits.{bit_or, or_zero_r}
-use lib.ListN.{length, get_or, take, get_or-eq_default}
-use lib.Seq.{get_or-take, length-take-le}
-use borrow.Author.Tests.{not-true, not-false}
+use lib.ListN.{get_or}
 use Rattle.rows.specs.Columns as column
 use Rattle.rows.specs.Table.{cell_at}
 use Rattle.operators.specs.declared.Scalar.{Scalar}
-use Rattle.ll1.proofs.Basics.{clash}
 use Rattle.screen.specs.Kinds.{hides, greys, is_true}
 use Rattle.screen.proofs.KindLaws.{hides_only}
 use Rattle.screen_rows.specs.Passes.{own_flags, flags_in}

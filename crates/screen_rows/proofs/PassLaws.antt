@@ -8,7 +8,6 @@ use native.Mathlib.Numerals.{add-one}
 use native.Mathlib.Omega.{arith}
 use lib.ListN.{length, get_or, set, take, drop, length-set}
 use lib.Seq.{take_all, take-suc-set, drop-cons, drop-set-lt, drop-length}
-use Rattle.std.proofs.lemmas.List.{set-get_or}
 use Rattle.rows.specs.Columns as column
 use Rattle.rows.specs.Table.{cell_at}
 use Rattle.operators.specs.declared.Scalar.{Scalar}
@@ -80,10 +79,8 @@ module _ (t : List ℕ) where
     pub keeping_none : row < length out₀ → false ≡ is_item (cell_at t row column.CODE) → Keeping out₀ (set out row 0) (row + 1)
     keeping_none h e = keeping_next h (rw (sym e) refl)
 
-    pub keeping_item : row < length out₀ → true ≡ is_item (cell_at t row column.CODE) → Keeping out₀ out (row + 1)
-    keeping_item h e =
-        let same : set out row (get_or out row 0) ≡ out = set-get_or out row 0 in
-        rw same at (keeping_next {byte = get_or out row 0} h (rw (sym e) refl))
+    pub keeping_item : row < length out₀ → true ≡ is_item (cell_at t row column.CODE) → Keeping out₀ (set out row (get_or out row 0)) (row + 1)
+    keeping_item h e = keeping_next h (rw (sym e) refl)
 
     pub keeping_end : length out₀ ≤ row → out ≡ items_only t 0 out₀
     unfolding items_only

@@ -1,7 +1,7 @@
 -- `screen_rows::keep_items` meets its contract: what is left of the rows is still to be kept or not.
 use mathlib.Core.Path.{sym, ap, ◌∙◌}
 use Rattle.screen.specs.Kinds.{is_item}
-use Rattle.screen_rows.proofs.PassLaws.{Keeping, keeping_start, keeping_none, keeping_item, keeping_end}
+use Rattle.screen_rows.proofs.PassLaws.{keeping_start, keeping_none, keeping_item, keeping_end}
 use Rattle.screen_rows.proofs.keep_items.Goals as goal
 use Rattle.screen_rows.proofs.keep_items.Goals.{then-not-is_item, else-not-is_item}
 

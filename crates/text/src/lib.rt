@@ -11,6 +11,7 @@ ghost use Rattle.text.specs.Answers.{told, RowsPrinted};
 
 use crate::items::put_text;
 use rows::clear_bytes;
+use spellings::output::Output;
 
 // The longest text.
 const LONGEST: usize = 65536;
@@ -46,7 +47,9 @@ fn room(lent: usize) -> usize
 fn print_rows(table: &mut [u64], out: &mut [u8], rows: usize, free: u64) -> Answer
     ensures { RowsPrinted table.old rows free out.old result table.new out.new }
 {
-    let bytes = put_text(out, table, rows);
+    let mut text = Output { bytes: out, at: 0 };
+    put_text(&mut text, table, rows);
+    let bytes = text.at;
     if room(out.len()) < bytes {
         rows::clear(table, 0);
         clear_bytes(out, 0);

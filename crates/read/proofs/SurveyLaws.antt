@@ -7,12 +7,10 @@ use mathlib.Core.Logic.{◌≢◌}
 use mathlib.Core.List.{List, [], ◌∷◌}
 use mathlib.Core.Option.{Option}
 use lib.ListN.{length}
-use Rattle.std.specs.Prelude.{Ok, Err}
+use Rattle.std.specs.Prelude.{Ok, Err, Some, None}
 use Rattle.refusals.specs.declared.Reason.{Reason}
 use Rattle.refusals.specs.declared.Reason.TheVariants.{SourceTooLong, OutOfRange, SecondWord}
 use Rattle.refusals.specs.Numbers.{number_of}
-use Rattle.lex.specs.declared.Found.{Found}
-use Rattle.lex.specs.declared.Found.TheVariants.{At, Nothing}
 use Rattle.lex.specs.Tokens.{first_bad}
 use Rattle.rows.specs.Table.{cleared}
 use Rattle.rows.proofs.ClearLaws.{cleared_whole}
@@ -70,9 +68,9 @@ module _ {s t t' : List ℕ} {w : Outcome} (short : length s ≤ LONGEST) (v : W
       number : refusal_number tokens_verdict ≢ 0
       number z = h (v.number ∙ z)
 
-      by : (b : Found) → first_bad s ≡ b → Surveyed s (Err (unless_bad b w.no w.place)) t t'
-      by (At p) e = (checked_2 s p short e, v.zeros h)
-      by Nothing e = (
+      by : (b : Option ℕ) → first_bad s ≡ b → Surveyed s (Err (unless_bad b w.no w.place)) t t'
+      by (Some p) e = (checked_2 s p short e, v.zeros h)
+      by None e = (
         checked_parsed s tokens_verdict short e (verdict_right (source_tokens s))
             ∙ (parsed_refusal s tokens_verdict (derivation (source_tokens s)) number ∙ rw (v.number, v.place, walk_number (verdict_right (source_tokens s)) number)),
         v.zeros h,

@@ -1,11 +1,9 @@
 -- What stages 1 to 5 with 16 find: a refusal, or the draft rows of the derivation.
 -- Assumes nothing.
-use Rattle.std.specs.Prelude.{ℕ, ◌≤◌, ◌≡◌, cond, List, map, eqb, length, replicate, Result, Ok, Err}
+use Rattle.std.specs.Prelude.{ℕ, ◌≤◌, ◌≡◌, cond, List, map, eqb, length, replicate, Option, Some, None, Result, Ok, Err}
 use Rattle.refusals.specs.Numbers.{number_of}
 use Rattle.refusals.specs.declared.Reason.{Reason}
 use Rattle.refusals.specs.declared.Reason.TheVariants.{BadToken, Syntax, TooDeep}
-use Rattle.lex.specs.declared.Found.{Found}
-use Rattle.lex.specs.declared.Found.TheVariants.{At, Nothing}
 use Rattle.rows.specs.Rows.{put}
 use Rattle.ll1.specs.Trees.{Trees}
 use Rattle.answers.specs.Drafts.{encoded}
@@ -22,9 +20,9 @@ abbrev pub walk_reason : ℕ → Reason
 walk_reason number = cond (eqb number 4) TooDeep Syntax
 
 -- No. 2 where a token is bad, or else the refusal of a walk
-abbrev pub unless_bad : Found → ℕ → ℕ → Fault
-unless_bad (At p) number place = fault_at BadToken p
-unless_bad Nothing number place = fault_at (walk_reason number) place
+abbrev pub unless_bad : Option ℕ → ℕ → ℕ → Fault
+unless_bad (Some p) number place = fault_at BadToken p
+unless_bad None number place = fault_at (walk_reason number) place
 
 -- the derivation that the stages pass; its draft rows, so many, written over the table t as far as whole rows fit
 pub record SurveyedWhole (s : List ℕ) (count : ℕ) (t t' : List ℕ) : Type 0 where

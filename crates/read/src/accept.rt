@@ -33,9 +33,8 @@ fn accept(
     ensures table_after { table.new ≡ table_past12 src.now table.old count }
 {
     settle(src, table, count, index, used);
-    let circle = circular_reference(table, count);
-    if circle != 0 {
-        return refuse(table, Reason::RuleInCircle, (circle - 1) as usize);
+    if let Some(place) = circular_reference(table, count) {
+        return refuse(table, Reason::RuleInCircle, place);
     }
     strip(table, count);
     let free = numbers::LIMIT - 1 - numbers::used_count(used);

@@ -4,7 +4,6 @@ ghost use Rattle.lex.specs.Tokens.{first_bad};
 ghost use Rattle.read.specs.Surveyed.{unless_bad, Surveyed};
 
 use crate::{Fault, refuse};
-use lex::Found;
 use refusals::Reason;
 
 // The longest source.
@@ -23,11 +22,11 @@ fn walk_fault(src: &[u8], number: u64, place: usize) -> Fault
         Reason::Syntax
     };
     match lex::first_bad(src) {
-        Found::At(bad) => Fault {
+        Some(place) => Fault {
             reason: Reason::BadToken,
-            place: bad,
+            place,
         },
-        Found::Nothing => Fault { reason, place },
+        None => Fault { reason, place },
     }
 }
 

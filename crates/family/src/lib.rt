@@ -108,7 +108,12 @@ fn read_all(buffer: &[u8], ends: &[u64], table: &mut [u64], answers: &mut [u64])
 }
 
 // Reads the sources of a family, joined in one buffer and parted by their ends, into one table, with six words for each.
-pub fn read_family(buffer: &[u8], ends: &[u64], table: &mut [u64], answers: &mut [u64]) -> Result<Accepted, BadFamily>
+pub fn read_family(
+    buffer: &[u8],
+    ends: &[u64],
+    table: &mut [u64],
+    answers: &mut [u64],
+) -> Result<Accepted, BadFamily>
     ensures result_value { told result ≡ family_reply buffer.now ends.now (length table.old) (length answers.old) }
     ensures table_after { table.new ≡ family_table buffer.now ends.now (length table.old) (length answers.old) }
     ensures answers_after { answers.new

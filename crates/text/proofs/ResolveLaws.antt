@@ -89,6 +89,6 @@ unresolved s n o e h f g =
 
 -- a refusal of reading
 pub unread :
-    (s : List ℕ) (n : ℕ) (o : List ℕ) {t o' : List ℕ} {d : read.Refusal}
+    (s : List ℕ) (n : ℕ) (o : List ℕ) (d : read.Refusal) {t o' : List ℕ}
     → read_answers.told (Err d) ≡ read_reply s n → t ≡ read_table s n → o' ≡ cleared o 0 → Resolves s n (length o) (told (Err (Reading d))) t o'
-unread s n o {d = d} e f g = unresolved s n o e (refusal_refused s n d e) f g
+unread s n o d e f g = unresolved s n o e (refusal_refused s n d e) f g

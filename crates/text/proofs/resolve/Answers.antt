@@ -16,5 +16,5 @@ pub returns-in-Err : goal.returns-in-Err
 returns-in-Err c =
     let args = c.args in
     let reading = c.read in
-    let it = unread args.src.now _ args.out.now (ap read.told (sym c.in-Err.is) ∙ reading.ensures.result_value) reading.ensures.table_after c.clear.ensures in
+    let it = unread args.src.now _ args.out.now _ (ap read.told (sym c.in-Err.is) ∙ reading.ensures.result_value) reading.ensures.table_after c.clear.ensures in
     record { result_value = rw c.into.ensures it.0; table_after = it.1.0; out_after = it.1.1 }

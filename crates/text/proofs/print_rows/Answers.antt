@@ -5,19 +5,9 @@ use Rattle.text.proofs.AnswerLaws.{too_long, long_enough}
 use borrow.Author.Rules.{rules}
 use Rattle.text.proofs.print_rows.Goals as goal
 
-pub returns-then-room-bytes : goal.returns-then-room-bytes
-returns-then-room-bytes c =
-    let put-text = c.put_text-bytes in
-    let room = c.room in
-    let if1 = c.if-room-bytes in
-    let clear = c.clear in
-    let clear-bytes = c.clear-2 in
-    too_long put-text.ensures (search rules) (rw room.ensures at if1.true) clear.ensures clear-bytes.ensures
+pub returns-then-min-bytes : goal.returns-then-min-bytes
+returns-then-min-bytes c =
+    too_long refl c.put_text.ensures _ (search rules) (rw c.min.ensures at c.if-min-bytes.true) c.clear.ensures c.clear-then-min-bytes.ensures
 
 pub returns : goal.returns
-returns c =
-    let put-text = c.put_text-bytes in
-    let room = c.room in
-    let if1 = c.if-room-bytes in
-    let clear-bytes = c.clear-3 in
-    long_enough put-text.ensures (search rules) (rw room.ensures at if1.false) refl clear-bytes.ensures
+returns c = long_enough refl c.put_text.ensures _ (search rules) (rw c.min.ensures at c.if-min-bytes.false) refl c.clear-2.ensures (search rules)

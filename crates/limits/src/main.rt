@@ -12,10 +12,8 @@ ghost use Rattle.std.specs.Prelude.{◌<◌};
 
 use list::{PAIRS, listed, specimen_of};
 use rows::columns::ROW;
-use specimen::counts;
 use specimen::counts::Counts;
 use std::io;
-use trials::tally::{Tally, print_tally};
 
 // More bytes than the longest source that is made.
 const LONGEST: usize = 65538;
@@ -23,43 +21,32 @@ const LONGEST: usize = 65538;
 // More numbers than the largest table that is made.
 const LARGEST: usize = 520 * ROW;
 
-// A pair's line.
-fn print_pair(rt: &impl Print, pair: usize, agreed: Tally) -> io::Result<()> {
-    match pair {
-        0 => print_tally(rt, b"32 and 33 parentheses", agreed),
-        1 => print_tally(rt, b"16 and 17 conditions", agreed),
-        2 => print_tally(rt, b"255 and 256 rules", agreed),
-        3 => print_tally(rt, b"65536 and 65537 bytes", agreed),
-        _ => print_tally(rt, b"a table one row short", agreed),
-    }
-}
-
 // Makes and runs specimen k of the list, and counts it.
 fn run_made(rt: &impl Print, k: usize, counts: Counts) -> io::Result<Counts> {
     let mut src = [0u8; LONGEST];
     let mut cells = [0u64; LARGEST];
-    let m = listed(k);
-    let n = sources::put_source(m.0, m.1, &mut src);
-    tables::put_rows(m.0, m.1, &mut cells);
-    let s = specimen_of(k, m);
+    let made = listed(k);
+    let n = sources::put_source(made.kind, made.size, &mut src).unwrap_or(0);
+    tables::put_rows(made.kind, made.size, &mut cells);
+    let s = specimen_of(k, made);
     let ran = specimen::run(rt, s, &src[0..n], &cells)?;
-    Ok(counts::add(counts, s.expected.number, ran))
+    Ok(counts.with(s.expected.number, ran))
 }
 
 // Runs both of a pair, and prints their line.
-fn run_pair(rt: &impl Print, pair: usize, counts: Counts) -> io::Result<Counts>
+fn run_pair(rt: &impl Print, pair: usize, name: &str, counts: Counts) -> io::Result<Counts>
     requires { pair < 5 }
 {
-    let first = run_made(rt, 2 * pair, counts::start_group(counts))?;
+    let first = run_made(rt, 2 * pair, counts.start_group())?;
     let second = run_made(rt, 2 * pair + 1, first)?;
-    print_pair(rt, pair, second.group)?;
+    println!(rt; "{name}: {}", second.group)?;
     Ok(second)
 }
 
 fn main(rt: HostRuntime) -> io::Result<()> {
-    let mut counts = counts::START;
-    for pair in 0..PAIRS {
-        counts = run_pair(&rt, pair, counts)?;
+    let mut counts = Counts::default();
+    for (pair, name) in PAIRS.iter().enumerate() {
+        counts = run_pair(&rt, pair, name, counts)?;
     }
-    counts::print_all(&rt, counts)
+    print!(rt; "{counts}")
 }

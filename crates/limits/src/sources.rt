@@ -1,17 +1,17 @@
 // The sources of the specimens: a form set with one form, and in it so many parentheses round a number, conditions each
 // within the one before, rules, or blanks. Each condition and each rule has one LF within it; nothing else has any.
-ghost use Rattle.std.specs.Prelude.{◌≤◌, length};
+ghost use Rattle.std.specs.Prelude.{◌≤◌, length, IfSome};
 
 use trials::put::put;
 
-// The kinds.
-pub const PARENTHESES: u64 = 0;
-
-pub const CONDITIONS: u64 = 1;
-
-pub const RULES: u64 = 2;
-
-pub const BLANKS: u64 = 3;
+// What a source has between its first and its last words.
+#[derive(Clone, Copy, Debug, PartialEq, Eq)]
+pub enum Kind {
+    Parentheses,
+    Conditions,
+    Rules,
+    Blanks,
+}
 
 // What stands round every made text: a form set with one form, number 1.
 const HEAD: [u8; 140] = *b"formset guid={0x1,0x2,0x3,{0x4,0x5,0x6,0x7,0x8,0x9,0xA,0xB}},\
@@ -49,13 +49,13 @@ pub const COLUMN_17: u64 = 3;
 
 pub const COLUMN_256: u64 = 9;
 
-// Writes a text so many times.
-fn put_times(src: &mut [u8], at: usize, text: &[u8], times: usize) -> usize {
+// Writes a text so many times, where there is room.
+fn put_times(src: &mut [u8], at: usize, text: &[u8], times: usize) -> Option<usize> {
     let mut end = at;
-    for k in 0..times {
-        end = put(src, end, text);
+    for _ in 0..times {
+        end = put(src, end, text)?;
     }
-    end
+    Some(end)
 }
 
 // Writes an opening so many times, what stands within, and a closing as often.
@@ -66,16 +66,16 @@ fn put_nested(
     opening: &[u8],
     within: &[u8],
     closing: &[u8],
-) -> usize {
-    let opened = put_times(src, at, opening, depth);
-    let filled = put(src, opened, within);
+) -> Option<usize> {
+    let opened = put_times(src, at, opening, depth)?;
+    let filled = put(src, opened, within)?;
     put_times(src, filled, closing, depth)
 }
 
 // A rule whose number stands in so many parentheses.
-fn put_parentheses(depth: usize, src: &mut [u8], at: usize) -> usize {
-    let rule = put(src, at, b"rule A,");
-    let end = put_nested(src, rule, depth, b"(", b"1", b")");
+fn put_parentheses(depth: usize, src: &mut [u8], at: usize) -> Option<usize> {
+    let rule = put(src, at, b"rule A,")?;
+    let end = put_nested(src, rule, depth, b"(", b"1", b")")?;
     put(src, end, b" endrule;")
 }
 
@@ -83,7 +83,7 @@ fn digit(n: usize) -> u8 {
     b'0' + (n % 10) as u8
 }
 
-fn put_rule(k: usize, src: &mut [u8], at: usize) -> usize {
+fn put_rule(k: usize, src: &mut [u8], at: usize) -> Option<usize> {
     let mut text = *b"rule A000,1\nendrule;";
     text[6] = digit(k / 100);
     text[7] = digit(k / 10);
@@ -92,28 +92,28 @@ fn put_rule(k: usize, src: &mut [u8], at: usize) -> usize {
 }
 
 // So many rules, A000 and on.
-fn put_rules(count: usize, src: &mut [u8], at: usize) -> usize {
+fn put_rules(count: usize, src: &mut [u8], at: usize) -> Option<usize> {
     let mut end = at;
     for k in 0..count {
-        end = put_rule(k, src, end);
+        end = put_rule(k, src, end)?;
     }
-    end
+    Some(end)
 }
 
-fn put_body(kind: u64, size: usize, src: &mut [u8], at: usize) -> usize {
+fn put_body(kind: Kind, size: usize, src: &mut [u8], at: usize) -> Option<usize> {
     match kind {
-        PARENTHESES => put_parentheses(size, src, at),
-        CONDITIONS => put_nested(src, at, size, b"suppressif\n1;", b"", b"endif;"),
-        RULES => put_rules(size, src, at),
-        _ => put_times(src, at, b" ", size),
+        Kind::Parentheses => put_parentheses(size, src, at),
+        Kind::Conditions => put_nested(src, at, size, b"suppressif\n1;", b"", b"endif;"),
+        Kind::Rules => put_rules(size, src, at),
+        Kind::Blanks => put_times(src, at, b" ", size),
     }
 }
 
-// Writes a source, and gives its length.
-pub fn put_source(kind: u64, size: usize, src: &mut [u8]) -> usize
-    ensures { result ≤ length src.new }
+// Writes a source, where there is room, and gives its length.
+pub fn put_source(kind: Kind, size: usize, src: &mut [u8]) -> Option<usize>
+    ensures { IfSome result (λ n. n ≤ length src.new) }
 {
-    let start = put(src, 0, &HEAD);
-    let end = put_body(kind, size, src, start);
+    let start = put(src, 0, &HEAD)?;
+    let end = put_body(kind, size, src, start)?;
     put(src, end, &TAIL)
 }

@@ -21,12 +21,11 @@
 mod packed;
 
 use packed::Group;
+use specimen::NUMBERS;
 use specimen::counts::Counts;
-use specimen::{NUMBERS, counts};
 use std::io;
 use std::io::Read;
-use trials::input::{END, read_part};
-use trials::tally::print_tally;
+use trials::input::read_part;
 
 // The longest source that is run, in bytes.
 const LONGEST: usize = 135168;
@@ -46,7 +45,7 @@ fn run_case<R: Read>(rt: &impl Print, input: &mut R, counts: Counts) -> io::Resu
     packed::read_cells(input, case, &mut cells)?;
     let s = case.specimen;
     let ran = specimen::run(rt, s, &src[0..n], &cells)?;
-    Ok(counts::add(counts, s.expected.number, ran))
+    Ok(counts.with(s.expected.number, ran))
 }
 
 fn run_cases<R: Read>(
@@ -71,18 +70,18 @@ fn run_group<R: Read>(
 ) -> io::Result<Counts> {
     let mut name = [0u8; NAME];
     let n = read_part(input, group.name, &mut name)?;
-    let after = run_cases(rt, input, group.cases, counts::start_group(counts))?;
-    print_tally(rt, &name[0..n], after.group)?;
+    let after = run_cases(rt, input, group.cases, counts.start_group())?;
+    rt.write_all(&name[0..n])?;
+    println!(rt; ": {}", after.group)?;
     Ok(after)
 }
 
 fn run_groups<R: Read>(rt: &impl Print, input: &mut R) -> io::Result<Counts> {
-    let mut counts = counts::START;
+    let mut counts = Counts::default();
     for _ in 0..GROUPS {
-        let group = packed::read_group(input)?;
-        if group.cases == END {
+        let Some(group) = packed::read_group(input)? else {
             return Ok(counts);
-        }
+        };
         counts = run_group(rt, input, group, counts)?;
     }
     Ok(counts)
@@ -91,5 +90,5 @@ fn run_groups<R: Read>(rt: &impl Print, input: &mut R) -> io::Result<Counts> {
 fn main(rt: HostRuntime) -> io::Result<()> {
     let mut input = rt.stdin();
     let counts = run_groups(&rt, &mut input)?;
-    counts::print_all(&rt, counts)
+    print!(rt; "{counts}")
 }

@@ -1,15 +1,15 @@
 // Reading groups and cases from an input.
-ghost use Rattle.std.specs.Prelude.{◌≡◌, ◌≤◌, length, IfOk, OnErr};
+ghost use Rattle.std.specs.Prelude.{◌≡◌, ◌≤◌, length, replicate, IfOk, OnErr};
+ghost use Rattle.trials.specs.Puts.{Puts, place_or_zero};
 ghost use Rattle.readings.specs.Packed.{unpacked};
 
 use specimen::{Expected, Specimen};
 use std::io;
 use std::io::Read;
-use trials::fill::fill_bytes;
-use trials::input::{read_number, read_part, value, wide};
+use trials::input::{read_count, read_number, read_part, value};
 
 // How many cases a group has, and the length of its name.
-#[derive(Clone, Copy)]
+#[derive(Clone, Copy, Debug, PartialEq, Eq)]
 pub struct Group {
     pub cases: u64,
     pub name: u64,
@@ -17,7 +17,7 @@ pub struct Group {
 
 // A case up to its source: what is expected, the length of the source, the start, length and byte of the run in it, and
 // the length of the packed cells.
-#[derive(Clone, Copy)]
+#[derive(Clone, Copy, Debug, PartialEq, Eq)]
 pub struct Case {
     pub specimen: Specimen,
     pub length: u64,
@@ -30,66 +30,55 @@ pub struct Case {
 // The longest packed cells of a case.
 const PACKED: usize = 65536;
 
-pub fn read_group<R: Read>(input: &mut R) -> io::Result<Group> {
-    let cases = read_number(input)?;
+// The next group, if there is one.
+pub fn read_group<R: Read>(input: &mut R) -> io::Result<Option<Group>> {
+    let Some(cases) = read_count(input)? else {
+        return Ok(None);
+    };
     let name = read_number(input)?;
-    Ok(Group { cases, name })
+    Ok(Some(Group { cases, name }))
 }
 
 fn read_expected<R: Read>(input: &mut R) -> io::Result<Expected> {
-    let number = read_number(input)?;
-    let place = read_number(input)?;
-    let rows = read_number(input)?;
-    let free = read_number(input)?;
-    let line = read_number(input)?;
-    let column = read_number(input)?;
     Ok(Expected {
-        number,
-        place,
-        rows,
-        free,
-        line,
-        column,
+        number: read_number(input)?,
+        place: read_number(input)?,
+        rows: read_number(input)?,
+        free: read_number(input)?,
+        line: read_number(input)?,
+        column: read_number(input)?,
     })
 }
 
 fn read_specimen<R: Read>(input: &mut R) -> io::Result<Specimen> {
-    let id = read_number(input)?;
-    let lent = read_number(input)? as usize;
-    let expected = read_expected(input)?;
-    Ok(Specimen { id, lent, expected })
-}
-
-pub fn read_case<R: Read>(input: &mut R) -> io::Result<Case> {
-    let specimen = read_specimen(input)?;
-    let length = read_number(input)?;
-    let run_start = read_number(input)?;
-    let run_length = read_number(input)?;
-    let run_byte = read_number(input)?;
-    let cells = read_number(input)?;
-    Ok(Case {
-        specimen,
-        length,
-        run_start,
-        run_length,
-        run_byte,
-        cells,
+    Ok(Specimen {
+        id: read_number(input)?,
+        lent: read_number(input)? as usize,
+        expected: read_expected(input)?,
     })
 }
 
-// Writes a run of one byte at a place, where it fits, and gives the place behind it; where it does not fit, 0.
-fn put_run(src: &mut [u8], at: usize, size: usize, byte: u8) -> usize
-    ensures { result ≤ length src.new }
+pub fn read_case<R: Read>(input: &mut R) -> io::Result<Case> {
+    Ok(Case {
+        specimen: read_specimen(input)?,
+        length: read_number(input)?,
+        run_start: read_number(input)?,
+        run_length: read_number(input)?,
+        run_byte: read_number(input)?,
+        cells: read_number(input)?,
+    })
+}
+
+// Writes a run of one byte at a place, where it fits, and gives the place behind it.
+fn put_run(src: &mut [u8], at: usize, size: usize, byte: u8) -> Option<usize>
+    ensures { Puts src.old at (replicate size byte) src.new (place_or_zero result) }
 {
-    if src.len() < at {
-        return 0;
+    let end = at.checked_add(size)?;
+    if src.len() < end {
+        return None;
     }
-    if src.len() - at < size {
-        return 0;
-    }
-    let end = at + size;
-    fill_bytes(&mut src[at..end], byte);
-    end
+    src[at..end].fill(byte);
+    Some(end)
 }
 
 // Reads what is left of a source so long, and gives where it ends.
@@ -99,17 +88,14 @@ fn read_rest<R: Read>(input: &mut R, src: &mut [u8], at: usize, size: usize) -> 
     // The error is the input's. What came before it may stand in the buffer.
     ensures err { OnErr result (length src.new ≡ length src.old) }
 {
-    if src.len() < size {
-        return Ok(0);
-    }
-    if size < at {
+    if src.len() < size || size < at {
         return Ok(0);
     }
     let n = read_part(input, (size - at) as u64, &mut src[at..size])?;
     Ok(at + n)
 }
 
-// Reads a case's source, its run put in, and gives its length.
+// Reads a case's source, its run put in, and gives its length. Behind a run that does not fit it is read from the start.
 pub fn read_source<R: Read>(input: &mut R, case: Case, src: &mut [u8]) -> io::Result<usize>
     ensures ok { IfOk result (λ end. end ≤ length src.new) }
 
@@ -119,7 +105,7 @@ pub fn read_source<R: Read>(input: &mut R, case: Case, src: &mut [u8]) -> io::Re
     let start = read_part(input, case.run_start, src)?;
     let byte = (case.run_byte % 256) as u8;
     let end = put_run(src, start, case.run_length as usize, byte);
-    read_rest(input, src, end, case.length as usize)
+    read_rest(input, src, end.unwrap_or(0), case.length as usize)
 }
 
 // Unpacks cells, as far as there are any.
@@ -127,17 +113,17 @@ fn unpack(packed: &[u8], cells: &mut [u64])
     ensures { cells.new ≡ unpacked packed.now cells.old }
 {
     let mut at = 0;
-    for k in 0..cells.len() {
+    for cell in cells.iter_mut() {
         if packed.len() <= at {
             return;
         }
-        let size = wide(packed[at]) as usize;
+        let size = usize::from(packed[at]);
         let start = at + 1;
         if packed.len() - start < size {
             return;
         }
         let end = start + size;
-        cells[k] = value(&packed[start..end]);
+        *cell = value(&packed[start..end]);
         at = end;
     }
 }

@@ -5,45 +5,44 @@ ghost use Rattle.answers.specs.WholeAnswer.{quick_check, read_table};
 ghost use Rattle.trials.specs.Differences.{padded};
 ghost use Rattle.specimen.specs.Agreement.{reply_of, quick_of, cells_of, Agrees};
 
-use crate::{Expected, NUMBERS, SECOND_WORD, SHORT, Specimen};
-use read::Answer;
+use crate::{Expected, NOTHING, NUMBERS, SECOND_WORD, SHORT, Specimen};
+use read::{Accepted, Refusal};
 use rows::columns::ROW;
 use std::io;
-use trials::differ::{first_number, number_at};
-use trials::fill::{UNCLEARED_NUMBER, fill_numbers};
-use trials::tally::{print_number, print_text};
+use trials::differ::{first_difference, number_at};
+use trials::fill::UNCLEARED_NUMBER;
 
 // What the quick check counts places below.
 const PLACES: u64 = 4294967296;
 
 // The values of an answer.
-fn values(answer: Answer) -> Expected
+fn values(answer: Result<Accepted, Refusal>) -> Expected
     ensures { reply_of result ≡ told answer }
 {
     match answer {
-        Answer::Accepted(rows, free) => Expected {
-            number: 0,
-            place: 0,
-            rows: rows as u64,
-            free,
-            line: 0,
-            column: 0,
+        Ok(accepted) => Expected {
+            rows: accepted.rows as u64,
+            free: accepted.free,
+            ..NOTHING
         },
-        Answer::Refused(number, place, line, column) => Expected {
-            number,
+        Err(
+            Refusal::At {
+                reason,
+                place,
+                line,
+                column,
+            },
+        ) => Expected {
+            number: u64::from(reason),
             place: place as u64,
-            rows: 0,
-            free: 0,
             line: line as u64,
             column: column as u64,
+            ..NOTHING
         },
-        Answer::Short(need) => Expected {
+        Err(Refusal::TooFewRows(need)) => Expected {
             number: SHORT,
-            place: 0,
             rows: need as u64,
-            free: 0,
-            line: 0,
-            column: 0,
+            ..NOTHING
         },
     }
 }
@@ -52,13 +51,10 @@ fn values(answer: Answer) -> Expected
 fn quick(expected: Expected) -> u64
     ensures { result ≡ quick_of expected }
 {
-    if expected.number == SECOND_WORD {
-        return SECOND_WORD * PLACES + expected.place % PLACES;
+    match expected.number {
+        0..SHORT | SECOND_WORD => expected.number * PLACES + expected.place % PLACES,
+        _ => 0,
     }
-    if SHORT <= expected.number {
-        return 0;
-    }
-    expected.number * PLACES + expected.place % PLACES
 }
 
 // The cells that are expected, of those that start with them.
@@ -76,35 +72,14 @@ fn expected_cells(expected: Expected, cells: &[u64]) -> &[u64]
     &cells[0..n]
 }
 
-// Which specimen differs.
-fn print_case(rt: &impl Print, s: Specimen) -> io::Result<()> {
-    print_text(rt, b"case ")?;
-    print_number(rt, s.id)?;
-    print_text(rt, b" with ")?;
-    print_number(rt, s.lent as u64)?;
-    print_text(rt, b" lent: ")
-}
-
-// What came, and what was expected.
-fn print_values(rt: &impl Print, came: u64, expected: u64) -> io::Result<()> {
-    print_text(rt, b" ")?;
-    print_number(rt, came)?;
-    print_text(rt, b", expected ")?;
-    print_number(rt, expected)?;
-    print_text(rt, b"\n")
-}
-
 // Whether two values are the same; a difference is printed.
-fn is_same(rt: &impl Print, s: Specimen, what: &[u8], came: u64, expected: u64) -> io::Result<bool>
+fn is_same(rt: &impl Print, s: Specimen, what: &str, came: u64, expected: u64) -> io::Result<bool>
     ensures { IfOk result (λ same. same ≡ true → came ≡ expected) }
 {
-    if came == expected {
-        return Ok(true);
+    if came != expected {
+        println!(rt; "{s}: {what} {came}, expected {expected}")?;
     }
-    print_case(rt, s)?;
-    print_text(rt, what)?;
-    print_values(rt, came, expected)?;
-    Ok(false)
+    Ok(came == expected)
 }
 
 // Whether the six values are the expected ones.
@@ -112,21 +87,13 @@ fn is_answer(rt: &impl Print, s: Specimen, came: Expected) -> io::Result<bool>
     ensures { IfOk result (λ same. same ≡ true → reply_of came ≡ reply_of s.expected) }
 {
     let expected = s.expected;
-    let number = is_same(rt, s, b"number", came.number, expected.number)?;
-    let place = is_same(rt, s, b"place", came.place, expected.place)?;
-    let rows = is_same(rt, s, b"row count", came.rows, expected.rows)?;
-    let free = is_same(rt, s, b"free count", came.free, expected.free)?;
-    let line = is_same(rt, s, b"line", came.line, expected.line)?;
-    let column = is_same(rt, s, b"column", came.column, expected.column)?;
+    let number = is_same(rt, s, "number", came.number, expected.number)?;
+    let place = is_same(rt, s, "place", came.place, expected.place)?;
+    let rows = is_same(rt, s, "row count", came.rows, expected.rows)?;
+    let free = is_same(rt, s, "free count", came.free, expected.free)?;
+    let line = is_same(rt, s, "line", came.line, expected.line)?;
+    let column = is_same(rt, s, "column", came.column, expected.column)?;
     Ok(number & place & rows & free & line & column)
-}
-
-// Which number of the table differs.
-fn print_cell(rt: &impl Print, s: Specimen, k: usize, came: u64, expected: u64) -> io::Result<()> {
-    print_case(rt, s)?;
-    print_text(rt, b"table at ")?;
-    print_number(rt, k as u64)?;
-    print_values(rt, came, expected)
 }
 
 // Whether the table holds these numbers and then zeros; the first difference is printed.
@@ -137,17 +104,20 @@ fn is_table(rt: &impl Print, s: Specimen, table: &[u64], cells: &[u64]) -> io::R
         return is_same(
             rt,
             s,
-            b"numbers of the table",
+            "numbers of the table",
             table.len() as u64,
             cells.len() as u64,
         );
     }
-    let k = first_number(table, cells);
-    if k < table.len() {
-        print_cell(rt, s, k, table[k], number_at(cells, k))?;
-        return Ok(false);
-    }
-    Ok(true)
+    let Some(k) = first_difference(table, cells) else {
+        return Ok(true);
+    };
+    println!(rt;
+        "{s}: table at {k} {}, expected {}",
+        table[k],
+        number_at(cells, k)
+    )?;
+    Ok(false)
 }
 
 // Whether the quick check answers what is expected.
@@ -157,7 +127,7 @@ fn is_quick(rt: &impl Print, s: Specimen, src: &[u8]) -> io::Result<bool>
     is_same(
         rt,
         s,
-        b"quick check",
+        "quick check",
         read::quick_check(src),
         quick(s.expected),
     )
@@ -176,7 +146,7 @@ fn is_read(
     // Printing changes nothing that is lent: the table is as reading leaves it.
     ensures table_after { table.new ≡ read_table src.now (length table.old) }
 {
-    fill_numbers(table, UNCLEARED_NUMBER);
+    table.fill(UNCLEARED_NUMBER);
     let answer = read::read(src, table);
     let is_told = is_answer(rt, s, values(answer))?;
     let is_laid = is_table(rt, s, table, cells)?;
@@ -199,7 +169,7 @@ fn is_read_in(
 {
     let n = s.lent;
     if space.len() < n {
-        return is_same(rt, s, b"numbers to lend", space.len() as u64, n as u64);
+        return is_same(rt, s, "numbers to lend", space.len() as u64, n as u64);
     }
     is_read(rt, s, src, &mut space[0..n], cells)
 }

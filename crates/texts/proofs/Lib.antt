@@ -2,3 +2,4 @@
 mod DecimalLaws
 mod LineLaws
 mod LengthLaws
+mod TextLaws

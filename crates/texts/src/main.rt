@@ -18,14 +18,14 @@ ghost use Rattle.replies.specs.Replies.{resolve_reply};
 ghost use Rattle.text.specs.Answers.{told};
 ghost use Rattle.texts.specs.Agreement.{Agreed};
 
-use compare::{agrees, is_resolved};
+use compare::agrees;
 use counts::Counts;
 use rows::columns::ROW;
 use std::io;
 use std::io::Read;
-use text::Answer;
-use trials::fill::{UNCLEARED_BYTE, UNCLEARED_NUMBER, fill_bytes, fill_numbers};
-use trials::input::{END, read_number, read_part};
+use text::{Refusal, Resolved};
+use trials::fill::{UNCLEARED_BYTE, UNCLEARED_NUMBER};
+use trials::input::{read_count, read_number, read_part};
 
 // The longest source, some bytes over what document 01 allows.
 const SOURCE: usize = 66048;
@@ -43,19 +43,19 @@ const TABLE: usize = 512 * ROW;
 const CASES: u64 = 65536;
 
 // How a case went.
-#[derive(Clone, Copy)]
+#[derive(Clone, Copy, Debug, PartialEq, Eq)]
 pub struct Ran {
     pub agreed: bool,
     pub resolved: bool,
 }
 
 // Resolves a source through a table and into an output that hold marks.
-fn resolve_marked(src: &[u8], table: &mut [u64], out: &mut [u8]) -> Answer
+fn resolve_marked(src: &[u8], table: &mut [u64], out: &mut [u8]) -> Result<Resolved, Refusal>
     ensures result_value { told result ≡ resolve_reply src.now (length table.old) (length out.old) }
     ensures out_after { out.new ≡ resolved_output src.now (length table.old) (length out.old) }
 {
-    fill_numbers(table, UNCLEARED_NUMBER);
-    fill_bytes(out, UNCLEARED_BYTE);
+    table.fill(UNCLEARED_NUMBER);
+    out.fill(UNCLEARED_BYTE);
     text::resolve(src, table, out)
 }
 
@@ -67,7 +67,7 @@ fn run_in(table: &mut [u64], out: &mut [u8], src: &[u8], expected: &[u8]) -> Ran
     let agreed = agrees(answer, table, out, expected);
     Ran {
         agreed,
-        resolved: is_resolved(answer),
+        resolved: answer.is_ok(),
     }
 }
 
@@ -87,14 +87,18 @@ fn run_case<R: Read>(input: &mut R, size: u64) -> io::Result<Ran> {
     Ok(run(&src[0..n], &expected[0..m]))
 }
 
+// Runs all cases; the index of one that differs is printed.
 fn run_cases<R: Read>(rt: &impl Print, input: &mut R) -> io::Result<Counts> {
-    let mut counts = counts::START;
+    let mut counts = Counts::default();
     for k in 0..CASES {
-        let size = read_number(input)?;
-        if size == END {
+        let Some(size) = read_count(input)? else {
             return Ok(counts);
+        };
+        let ran = run_case(input, size)?;
+        if !ran.agreed {
+            println!(rt; "case {k} differs")?;
         }
-        counts = counts::add(rt, counts, k, run_case(input, size)?)?;
+        counts = counts.with(ran);
     }
     Ok(counts)
 }
@@ -102,5 +106,5 @@ fn run_cases<R: Read>(rt: &impl Print, input: &mut R) -> io::Result<Counts> {
 fn main(rt: HostRuntime) -> io::Result<()> {
     let mut input = rt.stdin();
     let counts = run_cases(&rt, &mut input)?;
-    counts::print_all(&rt, counts)
+    print!(rt; "{counts}")
 }

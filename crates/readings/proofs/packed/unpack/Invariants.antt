@@ -7,9 +7,7 @@ use Rattle.readings.specs.Packed.{unpacked}
 use Rattle.readings.proofs.UnpackLaws.{left}
 use Rattle.readings.proofs.packed.unpack.Given as goal
 
-abbrev pub invariant-loop-k : goal.invariant-loop-k
-invariant-loop-k l =
-    (l.at ≤ length l.packed) × (l.k ≤ l.k-end) × (length l.cells ≡ length l.initial.cells) × (left l.packed l.cells l.at l.k ≡ unpacked l.packed l.initial.cells)
+abbrev pub invariant-loop-cell : goal.invariant-loop-cell
+invariant-loop-cell l =
+    (l.at ≤ length l.packed) × (l.cell-index ≤ length l.initial.cells) × (length l.cells ≡ length l.initial.cells) × (left l.packed l.cells l.at l.cell-index ≡ unpacked l.packed l.initial.cells)
 
-abbrev pub decreases-loop-k : goal.decreases-loop-k
-decreases-loop-k l = l.k-end - l.k

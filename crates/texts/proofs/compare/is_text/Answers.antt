@@ -1,12 +1,9 @@
--- `compare::is_text` meets its contract: an output that differs nowhere is the text with zeros behind it.
+-- `compare::is_text` meets its contract: an output that starts with the text and then has zeros.
 -- Assumes nothing.
-use Rattle.std.proofs.Common.{arith}
-use Rattle.trials.proofs.DifferenceLaws.{no_difference}
+use Rattle.std.proofs.Common.{arith, rules}
+use Rattle.texts.proofs.TextLaws.{text_is}
 use Rattle.texts.proofs.compare.is_text.Goals as goal
 
-pub returns : goal.returns
-returns c e =
-    record {
-      long = omega arith;
-      output = no_difference c.args.out.now c.args.expected.now c.first_byte.result c.first_byte.ensures (omega arith) (omega arith);
-    }
+pub returns-then-eq : goal.returns-then-eq
+returns-then-eq c e =
+    text_is c.args.bytes (omega arith) c.split_at.ensures.front c.split_at.ensures.back (search rules) (search rules)

@@ -38,7 +38,7 @@ use Rattle.elements.specs.Symbols.{symbols_of, phrase_symbols, NUMERIC, RULE_OPE
 use Rattle.fields.specs.Phrases.{kept, phrase_draft}
 use Rattle.fields.specs.Sizes.{first_oversized}
 use Rattle.fields.specs.Words.{word_codes, code_of, word_draft}
-use Rattle.walk.specs.declared.State.{State}
+use Rattle.walk.specs.Standing.{Standing}
 use Rattle.walk.specs.Meanings.{◌⧺◌, kept_of, Counted, Under, Opening, Rowed, RuleRow, Worded, OperandRows, rows_own, rows_for}
 use Rattle.walk.specs.Starts.{item_words, starts_item, condition_words, is_condition}
 use Rattle.walk.specs.Walked.{Walked, Reads, Closes, closed, deep, list_of, condition_of, OpensCondition, WalkedUnder, ReadsUnder, ReadsOperand}
@@ -55,7 +55,7 @@ use Rattle.walk.proofs.ListSteps.{list_more, items_are, rules_are, ListLoop, lis
 -- ---- a numeric
 
 -- with its row, and the first of its numbers noted that does not fit its size
-abbrev pub sized_at : List ℕ → State → Cursor → List ℕ → State
+abbrev pub sized_at : List ℕ → Standing → Cursor → List ℕ → Standing
 sized_at s st c l = with_noted (rowed st c) (with_outside c.noted (first_oversized s (kept l)))
 
 numeric_enters :
@@ -64,7 +64,7 @@ numeric_enters :
 unfolding rules lookahead symbols_of phrase_symbols
 numeric_enters s d σ n k e = resume_in s d <item> σ n k item_numeric (plain (symbols_of NUMERIC)) (λ q. omega arith) (rw e) refl
 
-module _ {s : List ℕ} {parent : ℕ} {st : State} {l : List ℕ} {c : Cursor} (k : st.token.class ≡ class.«numeric»)
+module _ {s : List ℕ} {parent : ℕ} {st : Standing} {l : List ℕ} {c : Cursor} (k : st.token.class ≡ class.«numeric»)
     (p : Passed s (symbols_of NUMERIC) st.no st.token st.noted (replicate KEPT 0) c l) where
   pub numeric_off : {t : List ℕ} → c.no ≢ 0 → ReadsUnder s (r <item> ∷ []) parent st (closed st c) t t
   numeric_off h =
@@ -109,7 +109,7 @@ rule_joins {n = n} f g ds es k l (fits_leaf {p = p} (fits_leaf {p = q} (fits_lea
     record { rows = λ g. rw (x.row, y.rows, ← spells, add-one n); some = rw x.row (omega arith); rules = rw (x.one, y.no_rules) }
 
 pub rule_walked :
-    {s : List ℕ} {d : Depth} {parent : ℕ} {st o e r' : State} {t₀ t₁ t₂ : List ℕ}
+    {s : List ℕ} {d : Depth} {parent : ℕ} {st o e r' : Standing} {t₀ t₁ t₂ : List ℕ}
     → too_deep d ≡ false → st.token.class ≡ class.«rule» → Reads s (symbols_of RULE_OPEN) (Counted (RuleRow s parent)) st o t₀ t₁
     → Walked s d (r <or> ∷ []) (Counted (OperandRows s st.rows)) o e t₁ t₂ → Closes s RULE_CLOSE e r'
     → WalkedUnder s d (r <rule> ∷ []) parent st r' t₀ t₂
@@ -189,7 +189,7 @@ condition_joins {s} {k} {parent} {at} {n} w f g ds es c l (fits_leaf {p = p} fit
     record { rows = λ g. rw (u.row, v.rows, ← spells) (w.own s parent at n p i x g); some = rw u.row (omega arith); rules = rw (u.no_rules, v.no_rules) }
 
 pub condition_opens :
-    {s : List ℕ} {parent : ℕ} {st o e r' : State} {t₀ t₁ t₂ : List ℕ}
+    {s : List ℕ} {parent : ℕ} {st o e r' : Standing} {t₀ t₁ t₂ : List ℕ}
     → is_condition st.token.class ≡ true → Reads s (t st.token.class ∷ []) (Counted (Worded s parent)) st o t₀ t₁
     → ReadsOperand s max_groups <or> st.rows o e t₁ t₂ → Closes s EXPRESSION_CLOSE e r' → OpensCondition s parent st r' t₀ t₂
 condition_opens {s} {parent} {st} {e = e} {r' = r'} {t₀ = t₀} {t₂ = t₂} is w v u =
@@ -201,10 +201,10 @@ condition_opens {s} {parent} {st} {e = e} {r' = r'} {t₀ = t₀} {t₂ = t₂} 
           walked_then (counted_joins (opening_joins s)) opened ((u.reads t₂).walked (depth c 0) fine);
     }
 
-module _ {s : List ℕ} {left parent : ℕ} {st : State} {t₀ : List ℕ} (is : is_condition st.token.class ≡ true) where
+module _ {s : List ℕ} {left parent : ℕ} {st : Standing} {t₀ : List ℕ} (is : is_condition st.token.class ≡ true) where
   -- from its word to its `endif ;`
   pub condition_walked :
-      {o i r' : State} {t₁ t₂ : List ℕ}
+      {o i r' : Standing} {t₁ t₂ : List ℕ}
       → left ≤ max_conditions → left ≢ 0 → OpensCondition s parent st o t₀ t₁
       → WalkedUnder s (depth (max_conditions - (left - 1)) 0) (r <item>* ∷ []) st.rows o i t₁ t₂ → Closes s CONDITION_CLOSE i r'
       → WalkedUnder s (depth (max_conditions - left) 0) (r <item> ∷ []) parent st r' t₀ t₂
@@ -249,7 +249,7 @@ conditions_fine left = rw (le-ltb 16 (16 - left) (omega arith))
 
 -- a rule stands in a form, where no condition is open
 pub rule_again :
-    {s : List ℕ} {left parent : ℕ} {in_form : Bool} {st₀ st c : State} {t₀ t₁ t₂ : List ℕ}
+    {s : List ℕ} {left parent : ℕ} {in_form : Bool} {st₀ st c : Standing} {t₀ t₁ t₂ : List ℕ}
     → in_form ≡ true → left ≡ max_conditions → st.token.class ≡ class.«rule»
     → ListLoop s (λ d. d ≡ depth (max_conditions - left) 0) (list_of in_form) parent t₀ st₀ t₁ st → length t₂ ≡ length t₁
     → WalkedUnder s (depth 0 0) (r <rule> ∷ []) parent st c t₁ t₂

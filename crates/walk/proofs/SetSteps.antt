@@ -46,7 +46,7 @@ use Rattle.phrases.proofs.Resume.{resume_like}
 use Rattle.grammar.proofs.Equations.{verdict_take, verdict_deep, verdict_miss, verdict_ends, verdict_open}
 use Rattle.elements.proofs.TreeLaws.{entries_node, faults_node}
 use Rattle.fields.specs.Phrases.{kept, marked_value, form_set_draft}
-use Rattle.walk.specs.declared.State.{State}
+use Rattle.walk.specs.Standing.{Standing}
 use Rattle.walk.specs.Meanings.{◌⧺◌, first_place, kept_of, Counted, Opening, rows_own}
 use Rattle.walk.specs.Walked.{Walked, starting, set_open, OpensSet}
 use Rattle.walk.proofs.TreeLaws.{leaves_beside, fits_beside, faults_beside, Faultless, faultless}
@@ -269,10 +269,10 @@ first_place_lem b (fits_leaf h) = refl
 
 -- ---- the opening as it is read
 
-abbrev stopped : Cursor → State
+abbrev stopped : Cursor → Standing
 stopped c = record { no = c.no; token = c.token; rows = 0; rules = 0; noted = c.noted }
 
-abbrev begun : Cursor → State
+abbrev begun : Cursor → Standing
 begun c = record { no = 0; token = c.token; rows = 1; rules = 0; noted = c.noted }
 
 module _ {s : List ℕ} {k : lex.Token} {c e : Cursor} {high low : List ℕ}

@@ -18,7 +18,7 @@ use Rattle.grammar.specs.Rules.{<rule>, <item>, <option>, <option>*, <form>, <it
 use Rattle.grammar.specs.Derivation.{too_deep}
 use Rattle.grammar.specs.Ranges.{range_of}
 use Rattle.elements.specs.Symbols.{symbols_of, phrase_symbols, SUBTITLE, TEXT, LABEL, GOTO, CHECKBOX, ONE_OF_OPEN, ONE_OF_CLOSE, OPTION, FORM_OPEN, FORM_CLOSE}
-use Rattle.walk.specs.declared.State.{State}
+use Rattle.walk.specs.Standing.{Standing}
 use Rattle.walk.specs.Meanings.{Counted, Opening}
 use Rattle.walk.specs.Walked.{Walked, Closes, WalkedUnder, ReadsUnder, ReadsRow}
 use Rattle.walk.proofs.TreeLaws.{Faultless, faultless, quiet}
@@ -40,7 +40,7 @@ pub record Statement (p A i k : ℕ) (β : List Symbol) : Type 0 where
 abbrev pub Told : ℕ → ℕ → ℕ → Type 0
 Told A i k = (predict lookahead A k ≡ some i) ⊎ (predict lookahead A k ≡ none)
 
-module _ {s : List ℕ} {d : Depth} {p A i k : ℕ} {β : List Symbol} {parent : ℕ} {st o r' : State} {t₀ t₁ t₂ : List ℕ} (is : Statement p A i k β) (told : Told A i st.token.class) (fine : too_deep d ≡ false) where
+module _ {s : List ℕ} {d : Depth} {p A i k : ℕ} {β : List Symbol} {parent : ℕ} {st o r' : Standing} {t₀ t₁ t₂ : List ℕ} (is : Statement p A i k β) (told : Told A i st.token.class) (fine : too_deep d ≡ false) where
   pub statement_walked : ReadsRow s p parent st o t₀ t₁ → WalkedUnder s d β st.rows o r' t₁ t₂ → WalkedUnder s d (r A ∷ []) parent st r' t₀ t₂
   statement_walked w v =
       let opening : Walked s d (symbols_of p) (Counted (Opening s A i parent)) st o t₀ t₁ = walked_as (λ f ds k h m. counted_as (makes_opening s parent st.rows st.rules is.no_rule (is.makes s parent st.rows st.rules f h)) m) (w.walked d fine) in
@@ -158,14 +158,14 @@ form_is =
 
 -- nothing stands under it
 pub flat_reads :
-    {s : List ℕ} {p A i k : ℕ} {parent : ℕ} {st o : State} {t₀ t₁ : List ℕ}
+    {s : List ℕ} {p A i k : ℕ} {parent : ℕ} {st o : Standing} {t₀ t₁ : List ℕ}
     → Statement p A i k [] → Told A i st.token.class → ReadsRow s p parent st o t₀ t₁ → ReadsUnder s (r A ∷ []) parent st o t₀ t₁
 flat_reads {s} {st = st} is told w =
     record { walked = λ d fine. statement_walked is told fine w (walked_as (λ f ds k h m. counted_as (silent_under s st.rows refl h) m) (walked_nil s d)) }
 
 -- an item that its word tells
 pub item_reads :
-    {s : List ℕ} {p i k : ℕ} {parent : ℕ} {st o : State} {t₀ t₁ : List ℕ}
+    {s : List ℕ} {p i k : ℕ} {parent : ℕ} {st o : Standing} {t₀ t₁ : List ℕ}
     → Statement p <item> i k [] → st.token.class ≡ k → ReadsRow s p parent st o t₀ t₁ → ReadsUnder s (r <item> ∷ []) parent st o t₀ t₁
 item_reads is c w = flat_reads is (inl (rw c is.tells)) w
 
@@ -181,14 +181,14 @@ form_told k = find_one (class.«form» ∷ []) k
 
 -- a phrase without a row, after rows under which it stands
 pub closes_under :
-    {s : List ℕ} {p parent : ℕ} {d : Depth} {st r' : State} {t₀ : List ℕ}
+    {s : List ℕ} {p parent : ℕ} {d : Depth} {st r' : Standing} {t₀ : List ℕ}
     → quiet (symbols_of p) ≡ true → too_deep d ≡ false → Closes s p st r' → WalkedUnder s d (symbols_of p) parent st r' t₀ t₀
 closes_under {s} {parent = parent} {d = d} {t₀ = t₀} q o w = walked_as (λ f ds k h m. counted_as (silent_under s parent q h) m) ((w.reads t₀).walked d o)
 
 -- ---- a oneof and a form, from their opening to their end
 
 pub one_of_reads :
-    {s : List ℕ} {parent : ℕ} {st o a r' : State} {t₀ t₁ t₂ : List ℕ}
+    {s : List ℕ} {parent : ℕ} {st o a r' : Standing} {t₀ t₁ t₂ : List ℕ}
     → st.token.class ≡ class.«oneof» → ReadsRow s ONE_OF_OPEN parent st o t₀ t₁ → ReadsUnder s (r <option> ∷ r <option>* ∷ []) st.rows o a t₁ t₂
     → Closes s ONE_OF_CLOSE a r' → ReadsUnder s (r <item> ∷ []) parent st r' t₀ t₂
 unfolding symbols_of phrase_symbols
@@ -199,7 +199,7 @@ one_of_reads {s} {o = o} {r' = r'} {t₁ = t₁} {t₂ = t₂} c w v u =
     }
 
 pub form_walked :
-    {s : List ℕ} {d : Depth} {parent : ℕ} {st o a r' : State} {t₀ t₁ t₂ : List ℕ}
+    {s : List ℕ} {d : Depth} {parent : ℕ} {st o a r' : Standing} {t₀ t₁ t₂ : List ℕ}
     → too_deep d ≡ false → ReadsRow s FORM_OPEN parent st o t₀ t₁ → WalkedUnder s d (r <item_or_rule>* ∷ []) st.rows o a t₁ t₂ → Closes s FORM_CLOSE a r'
     → WalkedUnder s d (r <form> ∷ []) parent st r' t₀ t₂
 unfolding symbols_of phrase_symbols

@@ -34,7 +34,7 @@ use Rattle.phrases.proofs.Resume.{resume_on, resume_no}
 use Rattle.grammar.proofs.Equations.{verdict_all, verdict_extra}
 use Rattle.rows.specs.Table.{cleared}
 use Rattle.rows.proofs.ClearLaws.{cleared_whole}
-use Rattle.walk.specs.declared.State.{State}
+use Rattle.walk.specs.Standing.{Standing}
 use Rattle.walk.specs.declared.Outcome.{Outcome}
 use Rattle.walk.specs.Meanings.{Counted, Opening, rows_in}
 use Rattle.walk.specs.Walked.{Room, Walked, Closes, starting, set_open, WalkedUnder}
@@ -52,7 +52,7 @@ unfolding lookahead
 source_told k = find_one (class.«formset» ∷ []) k
 
 pub source_walked :
-    {s : List ℕ} {k : lex.Token} {o a r' : State} {t₀ t₁ t₂ : List ℕ}
+    {s : List ℕ} {k : lex.Token} {o a r' : Standing} {t₀ t₁ t₂ : List ℕ}
     → Walked s (depth 0 0) set_open (Counted (Opening s <source> 0 0)) (starting k) o t₀ t₁
     → WalkedUnder s (depth 0 0) (r <form> ∷ r <form>* ∷ []) 0 o a t₁ t₂ → Closes s FORM_SET_CLOSE a r'
     → WalkedUnder s (depth 0 0) (r <source> ∷ []) 0 (starting k) r' t₀ t₂
@@ -71,7 +71,7 @@ pub start_room : (s : List ℕ) (k : lex.Token) → k ≡ token_at s 0 → Room 
 start_room s k e = rw e (record { within = within_at s 0; rows = λ q. let h = stream_few s 0 in omega arith; rules = λ q. omega arith })
 
 -- the last phrase has no row, so there are fewer rows than tokens
-pub rows_few : {s : List ℕ} {a r' : State} → Room s a → Closes s FORM_SET_CLOSE a r' → r'.no ≡ 0 → r'.rows ≤ length s
+pub rows_few : {s : List ℕ} {a r' : Standing} → Room s a → Closes s FORM_SET_CLOSE a r' → r'.no ≡ 0 → r'.rows ≤ length s
 unfolding symbols_of phrase_symbols
 rows_few m w q =
     let x = ((w.reads []).walked (depth 0 0) refl).got q in
@@ -89,7 +89,7 @@ record Ends (s : List ℕ) (r : Outcome) (t t' : List ℕ) : Type 0 where
   nothing : r.no ≢ 0 → (r.rows ≡ 0) × (r.rules ≡ 0) × (r.noted ≡ nothing_noted)
   derived : r.no ≡ 0 → WalkedWhole s r t t'
 
-module _ {s : List ℕ} {k : lex.Token} {r' : State} {t₀ t₁ : List ℕ} (e : k ≡ token_at s 0) (w : WalkedUnder s (depth 0 0) (r <source> ∷ []) 0 (starting k) r' t₀ t₁) (few : r'.no ≡ 0 → r'.rows ≤ length s) where
+module _ {s : List ℕ} {k : lex.Token} {r' : Standing} {t₀ t₁ : List ℕ} (e : k ≡ token_at s 0) (w : WalkedUnder s (depth 0 0) (r <source> ∷ []) 0 (starting k) r' t₀ t₁) (few : r'.no ≡ 0 → r'.rows ≤ length s) where
   begins : verdict (source_tokens s) ≡ resume s [] r'.no r'.token
   begins = rw (← stream_source s, ← e) (sym (resume_on s (due (depth 0 0) (r <source>) ∷ []) 0 k refl) ∙ w.verdict [])
 

@@ -14,7 +14,7 @@ use Rattle.grammar.specs.Ranges.{out_of_range, second_words}
 use Rattle.answers.specs.Drafts.{encoded}
 use Rattle.answers.specs.Answer.{drafts}
 use Rattle.elements.specs.Marks.{first_mark, nothing_noted}
-use Rattle.walk.specs.declared.State.{State}
+use Rattle.walk.specs.Standing.{Standing}
 use Rattle.walk.specs.declared.Outcome.{Outcome}
 
 -- the refusal's number that a verdict tells, 0 for none
@@ -56,7 +56,7 @@ pub record Walks (s : List ℕ) (r : Outcome) (t t' : List ℕ) : Type 0 where
 abbrev pub refusing : ℕ → ℕ → Outcome
 refusing number place = record { no = number; place = place; rows = 0; rules = 0; noted = nothing_noted }
 
-unfoldable pub ended : ℕ → State → Outcome
+unfoldable pub ended : ℕ → Standing → Outcome
 ended n st =
     cond (eqb st.no 0)
     (cond (eqb st.token.class END) (record { no = 0; place = 0; rows = st.rows; rules = st.rules; noted = st.noted }) (refusing 3 st.token.start))

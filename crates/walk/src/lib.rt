@@ -10,6 +10,8 @@ mod steps;
 
 ghost use Rattle.std.specs.Prelude.{◌≡◌, length};
 ghost use Rattle.elements.specs.Marks.{nothing_noted};
+ghost use Rattle.walk.specs.Standing.{number_of, standing};
+ghost use Rattle.walk.specs.Walked.{WalksSource};
 ghost use Rattle.walk.specs.Whole.{Walks, ended};
 
 use crate::forms::{form_list, open_form_set};
@@ -20,15 +22,27 @@ use lex::Token;
 use lexemes::classes::END;
 use phrases::SYNTAX;
 
-// Where a walk stands: the refusal or 0, the token, how many rows and how many rules there are so far, and the faults that
-// are noted.
+// Where a walk stands: the token, how many rows and how many rules there are so far, and the faults that are noted.
 #[derive(Clone, Copy)]
 pub struct State {
-    pub no: u64,
     pub token: Token,
     pub rows: usize,
     pub rules: usize,
     pub noted: Noted,
+}
+
+// Why a walk is refused: the token does not fit, or it opens a depth too many (document 01, No. 3 and 4).
+#[derive(Clone, Copy, Debug, PartialEq, Eq)]
+pub enum Reason {
+    Syntax,
+    TooDeep,
+}
+
+// Why and at which token a walk is refused.
+#[derive(Clone, Copy)]
+pub struct Refused {
+    pub reason: Reason,
+    pub token: Token,
 }
 
 // What a walk ends with: the refusal's number and place, or 0 and 0; how many rows and rules there are, and the faults
@@ -40,6 +54,16 @@ pub struct Outcome {
     pub rows: usize,
     pub rules: usize,
     pub noted: Noted,
+}
+
+// The refusal's number (document 01, Refusal numbers).
+fn number_of(reason: Reason) -> u64
+    ensures { result ≡ number_of reason }
+{
+    match reason {
+        Reason::Syntax => SYNTAX,
+        Reason::TooDeep => 4,
+    }
 }
 
 fn refusing(no: u64, place: usize) -> Outcome
@@ -56,40 +80,48 @@ fn refusing(no: u64, place: usize) -> Outcome
 
 // What the end of a walk means: after the last token of a source no other may stand, and a source that ends early is
 // refused at its length.
-fn finish(src: &[u8], s: State) -> Outcome
-    ensures { result ≡ ended (length src.now) s }
+fn finish(src: &[u8], end: Result<State, Refused>) -> Outcome
+    ensures { result ≡ ended (length src.now) (standing end) }
 {
-    let class = s.token.class;
-    let start = s.token.start;
-    if s.no != 0 {
-        if class == END {
-            return refusing(SYNTAX, src.len());
+    match end {
+        Ok(s) => {
+            if s.token.class != END {
+                return refusing(SYNTAX, s.token.start);
+            }
+            Outcome {
+                no: 0,
+                place: 0,
+                rows: s.rows,
+                rules: s.rules,
+                noted: s.noted,
+            }
         }
-        return refusing(s.no, start);
+        Err(e) => {
+            if e.token.class == END {
+                return refusing(SYNTAX, src.len());
+            }
+            refusing(number_of(e.reason), e.token.start)
+        }
     }
-    if class != END {
-        return refusing(SYNTAX, start);
-    }
-    let noted = s.noted;
-    Outcome {
-        no: 0,
-        place: 0,
-        rows: s.rows,
-        rules: s.rules,
-        noted,
-    }
+}
+
+// The form set, from its opening to its end.
+fn form_set(src: &[u8], table: &mut [u64]) -> Result<State, Refused>
+    ensures { WalksSource src.now (standing result) table.old table.new }
+{
+    let open = open_form_set(src, table)?;
+    let all = form_list(src, table, open)?;
+    close(src, all, phrase::FORM_SET_CLOSE)
 }
 
 // A whole source. Where it is refused, the table is all zeros.
 pub fn walk(src: &[u8], table: &mut [u64]) -> Outcome
     ensures { Walks src.now result table.old table.new }
 {
-    let open = open_form_set(src, table);
-    let all = form_list(src, table, open);
-    let w = finish(src, close(src, all, phrase::FORM_SET_CLOSE));
+    let end = form_set(src, table);
+    let w = finish(src, end);
     if w.no != 0 {
         rows::clear(table, 0);
-        return w;
     }
     w
 }

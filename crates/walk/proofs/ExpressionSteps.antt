@@ -30,13 +30,14 @@ use Rattle.elements.proofs.MarkLaws.{noting_none}
 use Rattle.answers.specs.Expression.{operators, operator, operator_among, operator_code}
 use Rattle.answers.specs.Drafts.{encoded}
 use Rattle.fields.specs.Words.{code_of, word_draft}
-use Rattle.walk.specs.Standing.{Standing}
+use Rattle.walk.specs.declared.State.{State}
+use Rattle.walk.specs.Standing.{Standing, going, halted, refused_deep}
 use Rattle.walk.specs.Meanings.{Meaning, Counted, Worded, OperandRows, Tailing}
 use Rattle.fields.specs.Operators.{LEVELS, level_of}
 use Rattle.walk.specs.Starts.{constant_words, is_constant}
 use Rattle.walk.specs.Walked.{Room, Walked, Reads, Closes, passed, deep, advanced, WithRow, Groups, ReadsRow, ReadsOperand}
 use Rattle.walk.proofs.TreeLaws.{faultless}
-use Rattle.walk.proofs.Walks.{walked_then, counted_joins, walked_off, walked_nil, token_walked, resume_in, resume_enter, resume_skip, walked_node, counted_node, deep_walked}
+use Rattle.walk.proofs.Walks.{walked_then, counted_joins, walked_off, walked_nil, token_walked, resume_in, resume_enter, resume_skip, walked_node, counted_node, deep_walked, deep_halts}
 use Rattle.walk.proofs.StartLaws.{none_of_lem, none_append, tells_only}
 use Rattle.walk.proofs.StatementSteps.{Told}
 use Rattle.walk.proofs.Rooms.{room_by, room_after, room_passed, ahead, ahead_le, ahead_less}
@@ -116,6 +117,12 @@ finished {s} {parent} {k} {d = d} {st = st} {x = x} {y = y} {t₁ = t₁} {t₂ 
 
 pub groups_off : {s : List ℕ} {left : ℕ} (A : ℕ) (M : Meaning) {st : Standing} {t : List ℕ} → st.no ≢ 0 → Groups s left A M st st t t
 groups_off A M h = record { walked = λ c l. walked_off (r A ∷ []) M h }
+
+-- refused, said with the reason
+pub groups_halt :
+    {s : List ℕ} {left A : ℕ} {M : Meaning} {st : State} {t t' : List ℕ}
+    → Groups s left A M (going st) (deep (going st)) t t' → Groups s left A M (going st) (halted (refused_deep st)) t t'
+groups_halt w = record { walked = λ c l. deep_halts (w.walked c l) }
 
 module _ {s : List ℕ} {left parent : ℕ} where
   -- ---- NOT atom, and ( expression )

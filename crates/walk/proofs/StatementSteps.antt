@@ -5,7 +5,7 @@ use mathlib.Core.Path.{◌≡◌, refl}
 use mathlib.Core.Bool.{true, false}
 use mathlib.Core.List.{List, [], ◌∷◌, ◌++◌}
 use mathlib.Core.Option.{none, some}
-use mathlib.Core.Logic.{◌⊎◌, inl}
+use mathlib.Core.Logic.{◌⊎◌, inl, ◌≢◌}
 use lib.Dec.{eqb}
 use Rattle.lexemes.specs.Classes as class
 use Rattle.ll1.specs.Trees.{Trees, Symbol, alternative_of, Fits, Depth}
@@ -19,10 +19,10 @@ use Rattle.grammar.specs.Derivation.{too_deep}
 use Rattle.grammar.specs.Ranges.{range_of}
 use Rattle.elements.specs.Symbols.{symbols_of, phrase_symbols, SUBTITLE, TEXT, LABEL, GOTO, CHECKBOX, ONE_OF_OPEN, ONE_OF_CLOSE, OPTION, FORM_OPEN, FORM_CLOSE}
 use Rattle.walk.specs.Standing.{Standing}
-use Rattle.walk.specs.Meanings.{Counted, Opening}
+use Rattle.walk.specs.Meanings.{Counted, Silent, Opening}
 use Rattle.walk.specs.Walked.{Walked, Closes, WalkedUnder, ReadsUnder, ReadsRow}
 use Rattle.walk.proofs.TreeLaws.{Faultless, faultless, quiet}
-use Rattle.walk.proofs.Walks.{walked_then, counted_joins, walked_as, counted_as, walked_nil, walked_node, counted_node, resume_enter}
+use Rattle.walk.proofs.Walks.{walked_then, counted_joins, walked_as, counted_as, walked_off, walked_nil, walked_node, counted_node, resume_enter}
 use Rattle.walk.proofs.MeaningLaws.{silent_under, under_joins, Content, content_under, content_joins}
 use Rattle.walk.proofs.Statements.{Makes, makes_opening, subtitle_row, text_row, label_row, goto_row, checkbox_row, one_of_row, option_row, form_row}
 
@@ -184,6 +184,10 @@ pub closes_under :
     {s : List ℕ} {p parent : ℕ} {d : Depth} {st r' : Standing} {t₀ : List ℕ}
     → quiet (symbols_of p) ≡ true → too_deep d ≡ false → Closes s p st r' → WalkedUnder s d (symbols_of p) parent st r' t₀ t₀
 closes_under {s} {parent = parent} {d = d} {t₀ = t₀} q o w = walked_as (λ f ds k h m. counted_as (silent_under s parent q h) m) ((w.reads t₀).walked d o)
+
+-- a refusal is handed on
+pub closes_off : {s : List ℕ} (p : ℕ) {st : Standing} → st.no ≢ 0 → Closes s p st st
+closes_off p h = record { reads = λ t. record { walked = λ d o. walked_off (symbols_of p) (Counted Silent) h } }
 
 -- ---- a oneof and a form, from their opening to their end
 

@@ -37,7 +37,11 @@ use Rattle.elements.proofs.MarkLaws.{noting_append, noting_none}
 use Rattle.phrases.proofs.Resume.{resume_on, resume_no, resume_off}
 use Rattle.grammar.proofs.Equations.{verdict_take, verdict_deep, verdict_in, verdict_enter, verdict_skip, verdict_skip_end}
 use Rattle.elements.proofs.TreeLaws.{faults_of}
-use Rattle.walk.specs.Standing.{Standing}
+use Rattle.walk.specs.declared.Reason.{Reason}
+use Rattle.walk.specs.declared.Reason.TheVariants.{Syntax, TooDeep}
+use Rattle.walk.specs.declared.Refused.{Refused}
+use Rattle.walk.specs.declared.State.{State}
+use Rattle.walk.specs.Standing.{Standing, number_of, going, halted, refused_deep}
 use Rattle.walk.specs.Meanings.{◌⧺◌, Meaning, Counted, Silent}
 use Rattle.walk.specs.Walked.{Tree, Walked, passed, deep}
 use Rattle.walk.proofs.TreeLaws.{leaves_beside, fits_beside, faults_beside, Faultless}
@@ -139,6 +143,14 @@ walked_like {s} {α = α} {M = M} {st = st} {t = t} {t' = t'} e f same w =
     }
 
 -- ---- nothing is read
+
+-- a refusal has a number
+pub halts : (e : Refused) → (halted e).no ≢ 0
+halts e = by e.reason
+  where
+    by : (x : Reason) → number_of x ≢ 0
+    by Syntax = λ q. absurd (omega arith)
+    by TooDeep = λ q. absurd (omega arith)
 
 -- a refusal is handed on
 pub walked_off : {s : List ℕ} {d : Depth} (α : List Symbol) (M : Meaning) {st : Standing} {t : List ℕ} → st.no ≢ 0 → Walked s d α M st st t t
@@ -306,3 +318,7 @@ deep_walked {s} {d} {A} {i} {k} {a} {β} {M} {st} e b p o z c l =
       within = λ w. w;
       got = λ q. absurd (omega arith);
     }
+
+-- the same, said with the reason
+pub deep_halts : {s : List ℕ} {d : Depth} {α : List Symbol} {M : Meaning} {st : State} {t t' : List ℕ} → Walked s d α M (going st) (deep (going st)) t t' → Walked s d α M (going st) (halted (refused_deep st)) t t'
+deep_halts w = walked_like refl refl (λ q. absurd (omega arith)) w

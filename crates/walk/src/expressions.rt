@@ -84,13 +84,13 @@ fn level(
     let mut s = atom(src, table, s, parent, left)?;
     let mut bound = LEVELS;
     loop {
-        let token = s.token;
-        let own = level_of(token.class);
+        let operator = s.token;
+        let own = level_of(operator.class);
         if own < at || bound <= own {
             return Ok(s);
         }
         let right = level(src, table, past(src, s), parent, left, own + 1)?;
-        s = with_row(table, right, parent, token);
+        s = with_row(table, right, parent, operator);
         bound = own + 1;
     }
 }

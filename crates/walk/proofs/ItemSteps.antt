@@ -1,6 +1,6 @@
 -- Items: statements without a condition, rules and conditions.
 -- Assumes nothing.
-use Prim.Native.Nat.{ℕ, suc, ◌-◌, ◌≤◌, ◌<◌}
+use Prim.Native.Nat.{ℕ, suc, ◌+◌, ◌-◌, ◌≤◌, ◌<◌}
 use mathlib.Core.Path.{◌≡◌, refl, ap, ◌∙◌}
 use mathlib.Core.Bool.{Bool, true, false, ◌&&◌}
 use mathlib.Core.List.{List, [], ◌∷◌, ◌++◌}
@@ -38,10 +38,12 @@ use Rattle.elements.specs.Symbols.{symbols_of, phrase_symbols, NUMERIC, RULE_OPE
 use Rattle.fields.specs.Phrases.{kept, phrase_draft}
 use Rattle.fields.specs.Sizes.{first_oversized}
 use Rattle.fields.specs.Words.{word_codes, code_of, word_draft}
-use Rattle.walk.specs.Standing.{Standing}
+use Rattle.elements.specs.declared.noted.Noted.{Noted}
+use Rattle.walk.specs.declared.State.{State}
+use Rattle.walk.specs.Standing.{Standing, going}
 use Rattle.walk.specs.Meanings.{◌⧺◌, kept_of, Counted, Under, Opening, Rowed, RuleRow, Worded, OperandRows, rows_own, rows_for}
 use Rattle.walk.specs.Starts.{item_words, starts_item, condition_words, is_condition}
-use Rattle.walk.specs.Walked.{Walked, Reads, Closes, closed, deep, list_of, condition_of, OpensCondition, WalkedUnder, ReadsUnder, ReadsOperand}
+use Rattle.walk.specs.Walked.{Walked, Reads, Takes, Closes, deep, list_of, condition_of, OpensCondition, WalkedUnder, ReadsUnder, ReadsOperand}
 use Rattle.walk.proofs.TreeLaws.{Faultless, faultless}
 use Rattle.walk.proofs.Walks.{Joins, walked_then, counted_joins, walked_off, with_noted, walked_noting, walked_node, counted_node, resume_in, deep_walked}
 use Rattle.walk.proofs.MeaningLaws.{under_joins, opening_joins, Content, content_under, opening_content, content_joins}
@@ -64,19 +66,22 @@ numeric_enters :
 unfolding rules lookahead symbols_of phrase_symbols
 numeric_enters s d σ n k e = resume_in s d <item> σ n k item_numeric (plain (symbols_of NUMERIC)) (λ q. omega arith) (rw e) refl
 
+-- where its phrase is refused
+pub numeric_off :
+    {s : List ℕ} {parent : ℕ} {st r' : Standing} {l l' t : List ℕ}
+    → st.token.class ≡ class.«numeric» → Takes s NUMERIC st r' l l' → r'.no ≢ 0 → ReadsUnder s (r <item> ∷ []) parent st r' t t
+numeric_off {s} {st = st} k p h =
+    record {
+      walked = λ d o.
+          record {
+            verdict = λ σ. numeric_enters s d σ st.no st.token k ∙ p.passed.verdict σ d o;
+            within = p.passed.within;
+            got = λ q. absurd (h q);
+          };
+    }
+
 module _ {s : List ℕ} {parent : ℕ} {st : Standing} {l : List ℕ} {c : Cursor} (k : st.token.class ≡ class.«numeric»)
     (p : Passed s (symbols_of NUMERIC) st.no st.token st.noted (replicate KEPT 0) c l) where
-  pub numeric_off : {t : List ℕ} → c.no ≢ 0 → ReadsUnder s (r <item> ∷ []) parent st (closed st c) t t
-  numeric_off h =
-      record {
-        walked = λ d o.
-            record {
-              verdict = λ σ. numeric_enters s d σ st.no st.token k ∙ p.verdict σ d o;
-              within = p.within;
-              got = λ q. absurd (h q);
-            };
-      }
-
   pub numeric_on :
       {t t' : List ℕ}
       → c.no ≡ 0 → t' ≡ with_row t st.rows (encoded (phrase_draft (number_at s) st.token.class parent st.token.start (kept l)))
@@ -96,6 +101,15 @@ module _ {s : List ℕ} {parent : ℕ} {st : Standing} {l : List ℕ} {c : Curso
             m.means)
             ((row_held s parent st refl p z e).walked d o);
       }
+
+-- a numeric whose phrase ends in the state o
+pub numeric_reads :
+    {s : List ℕ} {parent : ℕ} {st o : State} {n : Noted} {l t t' : List ℕ}
+    → st.token.class ≡ class.«numeric» → Takes s NUMERIC (going st) (going o) (replicate KEPT 0) l
+    → t' ≡ with_row t st.rows (encoded (phrase_draft (number_at s) st.token.class parent st.token.start (kept l)))
+    → n ≡ with_outside o.noted (first_oversized s (kept l))
+    → ReadsUnder s (r <item> ∷ []) parent (going st) (going (record { token = o.token; rows = st.rows + 1; rules = o.rules; noted = n })) t t'
+numeric_reads {st = st} k p e f = rw ((p.same refl).1, f) (numeric_on {st = going st} k p.passed refl e)
 
 -- ---- rules
 

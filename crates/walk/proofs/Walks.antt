@@ -43,7 +43,7 @@ use Rattle.walk.specs.declared.Refused.{Refused}
 use Rattle.walk.specs.declared.State.{State}
 use Rattle.walk.specs.Standing.{Standing, number_of, going, halted, refused_deep}
 use Rattle.walk.specs.Meanings.{◌⧺◌, Meaning, Counted, Silent}
-use Rattle.walk.specs.Walked.{Tree, Walked, passed, deep}
+use Rattle.walk.specs.Walked.{Tree, Walked, Reads, passed, deep}
 use Rattle.walk.proofs.TreeLaws.{leaves_beside, fits_beside, faults_beside, Faultless}
 
 due_append : (d : Depth) (α β : List Symbol) → due_all d (α ++ β) ≡ due_all d α ++ due_all d β
@@ -155,6 +155,9 @@ halts e = by e.reason
 -- a refusal is handed on
 pub walked_off : {s : List ℕ} {d : Depth} (α : List Symbol) (M : Meaning) {st : Standing} {t : List ℕ} → st.no ≢ 0 → Walked s d α M st st t t
 walked_off {s} {d} α M {st} h = record { verdict = λ σ. resume_off s (due_all d α ++ σ) σ st.no st.token h; within = λ w. w; got = λ q. absurd (h q) }
+
+pub reads_off : {s : List ℕ} (α : List Symbol) (M : Meaning) {st : Standing} {t : List ℕ} → st.no ≢ 0 → Reads s α M st st t t
+reads_off α M h = record { walked = λ d o. walked_off α M h }
 
 pub walked_nil : (s : List ℕ) (d : Depth) {st : Standing} {t : List ℕ} → Walked s d [] (Counted Silent) st st t t
 unfolding put faults gathered

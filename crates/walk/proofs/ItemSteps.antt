@@ -10,7 +10,7 @@ use native.Mathlib.Omega.{arith}
 use native.Mathlib.Numerals.{add-one}
 use lib.Dec.{eqb}
 use lib.ListN.{length, replicate}
-use borrow.Author.Tests.{eq-eqb, le-ltb}
+use borrow.Author.Tests.{eqb-true, ne_eqb, le-ltb}
 use Rattle.lex.specs.declared.Token as lex
 use Rattle.lexemes.specs.Classes as class
 use Rattle.lexemes.specs.Classes.{BAD}
@@ -278,5 +278,13 @@ rule_again {s} {left} {parent} {in_form} {st₀} {st} {c} {t₀} {t₁} {t₂} f
     by true f x e w = list_again (depth (max_conditions - left) 0) refl x rules_are (rw k) (λ q. omega arith) e (λ d o. rw (o, l) w)
     by false f x e w = clash cc
 
-pub not_both : {in_form : Bool} {k : ℕ} → in_form && eqb k class.«rule» ≡ false → in_form ≡ true → k ≢ class.«rule»
-not_both {in_form} {k} h f e = clash (let w : eqb k class.«rule» ≡ true = eq-eqb k class.«rule» e in let v : in_form && eqb k class.«rule» ≡ true = rw (f, w) in cc)
+-- in a condition no rule stands
+pub inner_items :
+    {s : List ℕ} {left parent : ℕ} {d : Depth} {st r' : Standing} {t₀ t₁ : List ℕ}
+    → left ≤ max_conditions → left ≢ 0 → WalkedUnder s d (r (list_of (eqb (left - 1) max_conditions)) ∷ []) parent st r' t₀ t₁
+    → WalkedUnder s d (r <item>* ∷ []) parent st r' t₀ t₁
+inner_items {left = left} l n w = rw (ne_eqb (left - 1) max_conditions (λ q. absurd (omega arith))) at w
+
+-- a token that starts no item, and in a form no rule
+pub no_rule_here : {left k : ℕ} → (left ≡ max_conditions → k ≢ class.«rule») → eqb left max_conditions ≡ true → k ≢ class.«rule»
+no_rule_here {left} h e = h (eqb-true left max_conditions e)

@@ -37,13 +37,13 @@ use Rattle.rows.proofs.ClearLaws.{cleared_whole}
 use Rattle.walk.specs.Standing.{Standing}
 use Rattle.walk.specs.declared.Outcome.{Outcome}
 use Rattle.walk.specs.Meanings.{Counted, Opening, rows_in}
-use Rattle.walk.specs.Walked.{Room, Walked, Closes, starting, set_open, WalkedUnder}
+use Rattle.walk.specs.Walked.{Room, Walked, Closes, starting, set_open, WalkedUnder, OpensSet, WalksSource}
 use Rattle.walk.specs.Whole.{refusal_number, refusal_place, WalkedWhole, Walks, refusing, ended}
 use Rattle.walk.proofs.TreeLaws.{faultless}
 use Rattle.walk.proofs.Walks.{walked_then, counted_joins, walked_node, counted_node, resume_enter}
 use Rattle.walk.proofs.MeaningLaws.{under_joins, Content, content_under, content_joins}
 use Rattle.walk.proofs.StatementSteps.{Told, closes_under}
-use Rattle.walk.proofs.Rooms.{some_leaf, tokens_passed}
+use Rattle.walk.proofs.Rooms.{some_leaf, tokens_passed, room_after}
 
 -- ---- the whole source
 
@@ -79,6 +79,12 @@ rows_few m w q =
     let b = some_leaf refl x.fits in
     let c = tokens_passed x in
     rw (x.rows, x.means.means.no_rows) (omega arith)
+
+-- the opening, the forms and the end
+pub walks_source :
+    {s : List ℕ} {o a r' : Standing} {t₀ t₁ t₂ : List ℕ}
+    → OpensSet s o t₀ t₁ → WalkedUnder s (depth 0 0) (r <form> ∷ r <form>* ∷ []) 0 o a t₁ t₂ → Closes s FORM_SET_CLOSE a r' → WalksSource s r' t₀ t₂
+walks_source w v u = record { walked = source_walked w.walked v u; few = rows_few (room_after (room_after (start_room _ _ refl) w.walked) v) u }
 
 -- ---- what it ends with
 

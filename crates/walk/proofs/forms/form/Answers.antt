@@ -2,6 +2,7 @@
 -- Assumes nothing.
 use mathlib.Core.Path.{refl}
 use mathlib.Core.List.{[], ◌∷◌}
+use native.Mathlib.Omega.{arith}
 use Rattle.std.proofs.lemmas.Result.{err_from_is_err_and}
 use Rattle.ll1.specs.Trees.{depth}
 use Rattle.grammar.specs.Notation.{r}
@@ -17,6 +18,9 @@ returns-in_err-open c =
     let p = err_from_is_err_and c.from_residual.result c.from_residual.ensures.1 in
     let h = halts c.in_err-open.field-0.0 in
     rw (p.1, p.2) (form_walked refl c.in_err-open.ensures (walked_off (r <item_or_rule>* ∷ []) _ h) (closes_off FORM_CLOSE h))
+
+pub items-requires : goal.items-requires
+items-requires c = (room_after c.requires (c.in_ok-open.ensures.walked (depth 0 0) refl), omega arith)
 
 pub returns-in_err-all : goal.returns-in_err-all
 returns-in_err-all c =

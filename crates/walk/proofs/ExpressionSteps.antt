@@ -5,7 +5,7 @@ use mathlib.Core.Path.{◌≡◌, refl, sym, ap, ◌∙◌, subst}
 use mathlib.Core.Bool.{true, false}
 use mathlib.Core.List.{List, [], ◌∷◌, ◌++◌}
 use mathlib.Core.Option.{some}
-use mathlib.Core.Logic.{◌≢◌}
+use mathlib.Core.Logic.{◌⊎◌, inl, inr, ◌≢◌}
 use native.Mathlib.Omega.{arith}
 use native.Mathlib.Decide.{ℕ_discrete}
 use lib.ListN.{length}
@@ -127,13 +127,19 @@ groups_halt w = record { walked = λ c l. deep_halts (w.walked c l) }
 module _ {s : List ℕ} {left parent : ℕ} where
   -- ---- NOT atom, and ( expression )
 
-  pub not_deep : {st : Standing} {t : List ℕ} → left ≡ 0 → st.no ≡ 0 → st.token.class ≡ class.«NOT» → ReadsOperand s left <atom> parent st (deep st) t t
+  not_deep : {st : Standing} {t : List ℕ} → left ≡ 0 → st.no ≡ 0 → st.token.class ≡ class.«NOT» → ReadsOperand s left <atom> parent st (deep st) t t
   unfolding rules lookahead
   not_deep n z c = record { walked = λ b l. rw n (deep_walked {i = 0} {k = class.«NOT»} {a = group (t class.«NOT» ∷ r <atom> ∷ [])} refl refl refl (rw (le-ltb 16 b l)) z c (omega arith)) }
 
-  pub group_deep : {st : Standing} {t : List ℕ} → left ≡ 0 → st.no ≡ 0 → st.token.class ≡ open_paren → ReadsOperand s left <atom> parent st (deep st) t t
+  group_deep : {st : Standing} {t : List ℕ} → left ≡ 0 → st.no ≡ 0 → st.token.class ≡ open_paren → ReadsOperand s left <atom> parent st (deep st) t t
   unfolding rules lookahead symbols_of phrase_symbols
   group_deep n z c = record { walked = λ b l. rw n (deep_walked {i = 1} {k = open_paren} {a = group (t open_paren ∷ r <or> ∷ symbols_of GROUP_CLOSE)} refl refl refl (rw (le-ltb 16 b l)) z c (omega arith)) }
+
+  pub atom_deep :
+      {st : Standing} {t : List ℕ}
+      → left ≡ 0 → st.no ≡ 0 → (st.token.class ≡ open_paren) ⊎ (st.token.class ≡ class.«NOT») → ReadsOperand s left <atom> parent st (deep st) t t
+  atom_deep n z (inl c) = group_deep n z c
+  atom_deep n z (inr c) = not_deep n z c
 
   pub atom_not :
       {st p a r' : Standing} {t₀ t₁ t₂ : List ℕ}

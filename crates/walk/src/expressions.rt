@@ -49,22 +49,18 @@ fn atom(
     requires { Room src.now (going s) × (left ≤ max_groups) }
     ensures { ReadsOperand src.now left <atom> parent (going s) (standing result) table.old table.new }
 {
-    let class = s.token.class;
-    if class == NOT {
-        if left == 0 {
-            return too_deep(s);
+    match s.token.class {
+        NOT | OPEN_PAREN if left == 0 => too_deep(s),
+        NOT => {
+            let operand = atom(src, table, past(src, s), parent, left - 1)?;
+            Ok(with_row(table, operand, parent, s.token))
         }
-        let operand = atom(src, table, past(src, s), parent, left - 1)?;
-        return Ok(with_row(table, operand, parent, s.token));
-    }
-    if class == OPEN_PAREN {
-        if left == 0 {
-            return too_deep(s);
+        OPEN_PAREN => {
+            let inner = level(src, table, past(src, s), parent, left - 1, 0)?;
+            close(src, inner, phrase::GROUP_CLOSE)
         }
-        let inner = level(src, table, past(src, s), parent, left - 1, 0)?;
-        return close(src, inner, phrase::GROUP_CLOSE);
+        _ => leaf(src, table, s, parent),
     }
-    leaf(src, table, s, parent)
 }
 
 // An atom, and the operators of the level or tighter ones with their right operands, grouping to the left: after an

@@ -134,6 +134,8 @@ pub fn items(
     requires { Room src.now (going s) × (left ≤ max_conditions) }
     ensures { WalkedUnder src.now (depth (max_conditions - left) 0) (r (list_of (eqb left max_conditions)) ∷ []) parent (going s) (standing result) table.old table.new }
 {
+    // In a form no condition is open.
+    let in_form = left == CONDITIONS;
     let mut s = s;
     loop {
         let class = s.token.class;
@@ -146,7 +148,7 @@ pub fn items(
             s = close(src, inner, phrase::CONDITION_CLOSE)?;
         } else if starts_item(class) {
             s = item(src, table, s, parent)?;
-        } else if left == CONDITIONS && class == KW_RULE {
+        } else if in_form && class == KW_RULE {
             s = rule(src, table, s, parent)?;
         } else {
             return Ok(s);

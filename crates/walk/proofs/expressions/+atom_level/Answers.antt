@@ -11,61 +11,57 @@ use Rattle.walk.specs.Walked.{Room}
 use Rattle.walk.proofs.Rooms.{room_passed, ahead_passed}
 use Rattle.walk.proofs.Walks.{halts}
 use Rattle.walk.proofs.StatementSteps.{closes_off}
-use Rattle.walk.proofs.ExpressionSteps.{groups_off, groups_halt, not_deep, group_deep, atom_not, atom_group, atom_leaf, room_groups, room_operator, groups_fewer, operator_known, level_climbs, tail_end, tails_none, turn_less, turn_again, with_off}
+use Rattle.walk.proofs.ExpressionSteps.{groups_off, groups_halt, atom_deep, atom_not, atom_group, atom_leaf, room_groups, room_operator, groups_fewer, operator_known, level_climbs, tail_end, tails_none, turn_less, turn_again, with_off}
 use Rattle.walk.proofs.expressions.+atom_level.Goals as goal
 
-pub atom-returns-then-left-eq0 : goal.atom-returns-then-left-eq0
-atom-returns-then-left-eq0 t c = rw c.too_deep.ensures (groups_halt (not_deep c.if-left-eq0.true refl c.if-class-eq-NOT.true))
+pub atom-returns-in-29 : goal.atom-returns-in-29
+atom-returns-in-29 t c = rw c.too_deep.ensures (groups_halt (atom_deep c.if-left-eq0.true refl c.in-29.is))
 
 pub atom-atom-requires : goal.atom-atom-requires
 atom-atom-requires t c =
     let pre = c.requires in
     let s = going c.args.s in
-    let known = c.if-class-eq-NOT.true in
+    let known = c.in-29-2.is in
     (omega (arith, ahead_passed c.args.src.now s refl (omega (arith, known)) c.past.ensures), (rw c.past.ensures (room_passed pre.0 refl (omega (arith, known))), omega (arith, pre.1)))
 
-pub atom-returns-in_err-operand : goal.atom-returns-in_err-operand
-atom-returns-in_err-operand t c =
+pub atom-returns-in_err-operand-in-29-2 : goal.atom-returns-in_err-operand-in-29-2
+atom-returns-in_err-operand-in-29-2 t c =
     let p = err_from_is_err_and c.from_residual.result c.from_residual.ensures.1 in
-    rw (p.1, p.2) (atom_not c.if-left-eq0.false c.requires.1 refl c.if-class-eq-NOT.true c.past.ensures c.in_err-operand.ensures (with_off (halts c.in_err-operand.field-0.0)))
+    rw (p.1, p.2) (atom_not c.if-left-eq0.false c.requires.1 refl c.in-29-2.is c.past.ensures c.in_err-operand-in-29-2.ensures (with_off (halts c.in_err-operand-in-29-2.field-0.0)))
 
 pub atom-with_row-requires : goal.atom-with_row-requires
 atom-with_row-requires t c =
-    let room : Room c.args.src.now (going c.past.result) = rw c.past.ensures (room_passed c.requires.0 refl (omega (arith, c.if-class-eq-NOT.true))) in
-    omega (arith, (room_groups room c.in_ok-operand.ensures).rows refl, c.well_formed)
+    let room : Room c.args.src.now (going c.past.result) = rw c.past.ensures (room_passed c.requires.0 refl (omega (arith, c.in-29-2.is))) in
+    omega (arith, (room_groups room c.in_ok-operand-in-29-2.ensures).rows refl, c.well_formed)
 
-pub atom-returns-then-class-eq-NOT : goal.atom-returns-then-class-eq-NOT
-atom-returns-then-class-eq-NOT t c =
-    atom_not c.if-left-eq0.false c.requires.1 refl c.if-class-eq-NOT.true c.past.ensures c.in_ok-operand.ensures c.with_row.ensures
-
-pub atom-returns-then-left-eq0-2 : goal.atom-returns-then-left-eq0-2
-atom-returns-then-left-eq0-2 t c =
-    rw c.too_deep-then-left-eq0-2.ensures (groups_halt (group_deep c.if-left-eq0-2.true refl c.if-class-eq-OPEN_PAREN.true))
+pub atom-returns-in_ok-operand-in-29-2 : goal.atom-returns-in_ok-operand-in-29-2
+atom-returns-in_ok-operand-in-29-2 t c =
+    atom_not c.if-left-eq0.false c.requires.1 refl c.in-29-2.is c.past.ensures c.in_ok-operand-in-29-2.ensures c.with_row.ensures
 
 pub atom-level-requires : goal.atom-level-requires
 atom-level-requires t c =
     let pre = c.requires in
     let s = going c.args.s in
-    let known = c.if-class-eq-OPEN_PAREN.true in
-    let past = c.past-then-class-eq-OPEN_PAREN.ensures in
+    let known = c.in-2.is in
+    let past = c.past-in-2.ensures in
     (omega (arith, ahead_passed c.args.src.now s refl (omega (arith, known)) past), (rw past (room_passed pre.0 refl (omega (arith, known))), omega (arith, pre.1), omega arith))
 
-pub atom-returns-in_err-inner : goal.atom-returns-in_err-inner
-atom-returns-in_err-inner t c =
-    let p = err_from_is_err_and c.from_residual-in_err-inner.result c.from_residual-in_err-inner.ensures.1 in
-    rw (p.1, p.2) (atom_group c.if-left-eq0-2.false c.requires.1 refl c.if-class-eq-OPEN_PAREN.true c.past-then-class-eq-OPEN_PAREN.ensures c.in_err-inner.ensures (closes_off GROUP_CLOSE (halts c.in_err-inner.field-0.0)))
+pub atom-returns-in_err-inner-in-2 : goal.atom-returns-in_err-inner-in-2
+atom-returns-in_err-inner-in-2 t c =
+    let p = err_from_is_err_and c.from_residual-in_err-inner-in-2.result c.from_residual-in_err-inner-in-2.ensures.1 in
+    rw (p.1, p.2) (atom_group c.if-left-eq0.false c.requires.1 refl c.in-2.is c.past-in-2.ensures c.in_err-inner-in-2.ensures (closes_off GROUP_CLOSE (halts c.in_err-inner-in-2.field-0.0)))
 
 pub atom-close-requires : goal.atom-close-requires
 atom-close-requires t c =
-    let room : Room c.args.src.now (going c.past-then-class-eq-OPEN_PAREN.result) = rw c.past-then-class-eq-OPEN_PAREN.ensures (room_passed c.requires.0 refl (omega (arith, c.if-class-eq-OPEN_PAREN.true))) in
-    (room_groups room c.in_ok-inner.ensures).within
+    let room : Room c.args.src.now (going c.past-in-2.result) = rw c.past-in-2.ensures (room_passed c.requires.0 refl (omega (arith, c.in-2.is))) in
+    (room_groups room c.in_ok-inner-in-2.ensures).within
 
-pub atom-returns-then-class-eq-OPEN_PAREN : goal.atom-returns-then-class-eq-OPEN_PAREN
-atom-returns-then-class-eq-OPEN_PAREN t c =
-    atom_group c.if-left-eq0-2.false c.requires.1 refl c.if-class-eq-OPEN_PAREN.true c.past-then-class-eq-OPEN_PAREN.ensures c.in_ok-inner.ensures c.close.ensures
+pub atom-returns-in_ok-inner-in-2 : goal.atom-returns-in_ok-inner-in-2
+atom-returns-in_ok-inner-in-2 t c =
+    atom_group c.if-left-eq0.false c.requires.1 refl c.in-2.is c.past-in-2.ensures c.in_ok-inner-in-2.ensures c.close.ensures
 
-pub atom-returns : goal.atom-returns
-atom-returns t c = atom_leaf c.requires.1 c.leaf.ensures
+pub atom-returns-in_default : goal.atom-returns-in_default
+atom-returns-in_default t c = atom_leaf c.requires.1 c.leaf.ensures
 
 pub level-returns-in_err-s : goal.level-returns-in_err-s
 level-returns-in_err-s t c =

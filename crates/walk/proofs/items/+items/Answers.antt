@@ -107,7 +107,7 @@ loop-s-preserved-then-starts_item t c =
 
 pub returns-in_err-s-3 : goal.returns-in_err-s-3
 returns-in_err-s-3 t c =
-    let left = c.if-left-eq-CONDITIONS.true in
+    let left = c.if-in_form.true in
     let in_form = eqb c.args.left max_conditions in
     let p = err_from_is_err_and c.from_residual-in_err-s-3.result c.from_residual-in_err-s-3.ensures.1 in
     let again = rule_again (eq-eqb _ _ left) left c.if-class-eq-KW_RULE.true c.loop-s.invariant c.rule.auto.table c.in_err-s-3.ensures in
@@ -119,12 +119,12 @@ loop-s-smaller t c = ahead_less refl refl c.in_ok-s-3.ensures
 
 pub loop-s-preserved : goal.loop-s-preserved
 loop-s-preserved t c =
-    let left = c.if-left-eq-CONDITIONS.true in
+    let left = c.if-in_form.true in
     rule_again (eq-eqb _ _ left) left c.if-class-eq-KW_RULE.true c.loop-s.invariant c.rule.auto.table c.in_ok-s-3.ensures
 
-pub returns-else-left-eq-CONDITIONS : goal.returns-else-left-eq-CONDITIONS
-returns-else-left-eq-CONDITIONS t c =
+pub returns-else-in_form : goal.returns-else-in_form
+returns-else-in_form t c =
     let in_form = eqb c.args.left max_conditions in
     let class = c.loop-s.s.token.class in
-    let no_rule = no_rule_here {left = c.args.left} {k = class} (λ q e. omega (arith, c.else-left-eq-CONDITIONS.either, q, e)) in
+    let no_rule = no_rule_here {left = c.args.left} {k = class} (λ q e. omega (arith, c.else-in_form.either, q, e)) in
     c.loop-s.invariant.rest _ _ (λ d o. list_none (items_are in_form).list (items_end in_form class (sym c.is_condition.ensures ∙ c.if-is_condition.false) (sym c.starts_item.ensures ∙ c.if-starts_item.false) no_rule)) _ refl

@@ -8,8 +8,7 @@ use native.Mathlib.Omega.{arith}
 use lib.Dec.{ltb}
 use lib.ListN.{length}
 use borrow.Author.Tests.{lt-ltb, le-ltb, ltb-true, ltb-false}
-use Rattle.lex.specs.declared.Found.{Found}
-use Rattle.lex.specs.declared.Found.TheVariants.{At, Nothing}
+use Rattle.std.specs.Prelude.{Option, Some, None}
 use Rattle.lex.specs.Tokens.{first_bad}
 use Rattle.lexemes.proofs.Lists.{either}
 use Rattle.ll1.specs.Trees.{Trees}
@@ -34,28 +33,28 @@ listed [] none_case some_case = none_case refl
 listed (m ∷ l) none_case some_case = some_case m l refl
 
 -- a bad token allows no derivation
-pub no_derivation_with_bad : (s : List ℕ) (p : ℕ) → first_bad s ≡ At p → (tree : Trees) → Derives (source_tokens s) tree → ⊥
+pub no_derivation_with_bad : (s : List ℕ) (p : ℕ) → first_bad s ≡ Some p → (tree : Trees) → Derives (source_tokens s) tree → ⊥
 no_derivation_with_bad s p e tree d =
     let b : ◌≡◌ {A = ℕ} 0 1 = clash (cc (bad_among_lem s p e, d.reads, no_bad_leaf d.fits refl)) in
     omega arith
 
 module _ (s : List ℕ) where
-  no_bad_lem : (tree : Trees) → Derives (source_tokens s) tree → first_bad s ≡ Nothing
+  no_bad_lem : (tree : Trees) → Derives (source_tokens s) tree → first_bad s ≡ None
   no_bad_lem tree d = by (first_bad s) refl
     where
-      by : (r : Found) → first_bad s ≡ r → r ≡ Nothing
-      by (At p) e = absurd (no_derivation_with_bad s p e tree d)
-      by Nothing e = refl
+      by : (r : Option ℕ) → first_bad s ≡ r → r ≡ None
+      by (Some p) e = absurd (no_derivation_with_bad s p e tree d)
+      by None e = refl
 
   pub checked_1 : LONGEST < length s → checked s ≡ refusal 1 0
   unfolding checked
   checked_1 h = rw (lt-ltb LONGEST (length s) h, checked)
 
-  pub checked_2 : (p : ℕ) → length s ≤ LONGEST → first_bad s ≡ At p → checked s ≡ refusal 2 p
+  pub checked_2 : (p : ℕ) → length s ≤ LONGEST → first_bad s ≡ Some p → checked s ≡ refusal 2 p
   unfolding checked
   checked_2 p h e = rw (le-ltb LONGEST (length s) h, e, checked)
 
-  pub checked_parsed : (v : Verdict) → length s ≤ LONGEST → first_bad s ≡ Nothing → SourceSays (source_tokens s) v → checked s ≡ parsed s v (derivation (source_tokens s))
+  pub checked_parsed : (v : Verdict) → length s ≤ LONGEST → first_bad s ≡ None → SourceSays (source_tokens s) v → checked s ≡ parsed s v (derivation (source_tokens s))
   unfolding checked
   checked_parsed v h e w = rw (le-ltb LONGEST (length s) h, e, verdict_only (source_tokens s) v w, checked)
 
@@ -108,7 +107,7 @@ module _ (s : List ℕ) where
       let low : p ≤ LONGEST = omega (arith, second_within s tree p later g.derives e, g.short) in
       rw (checked_16 s tree p later g e) (stopped 16 p (inr refl) low (λ n. second_word (to_4 g) e)))
 
-  without_bad : {v : Verdict} → length s ≤ LONGEST → first_bad s ≡ Nothing → SourceSays (source_tokens s) v → Decided s (checked s)
+  without_bad : {v : Verdict} → length s ≤ LONGEST → first_bad s ≡ None → SourceSays (source_tokens s) v → Decided s (checked s)
   without_bad h e (is_text a) = with_derivation a.tree (record { short = h; derives = a.derives; depths = a.allowed })
   without_bad h e (is_unfinished starts none_is) =
       let w = is_unfinished starts none_is in
@@ -126,6 +125,6 @@ module _ (s : List ℕ) where
       (λ l. let h = ltb-true LONGEST (length s) l in rw (checked_1 s h) (stopped 1 0 (first_five (omega arith)) (omega arith) (λ n. source_too_long h)))
       (λ l. short (ltb-false LONGEST (length s) l) (first_bad s) refl)
     where
-      short : length s ≤ LONGEST → (r : Found) → first_bad s ≡ r → Decided s (checked s)
-      short h (At p) e = rw (checked_2 s p h e) (stopped 2 p (first_five (omega arith)) (omega (arith, bad_within s p e)) (λ n. bad_token h e))
-      short h Nothing e = without_bad h e (verdict_right (source_tokens s))
+      short : length s ≤ LONGEST → (r : Option ℕ) → first_bad s ≡ r → Decided s (checked s)
+      short h (Some p) e = rw (checked_2 s p h e) (stopped 2 p (first_five (omega arith)) (omega (arith, bad_within s p e)) (λ n. bad_token h e))
+      short h None e = without_bad h e (verdict_right (source_tokens s))

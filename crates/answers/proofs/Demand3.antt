@@ -7,7 +7,7 @@ use mathlib.Core.List.{List, flatten}
 use mathlib.Core.Logic.{◌↔◌, ◌≢◌}
 use lib.ListN.{length, drop, replicate}
 use lib.Seq.{drop_at}
-use Rattle.lex.specs.declared.Found.TheVariants.{At}
+use Rattle.std.specs.Prelude.{Some}
 use Rattle.lex.specs.Tokens.{first_bad}
 use Rattle.numbers.specs.Numbers.{numbered, free_count}
 use Rattle.numbers.proofs.Numbering.{numbering}
@@ -41,7 +41,7 @@ module _ (s : List ℕ) where
   one_derivation_of_source = one_derivation (source_tokens s)
 
   -- "a bad token allows none"
-  pub no_derivation_with_bad : (p : ℕ) → first_bad s ≡ At p → (tree : Trees) → Derives (source_tokens s) tree → ⊥
+  pub no_derivation_with_bad : (p : ℕ) → first_bad s ≡ Some p → (tree : Trees) → Derives (source_tokens s) tree → ⊥
   no_derivation_with_bad = Checks.no_derivation_with_bad s
 
   -- a source has no more rows than bytes

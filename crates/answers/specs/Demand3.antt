@@ -1,7 +1,6 @@
 -- Demand 3 in the terms of document 01, and of document 02's W-202 to W-204: what a source must be for reading to accept it, and what it is where reading
 -- refuses it. "Written without our reader": no parser is named here, nor in what this imports. Assumes nothing.
-use Rattle.std.specs.Prelude.{ℕ, zero, suc, ◌/◌, ◌≤◌, ◌<◌, ◌≡◌, true, false, not, cond, ◌&&◌, ◌≢◌, ◌⊎◌, List, [], ◌∷◌, ltb, length, get_or, take}
-use Rattle.lex.specs.declared.Found.TheVariants.{At, Nothing}
+use Rattle.std.specs.Prelude.{ℕ, zero, suc, ◌/◌, ◌≤◌, ◌<◌, ◌≡◌, true, false, not, cond, ◌&&◌, ◌≢◌, ◌⊎◌, List, [], ◌∷◌, ltb, length, get_or, take, Some, None}
 use Rattle.lex.specs.Tokens.{first_bad}
 use Rattle.numbers.specs.Numbers.{mem, unwritten}
 use Rattle.circles.specs.Circles.{Circular, NoCircle}
@@ -88,12 +87,12 @@ pub data Refuses (s : List ℕ) (n : ℕ) : Answer → Type 0 where
   -- 1 | source over 65,536 bytes | 0
   source_too_long : LONGEST < length s → Refuses s n (refuses 1 0)
   -- 2 | bad token | its first byte
-  bad_token : {p : ℕ} → length s ≤ LONGEST → first_bad s ≡ At p → Refuses s n (refuses 2 p)
+  bad_token : {p : ℕ} → length s ≤ LONGEST → first_bad s ≡ Some p → Refuses s n (refuses 2 p)
   -- 3 | depths aside, no text of the grammar starts with the tokens up to this one, or the source ends early | token, or source length
-  no_text_starts_so : {p : ℕ} → length s ≤ LONGEST → first_bad s ≡ Nothing → SourceSays (source_tokens s) (refused 3 p) → Refuses s n (refuses 3 p)
-  source_ends_early : length s ≤ LONGEST → first_bad s ≡ Nothing → SourceSays (source_tokens s) ends_early → Refuses s n (refuses 3 (length s))
+  no_text_starts_so : {p : ℕ} → length s ≤ LONGEST → first_bad s ≡ None → SourceSays (source_tokens s) (refused 3 p) → Refuses s n (refuses 3 p)
+  source_ends_early : length s ≤ LONGEST → first_bad s ≡ None → SourceSays (source_tokens s) ends_early → Refuses s n (refuses 3 (length s))
   -- 4 | a token that passes 3 opens a depth too many (same stage as 3) | that token
-  opens_too_many : {p : ℕ} → length s ≤ LONGEST → first_bad s ≡ Nothing → SourceSays (source_tokens s) (refused 4 p) → Refuses s n (refuses 4 p)
+  opens_too_many : {p : ℕ} → length s ≤ LONGEST → first_bad s ≡ None → SourceSays (source_tokens s) (refused 4 p) → Refuses s n (refuses 4 p)
   -- 16 | "a second size or display word in one numeric, even the same, between stages 4 and 5" (W-204) | "at that word"
   second_word : {tree : Trees} {p : ℕ} {ps : List ℕ} → Passes s n tree 4 → second_words tree ≡ p ∷ ps → Refuses s n (refuses 16 p)
   -- 5 | number outside its place: ..; "also for a number over its size" (W-204) | number

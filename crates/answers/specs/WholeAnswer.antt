@@ -1,9 +1,8 @@
 -- The whole answer of reading and of the quick check, for every source and every table lent (document 01, Refusal numbers; document 02,
 -- W-204).
 -- Assumes nothing.
-use Rattle.std.specs.Prelude.{ℕ, ◌+◌, ◌*◌, ◌/◌, ◌^◌, true, false, cond, List, [], ◌∷◌, eqb, ltb, length, replicate}
+use Rattle.std.specs.Prelude.{ℕ, ◌+◌, ◌*◌, ◌/◌, ◌^◌, true, false, cond, List, [], ◌∷◌, eqb, ltb, length, replicate, Some, None}
 use Rattle.std.proofs.Math.Option.{Option, none, some}
-use Rattle.lex.specs.declared.Found.TheVariants.{At, Nothing}
 use Rattle.lex.specs.Tokens.{first_bad}
 use Rattle.rows.specs.Columns.{ROW}
 use Rattle.rows.specs.Rows.{laid}
@@ -44,8 +43,8 @@ checked s =
       | true ↦ refusal 1 0
       | false ↦
           elim (first_bad s) [
-            | At p ↦ refusal 2 p
-            | Nothing ↦
+            | Some p ↦ refusal 2 p
+            | None ↦
                 parsed s (verdict (source_tokens s)) (derivation (source_tokens s))
           ]
     ]

@@ -6,6 +6,7 @@ ghost use Rattle.answers.specs.Drafts.{drafts_from};
 ghost use Rattle.answers.specs.Stages.{draft_rows};
 ghost use Rattle.circles.specs.Circles.{circular_in};
 ghost use Rattle.drafts.specs.Faults.{draft_at};
+ghost use Rattle.rows.specs.Marks.{marked};
 ghost use Rattle.circle_stage.specs.Circular.{mark_if, circle_fault, first_by};
 
 use circles::{circular, close};
@@ -15,40 +16,33 @@ use rows::cell;
 use rows::columns::A;
 use rule_steps::{add_steps, rule_round};
 
-// The mark of the name in a row that is, by a closed map, a step on a circle; or 0.
-fn mark_in(table: &[u64], count: usize, row: usize, map: &Map) -> u64
-    ensures { result ≡ mark_if (circular_in map.now) (draft_rows (drafts_from table.now 0 count)) (draft_at table.now row) }
+// The place of the name in a row that is, by a closed map, a step on a circle.
+fn place_in(table: &[u64], count: usize, row: usize, map: &Map) -> Option<usize>
+    ensures { marked result ≡ mark_if (circular_in map.now) (draft_rows (drafts_from table.now 0 count)) (draft_at table.now row) }
 {
     if circular(map, rule_round(table, count, row), cell(table, row, A)) {
-        return own_mark(table, row);
+        own_mark(table, row)
+    } else {
+        None
     }
-    0
 }
 
 // The first of them.
-fn first_mark(table: &[u64], count: usize, map: &Map) -> u64
-    ensures { result ≡ first_by (mark_if (circular_in map.now)) (drafts_from table.now 0 count) }
+fn first_place(table: &[u64], count: usize, map: &Map) -> Option<usize>
+    ensures { marked result ≡ first_by (mark_if (circular_in map.now)) (drafts_from table.now 0 count) }
 {
-    let mut row = 0;
-    while row < count {
-        let mark = mark_in(table, count, row, map);
-        if mark != 0 {
-            return mark;
-        }
-        row += 1;
-    }
-    0
+    (0..count).find_map(|row| place_in(table, count, row, map))
 }
 
-// 14: the mark of the name in the first ruleref, inside a rule, that is a step on a circle; or 0.
-pub fn circular_reference(table: &[u64], count: usize) -> u64
-    ensures { result ≡ first_by circle_fault (drafts_from table.now 0 count) }
+// 14: the place of the name in the first ruleref, inside a rule, that is a step on a circle.
+pub fn circular_reference(table: &[u64], count: usize) -> Option<usize>
+    ensures { marked result ≡ first_by circle_fault (drafts_from table.now 0 count) }
 {
     let mut map = numbers::empty();
     let last = add_steps(table, count, &mut map);
     if last == 0 {
-        return 0;
+        return None;
     }
     close(&mut map, last);
-    first_mark(table, count, &map)
+    first_place(table, count, &map)
 }

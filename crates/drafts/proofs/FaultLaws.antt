@@ -1,10 +1,20 @@
 -- The loops over rows that look for a fault, or for any row that passes a test.
-use Prim.Native.Nat.{ℕ, ◌+◌, ◌-◌, ◌≤◌, ◌<◌}
-use mathlib.Core.Path.{◌≡◌, refl, sym, ap, ◌∙◌}
+use Prim.Native.Nat.{ℕ, zero, suc, ◌+◌, ◌-◌, ◌≤◌, ◌<◌}
+use mathlib.Core.Path.{◌≡◌, refl, sym, ap, subst, ◌∙◌}
 use mathlib.Core.Bool.{Bool, true, false, ◌||◌}
 use mathlib.Core.List.{List, [], ◌∷◌}
+use Rattle.std.proofs.Common.{add-one}
 use native.Mathlib.Omega.{arith}
 use borrow.Author.Tests.{eq-eqb, ne_eqb}
+use denote.Param.Members.{Mut, Called}
+use Rattle.std.specs.Prelude.{Option, Some, None, IsTrue, IfSome, IsSomeAnd, MatchOption}
+use Rattle.std.specs.Option.{option_map}
+use Rattle.std.specs.Iterator.Runs.{SomeRun, AllItemsGive, IsFirstToGive, CallKeepsClosure}
+use Rattle.std.specs.declared.ops.Range.{Range}
+use Rattle.std.proofs.iter.Yields.{nat_range_steps}
+use Rattle.std.proofs.iter.runs.Sources.{range_runs}
+use Rattle.std.proofs.lemmas.Option.{none-some, same_Some}
+use Rattle.rows.specs.Marks.{marked}
 use Rattle.answers.specs.Rows.{Draft}
 use Rattle.answers.specs.Stages.{any}
 use Rattle.answers.specs.Drafts.{drafts_from}
@@ -53,6 +63,61 @@ module _ {fault : Draft → List Draft → ℕ} {t : List ℕ} {n i : ℕ} (v : 
 
   pub searching_end : n ≤ i → 0 ≡ first_fault fault (drafts_from t 0 n)
   searching_end h = sym (v.same ∙ ap (first_fault fault) (drafts_end t i n h) ∙ fault_none fault)
+
+-- ---- what `(0..n).find_map(..)` finds: the first of the closure's answers, where no call changes the closure
+
+-- what holds of the row that a run comes to at a place
+row_given : (o : Option ℕ) {k : ℕ} (P : ℕ → Type 0) → option_map (λ y. y) o ≡ Some k → IfSome o P → P k
+row_given None P e h = absurd (none-some _ e)
+row_given (Some x) P e h = subst P (same_Some _ _ e) h
+
+row_found : (o : Option ℕ) {k : ℕ} (P : ℕ → Type 0) → option_map (λ y. y) o ≡ Some k → IsSomeAnd o P → P k
+row_found None P e h = absurd h
+row_found (Some x) P e h = subst P (same_Some _ _ e) h
+
+module _ {F : Type 0} (g : Mut F (ℕ × Unit {0}) (Option ℕ)) (f : F) where
+  abbrev pub Answers : ℕ → Option ℕ → Type 0
+  Answers row m = Called g f (row, tt) m f
+
+  abbrev pub FirstAnswer : ℕ → Option ℕ → Type 0
+  FirstAnswer n r = MatchOption r ((row : ℕ) → row < n → Answers row None) (λ m. (i : ℕ) × (i < n) × Answers i (Some m) × ((row : ℕ) → row < i → Answers row None))
+
+module _ {F : Type 0} {g : Mut F (ℕ × Unit {0}) (Option ℕ)} {f : F} (still : CallKeepsClosure g f) (n : ℕ) where
+  pub first_answer : (r : Option ℕ)
+      → SomeRun nat_range_steps (record { start = 0; end = n })
+      (λ p. MatchOption r (IsTrue p.whole × AllItemsGive p g f None) (λ y. (i : ℕ) × (i < p.len) × (p.len ≡ i + 1) × IsFirstToGive p g f (Some y) None i))
+      → FirstAnswer g f n r
+  first_answer None (p, e, h) =
+      let counts = range_runs p p.seen in
+      let from : p.from.start ≡ 0 = ap (λ (s : Range ℕ). s.start) e in
+      let end : p.from.end ≡ n = ap (λ (s : Range ℕ). s.end) e in
+      let at : (k : ℕ) → k < n → option_map (λ y. y) (p.at k) ≡ Some k = λ k l. counts.3 k (omega (arith, counts.1 h.0)) ∙ ap Some (omega arith) in
+      λ k l. row_given _ (λ x. Answers g f x None) (at k l) (h.1 still k)
+  first_answer (Some m) (p, e, (i, inside, long, h)) =
+      let counts = range_runs p p.seen in
+      let from : p.from.start ≡ 0 = ap (λ (s : Range ℕ). s.start) e in
+      let end : p.from.end ≡ n = ap (λ (s : Range ℕ). s.end) e in
+      let found = h still in
+      let at : (k : ℕ) → k ≤ i → option_map (λ y. y) (p.at k) ≡ Some k = λ k l. counts.3 k (omega arith) ∙ ap Some (omega arith) in (
+        i,
+        omega (arith, counts.0),
+        row_found _ (λ x. Answers g f x (Some m)) (at i (omega arith)) found.0,
+        λ k l. row_found _ (λ x. Answers g f x None) (at k (omega arith)) (found.1 k l),
+      )
+
+-- where the closure answers the fault of each row, that is the first fault
+module _ {F : Type 0} {g : Mut F (ℕ × Unit {0}) (Option ℕ)} {f : F} (fault : Draft → List Draft → ℕ) (t : List ℕ) (n : ℕ)
+    (told : (row : ℕ) (m : Option ℕ) → row < n → Answers g f row m → marked m ≡ fault (draft_at t row) (drafts_from t (row + 1) (n - (row + 1)))) where
+  -- the rows before row i have none
+  passed : (i : ℕ) → i ≤ n → ((row : ℕ) → row < i → Answers g f row None) → Searching fault t n i
+  passed zero l h = searching_start fault t n
+  passed (suc i) l h =
+      let before = passed i (omega arith) (λ k q. h k (omega arith)) in
+      rw (← add-one) (searching_next before (omega arith) (told i None (omega arith) (h i (omega arith))) refl)
+
+  pub first_found : (r : Option ℕ) → FirstAnswer g f n r → marked r ≡ first_fault fault (drafts_from t 0 n)
+  first_found None all = searching_end (passed n (omega arith) all) (omega arith)
+  first_found (Some m) (i, inside, here, before) = searching_found (passed i (omega arith) before) inside (told i (Some m) inside here) (λ z. omega arith)
 
 -- ---- any row that passes a test: some row from f to below n does exactly where one from i on does
 

@@ -8,7 +8,6 @@ ghost use Rattle.elements.specs.Kinds.{numbers, flag_classes, numeric_classes, s
 
 use lex::Token;
 use lexemes::classes::*;
-use values::Value;
 
 // A number of 1 to 65,535: of a form, a goto, a written question or a questionref.
 pub const ID: u8 = 128;
@@ -102,11 +101,7 @@ pub fn suits(want: u8, class: u8) -> bool
 fn is_between(src: &[u8], at: usize, low: u64, high: u64) -> bool
     ensures { result ≡ within low high (value_at src.now at) }
 {
-    let v = values::value_at(src, at);
-    match v {
-        Value::Fits(n) => (low <= n) & (n <= high),
-        Value::TooLarge => false,
-    }
+    values::value_at(src, at).is_some_and(|n| low <= n && n <= high)
 }
 
 // A word stands in the number's place, or the number lies between two others.

@@ -8,7 +8,7 @@ use mathlib.Core.Logic.{◌≢◌}
 use native.Mathlib.Omega.{arith}
 use borrow.Author.Tests.{ne_eqb}
 use mathlib.Core.List.{List}
-use Rattle.values.specs.declared.Value.{Value}
+use Rattle.std.specs.Prelude.{Option, Some, None, unwrap_or}
 use Rattle.values.specs.Numbers.{value_at}
 use Rattle.grammar.specs.Source.{held_value, number_at}
 use Rattle.answers.specs.Rows.{ABSENT_STEP}
@@ -33,10 +33,15 @@ module _ (number_at_lem : ℕ → ℕ) where
   unfolding marked_step
   step_there m h = rw (ne_eqb m 0 h)
 
+-- the value that is held is the value, or 0 where there is none
+held_or : (v : Option ℕ) → unwrap_or v 0 ≡ held_value v
+held_or (Some n) = refl
+held_or None = refl
+
 -- the value that was read at a mark
-pub value_there : (s : List ℕ) (m : ℕ) (v w : Value) → m ≢ 0 → v ≡ value_at s (m - 1) → v ≡ w → held_value w ≡ marked_value (number_at s) m
+pub value_there : (s : List ℕ) (m : ℕ) (v : Option ℕ) → m ≢ 0 → v ≡ value_at s (m - 1) → unwrap_or v 0 ≡ marked_value (number_at s) m
 unfolding number_at
-value_there s m v w h e f = ap held_value (sym f ∙ e) ∙ sym (value_some (number_at s) m h)
+value_there s m v h e = held_or v ∙ ap held_value e ∙ sym (value_some (number_at s) m h)
 
 pub set_le : (entry bit : ℕ) → set_if entry bit ≤ bit
 unfolding set_if

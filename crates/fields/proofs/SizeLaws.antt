@@ -7,7 +7,7 @@ use mathlib.Core.Bool.{Bool, true, false, not}
 use mathlib.Core.List.{List}
 use native.Mathlib.Omega.{arith}
 use borrow.Author.Tests.{eq-eqb, ne_eqb}
-use Rattle.values.specs.declared.Value.{Value}
+use Rattle.std.specs.Prelude.{Option}
 use Rattle.values.specs.Numbers.{value_at}
 use Rattle.sizes.specs.Sizes.{width}
 use Rattle.grammar.specs.Ranges.{bytes, fits_bytes, keeps}
@@ -36,9 +36,9 @@ module _ (s : List ℕ) (size : ℕ) where
   some_oversized (suc p) h = ap (λ q. not (keeps s (bytes (width size)) q)) (omega arith)
 
   -- the value that was read at a mark
-  pub there_oversized : (m : ℕ) (v w : Value) → m ≢ 0 → v ≡ value_at s (m - 1) → v ≡ w → not (fits_bytes (width size) w) ≡ oversized s size m
+  pub there_oversized : (m : ℕ) (v : Option ℕ) → m ≢ 0 → v ≡ value_at s (m - 1) → oversized s size m ≡ not (fits_bytes (width size) v)
   unfolding keeps
-  there_oversized m v w h e f = ap (λ x. not (fits_bytes (width size) x)) (sym f ∙ e) ∙ sym (some_oversized m h)
+  there_oversized m v h e = some_oversized m h ∙ ap (λ x. not (fits_bytes (width size) x)) (sym e)
 
 -- ---- the first of four, where n is the size and display that the code has in hand
 

@@ -7,7 +7,6 @@ ghost use Rattle.fields.specs.Sizes.{size_entry, oversized, first_oversized};
 use crate::parts::value;
 use elements::KEPT;
 use rows::displays::UNSIGNED_8;
-use values::Value;
 
 // What an absent step is.
 const ABSENT_STEP: u64 = 1;
@@ -38,11 +37,7 @@ fn is_oversized(src: &[u8], size: u64, mark: u64) -> bool
     if mark == 0 {
         return false;
     }
-    let v = values::value_at(src, (mark - 1) as usize);
-    match v {
-        Value::Fits(n) => !sizes::fits(size, n),
-        Value::TooLarge => true,
-    }
+    !values::value_at(src, (mark - 1) as usize).is_some_and(|n| sizes::fits(size, n))
 }
 
 // Of a numeric, the mark of the first of minimum, maximum, step and default that does not fit its size, or 0.

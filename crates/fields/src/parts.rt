@@ -7,7 +7,6 @@ ghost use Rattle.fields.specs.Phrases.{marked_value, set_if};
 
 use rows::columns::{CODE, FIRST, FLAGS, PARENT, PLACE, ROW, SECOND};
 use rows::draft::with_mark;
-use values::Value;
 
 // The value of the number at a mark, 0 where there is none or it does not fit.
 pub fn value(src: &[u8], mark: u64) -> u64
@@ -16,11 +15,7 @@ pub fn value(src: &[u8], mark: u64) -> u64
     if mark == 0 {
         return 0;
     }
-    let v = values::value_at(src, (mark - 1) as usize);
-    match v {
-        Value::Fits(n) => n,
-        Value::TooLarge => 0,
-    }
+    values::value_at(src, (mark - 1) as usize).unwrap_or(0)
 }
 
 // A row of no more than its code, parent and place.

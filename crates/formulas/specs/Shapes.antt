@@ -1,9 +1,8 @@
 -- The words of a resolved text, trees over them ("shapes"), and what it means that a text reads as they say.
 -- Assumes nothing.
-use Rattle.std.specs.Prelude.{◌≡◌, List, [], ◌∷◌, ◌++◌, map, ℕ, zero, suc, ◌^◌, ◌<◌, ◌≤◌, get_or, drop}
+use Rattle.std.specs.Prelude.{◌≡◌, List, [], ◌∷◌, ◌++◌, map, ℕ, zero, suc, ◌^◌, ◌<◌, ◌≤◌, get_or, drop, Some}
 use Rattle.lexemes.specs.Classes.{NAME, HEX, DECIMAL}
 use Rattle.lexemes.specs.Lexemes.{bytes, lexemes}
-use Rattle.values.specs.declared.Value.TheVariants.{Fits as FitsWord}
 use Rattle.values.specs.Numbers.{value_at, digits_at}
 use Rattle.lexemes.specs.Words as words
 use Rattle.ll1.specs.Trees.{Token, token, Trees, nil, leaf, node}
@@ -71,9 +70,9 @@ spelling x = map word (lexed x)
 -- at the place p of the text t stands the word, of class k
 pub data Read (t : List ℕ) : (k p : ℕ) → Lexed → Type 0 where
   read_sign : {k p : ℕ} → Read t k p (sign k)
-  read_decimal : {p v : ℕ} → value_at t p ≡ FitsWord v → Read t DECIMAL p (decimal v)
-  read_rule : {p n : ℕ} → value_at t p ≡ FitsWord n → words.word (drop p t) ≡ rule_word n → Read t NAME p (rule_name n)
-  read_hex : {p w v : ℕ} → value_at t p ≡ FitsWord v → digits_at t p ≡ w → Read t HEX p (hex w v)
+  read_decimal : {p v : ℕ} → value_at t p ≡ Some v → Read t DECIMAL p (decimal v)
+  read_rule : {p n : ℕ} → value_at t p ≡ Some n → words.word (drop p t) ≡ rule_word n → Read t NAME p (rule_name n)
+  read_hex : {p w v : ℕ} → value_at t p ≡ Some v → digits_at t p ≡ w → Read t HEX p (hex w v)
 
 -- the tokens are these words
 pub data Reads (t : List ℕ) : List Token → List Lexed → Type 0 where

@@ -1,8 +1,7 @@
 -- The tree of an expression's text, as a shape; and the expressions of a text that have the values of a formula.
 -- Assumes nothing.
-use Rattle.std.specs.Prelude.{◌≡◌, List, Bool, true, false, ℕ, zero, suc, eqb, leb, drop}
+use Rattle.std.specs.Prelude.{◌≡◌, List, Bool, true, false, ℕ, zero, suc, eqb, leb, drop, Some}
 use Rattle.lexemes.specs.Classes as class
-use Rattle.values.specs.declared.Value.TheVariants.{Fits as FitsWord}
 use Rattle.values.specs.Numbers.{value_at}
 use Rattle.lexemes.specs.Words as words
 use Rattle.grammar.specs.Rules.{<atom>, <large>, <id>, <name_or_number>}
@@ -65,9 +64,9 @@ abbrev mutual
 -- ---- an expression of the text t has these values
 
 pub data Rel (t : List ℕ) : Expression → Formula → Type 0 where
-  rel_number : {p v : ℕ} → value_at t p ≡ FitsWord v → Rel t (number p) (f_number v)
+  rel_number : {p v : ℕ} → value_at t p ≡ Some v → Rel t (number p) (f_number v)
   rel_constant : {c : Constant} {p : ℕ} → Rel t (constant c p) (f_constant c)
-  rel_question : {p q v : ℕ} → value_at t q ≡ FitsWord v → Rel t (question_numbered p q) (f_question v)
-  rel_rule : {p q n : ℕ} → value_at t q ≡ FitsWord n → words.word (drop q t) ≡ rule_word n → Rel t (rule_named p q) (f_rule n)
+  rel_question : {p q v : ℕ} → value_at t q ≡ Some v → Rel t (question_numbered p q) (f_question v)
+  rel_rule : {p q n : ℕ} → value_at t q ≡ Some n → words.word (drop q t) ≡ rule_word n → Rel t (rule_named p q) (f_rule n)
   rel_not : {p : ℕ} {e : Expression} {x : Formula} → Rel t e x → Rel t (negation p e) (f_not x)
   rel_binary : {o : Operator} {p : ℕ} {l r : Expression} {x y : Formula} → Rel t l x → Rel t r y → Rel t (binary o p l r) (f_binary o x y)

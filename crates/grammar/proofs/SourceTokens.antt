@@ -9,7 +9,7 @@ use lib.Dec.{eqb, ltb}
 use lib.ListN.{length}
 use borrow.Author.Tests.{eqb-true, eqb-false, ltb-true, ltb-false, ne_eqb}
 use Rattle.lex.specs.declared.Token as lex
-use Rattle.lex.specs.declared.Found.TheVariants.{At}
+use Rattle.std.specs.Prelude.{Some}
 use Rattle.lexemes.specs.Classes.{BAD, END}
 use Rattle.lex.specs.Tokens.{token_at, tokens_from, tokens, bad_among, first_bad}
 use Rattle.lexemes.proofs.Lists.{either}
@@ -71,7 +71,7 @@ module _ (t : lex.Token) (ts : List lex.Token) where
   unfolding bad_among
   not_bad h = rw (ne_eqb t.class BAD h)
 
-  is_bad_lem : t.class ≡ BAD → bad_among (t ∷ ts) ≡ At t.start
+  is_bad_lem : t.class ≡ BAD → bad_among (t ∷ ts) ≡ Some t.start
   unfolding bad_among
   is_bad_lem e = rw e
 
@@ -118,7 +118,7 @@ abbrev pub has_bad : List Token → Bool
 has_bad [] = false
 has_bad (token k p ∷ ts) = eqb k BAD || has_bad ts
 
-bad_from : {bytes at p : ℕ} {ts : List lex.Token} → Scanned bytes at ts → bad_among ts ≡ At p → (has_bad (grammar_tokens ts) ≡ true) × (p < bytes)
+bad_from : {bytes at p : ℕ} {ts : List lex.Token} → Scanned bytes at ts → bad_among ts ≡ Some p → (has_bad (grammar_tokens ts) ≡ true) × (p < bytes)
 unfolding grammar_tokens bad_among
 bad_from (end {t = t} e) h = clash (cc (not_bad t [] (λ b. omega arith)))
 bad_from {bytes} {at} {p} (bad {t = t} e l q) h = let same : t.start ≡ p = cc (is_bad_lem t [] e) in (rw (takes t [] (omega arith), e), omega arith)
@@ -126,10 +126,10 @@ bad_from (next {t = t} {ts = ts} k l q r more) h =
     let rest = bad_from more (sym (not_bad t ts (λ b. omega arith)) ∙ h) in
     (rw (takes t ts (omega arith), rest.0) (or-true (eqb t.class BAD)), rest.1)
 
-pub bad_among_lem : (s : List ℕ) (p : ℕ) → first_bad s ≡ At p → has_bad (source_tokens s) ≡ true
+pub bad_among_lem : (s : List ℕ) (p : ℕ) → first_bad s ≡ Some p → has_bad (source_tokens s) ≡ true
 unfolding source_tokens first_bad
 bad_among_lem s p h = (bad_from (scanned s) h).0
 
-pub bad_within : (s : List ℕ) (p : ℕ) → first_bad s ≡ At p → p < length s
+pub bad_within : (s : List ℕ) (p : ℕ) → first_bad s ≡ Some p → p < length s
 unfolding first_bad
 bad_within s p h = (bad_from (scanned s) h).1

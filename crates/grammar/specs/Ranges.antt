@@ -1,9 +1,7 @@
 -- Numbers outside their place (document 01, refusal 5), of a numeric those over its size too (document 02, W-204); and second size or display
 -- words (W-204, refusal 16).
 -- Assumes nothing.
-use Rattle.std.specs.Prelude.{ℕ, Bool, true, false, cond, ◌&&◌, List, [], ◌∷◌, ◌++◌, eqb, leb}
-use Rattle.values.specs.declared.Value.{Value}
-use Rattle.values.specs.declared.Value.TheVariants.{Fits, TooLarge}
+use Rattle.std.specs.Prelude.{ℕ, Bool, true, false, cond, ◌&&◌, List, [], ◌∷◌, ◌++◌, eqb, leb, Option, Some, None}
 use Rattle.values.specs.Numbers.{value_at, digits_at}
 use Rattle.ll1.specs.Trees.{Trees, nil, leaf, node}
 use Rattle.sizes.specs.Sizes.{fits}
@@ -55,14 +53,14 @@ unfolding ranges
 range_of A = range_among ranges A
 
 -- a value from the first to the second number, both of 64 bits
-abbrev pub within : ℕ → ℕ → Value → Bool
-within low high (Fits v) = leb low v && leb v high
-within low high TooLarge = false
+abbrev pub within : ℕ → ℕ → Option ℕ → Bool
+within low high (Some v) = leb low v && leb v high
+within low high None = false
 
 -- a value of 64 bits that fits so many bytes
-abbrev pub fits_bytes : ℕ → Value → Bool
-fits_bytes w (Fits v) = fits w v
-fits_bytes w TooLarge = false
+abbrev pub fits_bytes : ℕ → Option ℕ → Bool
+fits_bytes w (Some v) = fits w v
+fits_bytes w None = false
 
 -- what stands in the nodes of trees, from left to right: each node's own after what stands under it
 module _ {X : Type 0} (own : ℕ → ℕ → Trees → List X) where

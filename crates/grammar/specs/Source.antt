@@ -1,10 +1,8 @@
 -- What a source has at a place, and its tokens as the grammar takes them (document 01, Tokens and Grammar).
 -- Assumes nothing.
-use Rattle.std.specs.Prelude.{ℕ, cond, List, [], ◌∷◌, eqb}
+use Rattle.std.specs.Prelude.{ℕ, cond, List, [], ◌∷◌, eqb, Option, Some, None}
 use Rattle.lex.specs.declared.Token as lex
 use Rattle.lexemes.specs.Classes.{END}
-use Rattle.values.specs.declared.Value.{Value}
-use Rattle.values.specs.declared.Value.TheVariants.{Fits, TooLarge}
 use Rattle.values.specs.Numbers.{value_at}
 use Rattle.lex.specs.Tokens.{tokens}
 use Rattle.ll1.specs.Trees.{Token, token}
@@ -19,9 +17,9 @@ unfoldable pub source_tokens : List ℕ → List Token
 source_tokens s = grammar_tokens (tokens s)
 
 -- a number's value as a row holds it; one of 2^64 or more, which refusal 5 shuts out, counts as 0
-abbrev pub held_value : Value → ℕ
-held_value (Fits v) = v
-held_value TooLarge = 0
+abbrev pub held_value : Option ℕ → ℕ
+held_value (Some v) = v
+held_value None = 0
 
 -- the value of the number that starts at a place
 unfoldable pub number_at : List ℕ → ℕ → ℕ

@@ -12,7 +12,7 @@ use lib.Dec.{eqb, ltb}
 use lib.ListN.{length, drop, length-drop}
 use lib.Seq.{drop-drop}
 use borrow.Author.Tests.{eqb-true, eqb-false, eq-eqb, ne_eqb, lt-ltb, le-ltb, ltb-true}
-use Rattle.lex.specs.declared.Found.TheVariants.{At, Nothing}
+use Rattle.std.specs.Prelude.{Some, None}
 use Rattle.lex.specs.declared.Token.{Token}
 use Rattle.lexemes.specs.Classes.{BAD, END}
 use Rattle.lex.specs.Tokens.{gap, token_from, token_after_gap, token_at, tokens_within, tokens_from, tokens, bad_among, first_bad}
@@ -70,11 +70,11 @@ module _ (s : List ℕ) (at : ℕ) (inside : at ≤ length s) where
       (λ e. rw (from_step, e))
 
   -- the place of the first bad token from here on
-  pub bad_here : t.class ≡ BAD → bad_among (tokens_from s at) ≡ At t.start
+  pub bad_here : t.class ≡ BAD → bad_among (tokens_from s at) ≡ Some t.start
   unfolding bad_among
   bad_here h = rw (tokens_unfold, eq-eqb t.class BAD h)
 
-  pub bad_none : t.class ≡ END → bad_among (tokens_from s at) ≡ Nothing
+  pub bad_none : t.class ≡ END → bad_among (tokens_from s at) ≡ None
   unfolding bad_among
   bad_none h = rw (tokens_unfold, h)
 
@@ -113,12 +113,12 @@ module _ (s : List ℕ) where
 -- ---- the first bad token among any
 
 -- where there is none, no token is bad
-pub none_bad : (ts : List Token) → bad_among ts ≡ Nothing → (t : Token) → Memᴰ t ts → t.class ≡ BAD → ⊥
+pub none_bad : (ts : List Token) → bad_among ts ≡ None → (t : Token) → Memᴰ t ts → t.class ≡ BAD → ⊥
 unfolding bad_among
 none_bad [] e t m h = Memᴰ.not-nil m
 none_bad (u ∷ ts) e t m h =
     either (eqb u.class BAD)
-    (λ b. let found : At u.start ≡ Nothing = rw b at e in let never : ◌≡◌ {A = ℕ} 0 1 = cc in omega arith)
+    (λ b. let found : Some u.start ≡ None = rw b at e in let never : ◌≡◌ {A = ℕ} 0 1 = cc in omega arith)
     (λ b.
     ⊎_elim
     (λ is_u. eqb-false u.class BAD b (sym (ap (λ (t : Token). t.class) is_u) ∙ h))
@@ -126,10 +126,10 @@ none_bad (u ∷ ts) e t m h =
     (Memᴰ.cases_cons m))
 
 -- where there is one, it stands among the tokens
-pub some_bad : (ts : List Token) (p : ℕ) → bad_among ts ≡ At p → (t : Token) × Memᴰ t ts × (t.class ≡ BAD) × (t.start ≡ p)
+pub some_bad : (ts : List Token) (p : ℕ) → bad_among ts ≡ Some p → (t : Token) × Memᴰ t ts × (t.class ≡ BAD) × (t.start ≡ p)
 unfolding bad_among
 some_bad [] p e = absurd (let never : ◌≡◌ {A = ℕ} 0 1 = cc in omega arith)
 some_bad (u ∷ ts) p e =
     either (eqb u.class BAD)
-    (λ b. let found : At u.start ≡ At p = rw b at e in (u, Memᴰ.head refl, eqb-true u.class BAD b, cc))
+    (λ b. let found : Some u.start ≡ Some p = rw b at e in (u, Memᴰ.head refl, eqb-true u.class BAD b, cc))
     (λ b. let later = some_bad ts p (rw b at e) in (later.0, Memᴰ.tail later.1, later.2, later.3))

@@ -1,9 +1,7 @@
 -- The token at a place of a source, and all of a source's tokens (document 01, Tokens).
 -- Assumes nothing.
-use Rattle.std.specs.Prelude.{ℕ, zero, suc, ◌+◌, ◌-◌, Bool, false, not, cond, ◌&&◌, ◌||◌, List, [], ◌∷◌, eqb, ltb, length, get_or, take, drop}
+use Rattle.std.specs.Prelude.{ℕ, zero, suc, ◌+◌, ◌-◌, Bool, false, not, cond, ◌&&◌, ◌||◌, List, [], ◌∷◌, eqb, ltb, length, get_or, take, drop, Option, Some, None}
 use Rattle.lex.specs.declared.Token.{Token}
-use Rattle.lex.specs.declared.Found.{Found}
-use Rattle.lex.specs.declared.Found.TheVariants.{At, Nothing}
 use Rattle.lexemes.specs.Bytes.{is_blank, is_digit, is_word_byte}
 use Rattle.lexemes.specs.Lexemes.{signs, reserved}
 use Rattle.lexemes.specs.Words.{all, place_among, word}
@@ -97,9 +95,9 @@ unfoldable pub tokens : List ℕ → List Token
 tokens s = tokens_from s 0
 
 -- the place of the first bad token
-unfoldable pub bad_among : List Token → Found
-bad_among [] = Nothing
-bad_among (t ∷ ts) = let later = bad_among ts in cond (eqb t.class BAD) (At t.start) later
+unfoldable pub bad_among : List Token → Option ℕ
+bad_among [] = None
+bad_among (t ∷ ts) = let later = bad_among ts in cond (eqb t.class BAD) (Some t.start) later
 
-unfoldable pub first_bad : List ℕ → Found
+unfoldable pub first_bad : List ℕ → Option ℕ
 first_bad s = bad_among (tokens s)

@@ -23,13 +23,6 @@ pub struct Token {
     pub end: usize,
 }
 
-// What a search finds.
-#[derive(Clone, Copy)]
-pub enum Found {
-    At(usize),
-    Nothing,
-}
-
 // A token without bytes: a bad one, or the end.
 fn empty(class: u8, at: usize) -> Token
     ensures { result ≡ record { class = class; start = at; end = at } }
@@ -181,17 +174,17 @@ pub fn token_at(src: &[u8], at: usize) -> Token
 }
 
 // The place of the first bad token.
-pub fn first_bad(src: &[u8]) -> Found
+pub fn first_bad(src: &[u8]) -> Option<usize>
     ensures { result ≡ first_bad src.now }
 {
     let mut at = 0;
     loop {
         let token = token_at(src, at);
         if token.class == BAD {
-            return Found::At(token.start);
+            return Some(token.start);
         }
         if token.class == END {
-            return Found::Nothing;
+            return None;
         }
         at = token.end;
     }

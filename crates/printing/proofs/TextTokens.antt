@@ -9,7 +9,7 @@ use lib.ListN.{length, length-append}
 use lib.Seq.{drop_at, drop-append-add}
 use borrow.Author.Tests.{lt-ltb, ne_eqb}
 use Rattle.lex.specs.declared.Token as lex
-use Rattle.lex.specs.declared.Found.TheVariants.{Nothing}
+use Rattle.std.specs.Prelude.{None}
 use Rattle.lexemes.specs.Classes.{BAD, END}
 use Rattle.lex.specs.Tokens.{is_gap, in_comment, gap, token_from, token_after_gap, tokens_within, tokens_from, tokens, bad_among, first_bad}
 use Rattle.lex.proofs.Specimens.{tok}
@@ -66,7 +66,7 @@ within_end (one_blank line) n at = refl
 
 -- the tokens l are all good, and the grammar takes ts of them
 record Lexed (l : List lex.Token) (ts : List Token) : Type 0 where
-  good : bad_among l ≡ Nothing
+  good : bad_among l ≡ None
   taken : grammar_tokens l ≡ ts
 
 lexed_end : (p : ℕ) → Lexed (tok END p p ∷ []) []
@@ -103,7 +103,7 @@ lexed {ws} {ts} sp = lexed_from sp (suc (length (text_of ws))) 0 no_gap (omega (
 
 -- ---- the laws
 
-pub good_text : {ws : List Word} {ts : List Token} → Spelled ws ts → first_bad (text_of ws) ≡ Nothing
+pub good_text : {ws : List Word} {ts : List Token} → Spelled ws ts → first_bad (text_of ws) ≡ None
 unfolding first_bad
 good_text sp = (lexed sp).good
 

@@ -9,8 +9,7 @@ use native.Mathlib.Omega.{arith}
 use lib.Dec.{eqb}
 use lib.ListN.{length, drop}
 use borrow.Author.Tests.{le-leb, lt-ltb}
-use Rattle.lex.specs.declared.Found.TheVariants.{Nothing}
-use Rattle.values.specs.declared.Value.TheVariants.{Fits}
+use Rattle.std.specs.Prelude.{Some, None}
 use Rattle.lexemes.specs.Classes.{NAME}
 use Rattle.lexemes.specs.Words.{word, same_word}
 use Rattle.lex.specs.Tokens.{first_bad, token_after_gap, token_at}
@@ -31,7 +30,7 @@ use Rattle.printing.proofs.TextPlaces.{stand_placed, in_word, word_numeral, name
 -- ---- the text of words that spell the tokens ts
 
 module _ {ws : List Word} {ts : List Token} (spelled : Spelled ws ts) where
-  pub none_bad : first_bad (text_of ws) ≡ Nothing
+  pub none_bad : first_bad (text_of ws) ≡ None
   none_bad = good_text spelled
 
   -- each word is one token, at its place
@@ -62,7 +61,7 @@ module _ {s : List ℕ} {p k v : ℕ} {w : Word} (stands : Stands s p w) (spells
     unfolding value_at
     value_at_lem = rw (word_at number, word_numeral spells number)
 
-    pub value_fits_at : v < 2 ^ 64 → value_at s p ≡ Fits v
+    pub value_fits_at : v < 2 ^ 64 → value_at s p ≡ Some v
     value_fits_at h = value_at_lem ∙ fitted_fits v h
 
     pub number_at_lem : v < 2 ^ 64 → number_at s p ≡ v

@@ -20,34 +20,34 @@ fn mark_if(map: &mut Map, n: u64, wanted: bool)
     }
 }
 
+// The numbers of questions: those of gotos, of checkboxes, and of all.
+#[derive(Clone, Copy)]
+pub struct Kinds {
+    pub gotos: Map,
+    pub checkboxes: Map,
+    pub questions: Map,
+}
+
 // Marks the number of the question in a row, in the maps of its kind.
-fn mark_row(table: &[u64], row: usize, gotos: &mut Map, checkboxes: &mut Map, questions: &mut Map)
-    ensures gotos_after { gotos.new ≡ with_all_used gotos.old (own_at is_goto table.now row) }
-    ensures checkboxes_after { checkboxes.new ≡ with_all_used checkboxes.old (own_at is_checkbox table.now row) }
-    ensures questions_after { questions.new ≡ with_all_used questions.old (own_at is_question table.now row) }
+fn mark_row(table: &[u64], row: usize, kinds: &mut Kinds)
+    ensures gotos_after { kinds.new.gotos ≡ with_all_used kinds.old.gotos (own_at is_goto table.now row) }
+    ensures checkboxes_after { kinds.new.checkboxes ≡ with_all_used kinds.old.checkboxes (own_at is_checkbox table.now row) }
+    ensures questions_after { kinds.new.questions ≡ with_all_used kinds.old.questions (own_at is_question table.now row) }
 {
     let code = cell(table, row, CODE);
     let own = cell(table, row, OWN);
-    mark_if(gotos, own, code == codes::GOTO);
-    mark_if(checkboxes, own, code == codes::CHECKBOX);
-    mark_if(questions, own, codes::is_question(code));
+    mark_if(&mut kinds.gotos, own, code == codes::GOTO);
+    mark_if(&mut kinds.checkboxes, own, code == codes::CHECKBOX);
+    mark_if(&mut kinds.questions, own, codes::is_question(code));
 }
 
 // Marks the numbers of the questions in the first `count` rows.
-pub fn mark_rows(
-    table: &[u64],
-    count: usize,
-    gotos: &mut Map,
-    checkboxes: &mut Map,
-    questions: &mut Map,
-)
-    ensures gotos_after { gotos.new ≡ with_all_used gotos.old (table_owns is_goto table.now count) }
-    ensures checkboxes_after { checkboxes.new ≡ with_all_used checkboxes.old (table_owns is_checkbox table.now count) }
-    ensures questions_after { questions.new ≡ with_all_used questions.old (table_owns is_question table.now count) }
+pub fn mark_rows(table: &[u64], count: usize, kinds: &mut Kinds)
+    ensures gotos_after { kinds.new.gotos ≡ with_all_used kinds.old.gotos (table_owns is_goto table.now count) }
+    ensures checkboxes_after { kinds.new.checkboxes ≡ with_all_used kinds.old.checkboxes (table_owns is_checkbox table.now count) }
+    ensures questions_after { kinds.new.questions ≡ with_all_used kinds.old.questions (table_owns is_question table.now count) }
 {
-    let mut row = 0;
-    while row < count {
-        mark_row(table, row, gotos, checkboxes, questions);
-        row += 1;
+    for row in 0..count {
+        mark_row(table, row, kinds);
     }
 }

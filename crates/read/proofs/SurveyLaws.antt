@@ -7,8 +7,7 @@ use mathlib.Core.Logic.{◌≢◌}
 use mathlib.Core.List.{List, [], ◌∷◌}
 use mathlib.Core.Option.{Option}
 use lib.ListN.{length, replicate}
-use Rattle.lex.specs.declared.Found.{Found}
-use Rattle.lex.specs.declared.Found.TheVariants.{At, Nothing}
+use Rattle.std.specs.Prelude.{Option as Optional, Some, None}
 use Rattle.lex.specs.Tokens.{first_bad}
 use Rattle.rows.specs.Table.{cleared}
 use Rattle.rows.proofs.ClearLaws.{cleared_whole}
@@ -47,11 +46,11 @@ too_long {s} {t} h f = refuses 1 0 (λ z. omega arith) (checked_1 s h) (f ∙ cl
 
 -- ---- a walk that refuses
 
-module _ (s : List ℕ) (n q : ℕ) {b : Found} (e : b ≡ first_bad s) {r : Survey} where
-  pub bad_token : {p : ℕ} → b ≡ At p → r ≡ refusing 2 p → r ≡ unless_bad (first_bad s) n q
+module _ (s : List ℕ) (n q : ℕ) {b : Optional ℕ} (e : b ≡ first_bad s) {r : Survey} where
+  pub bad_token : {p : ℕ} → b ≡ Some p → r ≡ refusing 2 p → r ≡ unless_bad (first_bad s) n q
   bad_token g h = h ∙ rw (sym e ∙ g)
 
-  pub no_bad_token : b ≡ Nothing → r ≡ refusing n q → r ≡ unless_bad (first_bad s) n q
+  pub no_bad_token : b ≡ None → r ≡ refusing n q → r ≡ unless_bad (first_bad s) n q
   no_bad_token g h = h ∙ rw (sym e ∙ g)
 
 parsed_refusal : (s : List ℕ) (v : Verdict) (o : Option Trees) → refusal_number v ≢ 0 → parsed s v o ≡ refusal (refusal_number v) (refusal_place s v)
@@ -70,9 +69,9 @@ module _ {s t t' : List ℕ} {w : Outcome} (short : length s ≤ LONGEST) (v : W
       number : refusal_number tokens_verdict ≢ 0
       number z = h (v.number ∙ z)
 
-      by : (b : Found) → first_bad s ≡ b → Surveyed s (unless_bad b w.no w.place) t t'
-      by (At p) e = refuses 2 p (λ z. omega arith) (checked_2 s p short e) (v.zeros h)
-      by Nothing e =
+      by : (b : Optional ℕ) → first_bad s ≡ b → Surveyed s (unless_bad b w.no w.place) t t'
+      by (Some p) e = refuses 2 p (λ z. omega arith) (checked_2 s p short e) (v.zeros h)
+      by None e =
           refuses w.no w.place h
           (checked_parsed s tokens_verdict short e (verdict_right (source_tokens s))
           ∙ (parsed_refusal s tokens_verdict (derivation (source_tokens s)) number ∙ rw (v.number, v.place)))

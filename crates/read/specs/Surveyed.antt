@@ -1,8 +1,6 @@
 -- What stages 1 to 5 with 16 find: a refusal, or the draft rows of the derivation.
 -- Assumes nothing.
-use Rattle.std.specs.Prelude.{ℕ, ◌≤◌, ◌≡◌, ◌≢◌, List, map, length, replicate}
-use Rattle.lex.specs.declared.Found.{Found}
-use Rattle.lex.specs.declared.Found.TheVariants.{At, Nothing}
+use Rattle.std.specs.Prelude.{ℕ, ◌≤◌, ◌≡◌, ◌≢◌, List, map, length, replicate, Option, Some, None}
 use Rattle.rows.specs.Rows.{put}
 use Rattle.ll1.specs.Trees.{Trees}
 use Rattle.answers.specs.Drafts.{encoded}
@@ -17,9 +15,9 @@ abbrev pub refusing : ℕ → ℕ → Survey
 refusing number place = record { number = number; place = place; rows = 0 }
 
 -- No. 2 where a token is bad, or else the refusal
-abbrev pub unless_bad : Found → ℕ → ℕ → Survey
-unless_bad (At p) number place = refusing 2 p
-unless_bad Nothing number place = refusing number place
+abbrev pub unless_bad : Option ℕ → ℕ → ℕ → Survey
+unless_bad (Some p) number place = refusing 2 p
+unless_bad None number place = refusing number place
 
 -- the derivation that the stages pass; its draft rows, so many, written over the table t as far as whole rows fit
 pub record SurveyedWhole (s : List ℕ) (count : ℕ) (t t' : List ℕ) : Type 0 where

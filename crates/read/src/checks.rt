@@ -5,7 +5,6 @@ ghost use Rattle.rows.specs.Table.{cleared};
 ghost use Rattle.read.specs.Surveyed.{refusing, unless_bad, Surveyed};
 
 use crate::Survey;
-use lex::Found;
 
 // The longest source.
 const LONGEST: usize = 65536;
@@ -24,10 +23,9 @@ fn refused(number: u64, place: usize) -> Survey
 fn walk_refused(src: &[u8], number: u64, place: usize) -> Survey
     ensures { result ≡ unless_bad (first_bad src.now) number place }
 {
-    let bad = lex::first_bad(src);
-    match bad {
-        Found::At(at) => refused(2, at),
-        Found::Nothing => refused(number, place),
+    match lex::first_bad(src) {
+        Some(at) => refused(2, at),
+        None => refused(number, place),
     }
 }
 

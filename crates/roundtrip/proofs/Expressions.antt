@@ -7,7 +7,7 @@ use Prim.Native.Nat.{ℕ, suc, ◌-◌}
 use native.Mathlib.Omega.{arith}
 use lib.Dec.{eqb}
 use lib.ListN.{get_or, drop}
-use Rattle.values.specs.declared.Value.TheVariants.{Fits as FitsWord}
+use Rattle.std.specs.Prelude.{Some}
 use Rattle.values.specs.Numbers.{value_at}
 use Rattle.lexemes.specs.Words as words
 use Rattle.rows.specs.Codes as code
@@ -81,7 +81,7 @@ unfolding is_question member questions
 dull_number k e = rw e (record { asks_not = refl; no_rule = refl; no_question_ref = refl; no_rule_ref = refl })
 
 -- the digits after the R of a rule's name
-rule_value : (t : List ℕ) (q : ℕ) {n : ℕ} → value_at t q ≡ FitsWord n → words.word (drop q t) ≡ rule_word n → number_at t (suc q) ≡ n
+rule_value : (t : List ℕ) (q : ℕ) {n : ℕ} → value_at t q ≡ Some n → words.word (drop q t) ≡ rule_word n → number_at t (suc q) ≡ n
 rule_value t q {n} h w = value_of t (suc q) (after_r t q n w ∙ h)
 
 false_true : {P : Type 0} (b : Bool) → b ≡ false → b ≡ true → P

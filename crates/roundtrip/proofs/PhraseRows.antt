@@ -8,7 +8,7 @@ use native.Mathlib.Omega.{arith}
 use lib.Dec.{eqb, ltb}
 use lib.ListN.{drop}
 use borrow.Author.Tests.{lt-ltb}
-use Rattle.values.specs.declared.Value.TheVariants.{Fits as FitsWord}
+use Rattle.std.specs.Prelude.{Some}
 use Rattle.values.specs.Numbers.{value_at}
 use Rattle.lexemes.specs.Words as words
 use Rattle.rows.specs.Codes as code
@@ -72,7 +72,7 @@ module _ (t : List ℕ) where
   abbrev N : ℕ → ℕ
   N = number_at t
 
-  pub value_of : (p : ℕ) {v : ℕ} → value_at t p ≡ FitsWord v → N p ≡ v
+  pub value_of : (p : ℕ) {v : ℕ} → value_at t p ≡ Some v → N p ≡ v
   unfolding number_at
   value_of p h = rw h
 

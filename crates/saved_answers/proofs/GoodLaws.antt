@@ -1,24 +1,15 @@
 -- Good answers: by the code's tests, and as the loop goes on.
 use Prim.Native.Nat.{ℕ, suc, ◌+◌, ◌*◌, ◌≤◌, ◌<◌}
 use mathlib.Core.Path.{◌≡◌, refl, ap, ◌∙◌}
-use mathlib.Core.Bool.{Bool, true, false, not, cond, ◌&&◌, ◌||◌, and-false}
+use mathlib.Core.Bool.{Bool, true, false, cond, ◌&&◌, and-false}
 use mathlib.Core.List.{List, [], ◌∷◌}
 use native.Mathlib.Omega.{arith}
-use borrow.Author.Tests.{leb-true, leb-false, lt-ltb, le-ltb}
-use lib.Dec.{leb, ltb}
+use borrow.Author.Tests.{lt-ltb, le-ltb}
+use lib.Dec.{ltb}
 use lib.ListN.{length, drop, length-drop}
 use lib.Seq.{drop-cons}
 use Rattle.saved_answers.specs.Answers.{count, question_of, value_of}
 use Rattle.saved_answers.specs.Good.{good_answers}
-
--- the code's test of an answer for question q, after one for n
-tests : (n q : ℕ) (h : Bool) → (ltb n q && h) ≡ not (leb q n || not h)
-tests n q h = go (leb q n) refl h
-  where
-    go : (t : Bool) → leb q n ≡ t → (h : Bool) → (ltb n q && h) ≡ not (t || not h)
-    go true e h = rw (le-ltb n q (leb-true q n e))
-    go false e true = rw (lt-ltb n q (omega (arith, leb-false q n e)))
-    go false e false = and-false (ltb n q)
 
 module _ (borne : ℕ → Bool) where
   -- a list of one word, or of none
@@ -49,23 +40,26 @@ module _ (borne : ℕ → Bool) where
     checking_start = record { inside = omega arith; same = omega arith }
 
     module _ {last k : ℕ} (v : Checking last k) where
-      module _ (h : k < count answers) {t : Bool} (e : t ≡ borne (question_of answers k)) where
-        here :
-            good_answers borne last (from k)
-            ≡ cond (not (leb (question_of answers k) last || not t)) (suc (good_answers borne (question_of answers k) (from (k + 1)))) 0
+      module _ (h : k < count answers) {q : ℕ} (e : q ≡ question_of answers k) where
+        here : good_answers borne last (from k) ≡ cond (ltb last q && borne q) (suc (good_answers borne q (from (k + 1)))) 0
         unfolding good_answers
-        here =
-            ap (good_answers borne last) (from_next k h)
-            ∙ rw (← e, tests last (question_of answers k) t)
+        here = ap (good_answers borne last) (from_next k h) ∙ rw e refl
 
-        pub checking_fault : (leb (question_of answers k) last || not t) ≡ true → k ≡ good_answers borne 0 answers
-        checking_fault f =
-            let none : good_answers borne last (from k) ≡ 0 = here ∙ rw f in
+        -- answer k, for question q, is out of order, or no question bears its number
+        pub checking_low : q ≤ last → k ≡ good_answers borne 0 answers
+        checking_low l =
+            let none : good_answers borne last (from k) ≡ 0 = here ∙ rw (le-ltb last q l) refl in
             omega (arith, v.same, none)
 
-        pub checking_next : (leb (question_of answers k) last || not t) ≡ false → Checking (question_of answers k) (k + 1)
-        checking_next f =
-            let one : good_answers borne last (from k) ≡ suc (good_answers borne (question_of answers k) (from (k + 1))) = here ∙ rw f in
+        pub checking_stray : borne q ≡ false → k ≡ good_answers borne 0 answers
+        checking_stray f =
+            let none : good_answers borne last (from k) ≡ 0 = here ∙ rw (f, and-false (ltb last q)) refl in
+            omega (arith, v.same, none)
+
+        -- or it is good
+        pub checking_next : last < q → borne q ≡ true → Checking q (k + 1)
+        checking_next l f =
+            let one : good_answers borne last (from k) ≡ suc (good_answers borne q (from (k + 1))) = here ∙ rw (lt-ltb last q l, f) refl in
             record { inside = omega arith; same = omega (arith, v.same, one) }
 
       pub checking_end : count answers ≤ k → k ≡ good_answers borne 0 answers

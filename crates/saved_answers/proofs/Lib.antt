@@ -4,6 +4,7 @@ pub mod Theorems
 pub mod GoodTheorems
 -- The walk over the answers; how the search goes on, and where it comes to among ascending answers; what is answered, by the code's tests.
 mod WalkLaws
+mod PairLaws
 mod SearchLaws
 mod AscendingLaws
 mod KindLaws

@@ -12,7 +12,7 @@ module _ (question value : ℕ) (more : List ℕ) (k : ℕ) where
   pub next_question : question_of (question ∷ value ∷ more) (suc k) ≡ question_of more k
   next_question = let e : 2 * suc k ≡ suc (suc (2 * k)) = omega arith in rw e
 
-  next_value : value_of (question ∷ value ∷ more) (suc k) ≡ value_of more k
+  pub next_value : value_of (question ∷ value ∷ more) (suc k) ≡ value_of more k
   next_value = let e : 2 * suc k + 1 ≡ suc (suc (2 * k + 1)) = omega arith in rw e
 
 -- answer k is the first for n

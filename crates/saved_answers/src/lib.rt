@@ -2,8 +2,8 @@
 // its value. Total for every list; one that ascends by number is searched by halves.
 #![tactic(auto)]
 
-ghost use Rattle.std.specs.Prelude.{◌≡◌, false, ◌≤◌};
-ghost use Rattle.saved_answers.specs.Answers.{count, by_kind};
+ghost use Rattle.std.specs.Prelude.{◌≡◌, false, ◌≤◌, ◌<◌, ℕ, length, get_or, [], ◌∷◌};
+ghost use Rattle.saved_answers.specs.Answers.{count, question_of, value_of, by_kind};
 ghost use Rattle.numbers.specs.Numbers.{used};
 ghost use Rattle.saved_answers.specs.Good.{good_answers};
 ghost use Rattle.saved_answers.specs.Search.{lowest, searched, question_value};
@@ -11,16 +11,28 @@ ghost use Rattle.saved_answers.specs.Search.{lowest, searched, question_value};
 use numbers::{Map, has};
 use operators::Scalar;
 
-// The first answer for a question of number n or more, by halves; the count of answers where there is none.
-fn lowest_answer(answers: &[u64], n: u64) -> usize
-    ensures is { result ≡ lowest answers.now n }
-    ensures within { result ≤ count answers.now }
+// The saved words as answers, a question's number and its value each; an odd last word is no answer.
+fn pairs(saved: &[u64]) -> &[[u64; 2]]
+    ensures len { length result.now ≡ count saved.now }
+    ensures each { (k : ℕ) → k < count saved.now
+        → get_or result.now k [] ≡ question_of saved.now k ∷ value_of saved.now k ∷ [] }
 {
-    let mut low: usize = 0;
-    let mut high = answers.len() / 2;
+    let (answers, _) = saved.as_chunks();
+    answers
+}
+
+// The first answer for a question of number n or more, by halves; the count of answers where there is none.
+fn lowest_answer(saved: &[u64], n: u64) -> usize
+    ensures is { result ≡ lowest saved.now n }
+    ensures within { result ≤ count saved.now }
+{
+    let answers = pairs(saved);
+    // Stays: `value_of` names this search for every list (`lowest`); `partition_point` says nothing of one that doesn't ascend.
+    let mut low = 0;
+    let mut high = answers.len();
     while low < high {
         let middle = low + (high - low) / 2;
-        if answers[2 * middle] < n {
+        if answers[middle][0] < n {
             low = middle + 1;
         } else {
             high = middle;
@@ -30,31 +42,40 @@ fn lowest_answer(answers: &[u64], n: u64) -> usize
 }
 
 // What question n answers, which is no goto.
-fn answer_value(answers: &[u64], n: u64, checkbox: bool) -> Scalar
-    ensures { result ≡ by_kind false checkbox (searched answers.now n) }
+fn answer_value(saved: &[u64], n: u64, checkbox: bool) -> Scalar
+    ensures { result ≡ by_kind false checkbox (searched saved.now n) }
 {
-    let k = lowest_answer(answers, n);
-    if answers.len() / 2 <= k {
-        return Scalar::Undefined;
+    match pairs(saved).get(lowest_answer(saved, n)) {
+        Some(&[question, value]) if question == n => {
+            if checkbox {
+                Scalar::Boolean(value != 0)
+            } else {
+                Scalar::Number(value)
+            }
+        }
+        _ => Scalar::Undefined,
     }
-    if answers[2 * k] != n {
-        return Scalar::Undefined;
-    }
-    let value = answers[2 * k + 1];
-    if checkbox {
-        return Scalar::Boolean(value != 0);
-    }
-    Scalar::Number(value)
 }
 
-// What question n answers: the maps hold the numbers of gotos and of checkboxes.
-pub fn question_value(answers: &[u64], gotos: &Map, checkboxes: &Map, n: u64) -> Scalar
-    ensures { result ≡ question_value answers.now gotos.now checkboxes.now n }
-{
-    if has(gotos, n) {
-        return Scalar::Undefined;
+// The saved answers, and the maps that hold the numbers of gotos and of checkboxes.
+#[derive(Clone, Copy)]
+pub struct Answers<'a> {
+    pub saved: &'a [u64],
+    pub gotos: &'a Map,
+    pub checkboxes: &'a Map,
+}
+
+impl Answers<'_> {
+    // What a question of this number answers.
+    pub fn value_of(self, question: u64) -> Scalar
+        ensures { result ≡ question_value self.entry.saved.now self.entry.gotos.now self.entry.checkboxes.now
+            question }
+    {
+        if has(self.gotos, question) {
+            return Scalar::Undefined;
+        }
+        answer_value(self.saved, question, has(self.checkboxes, question))
     }
-    answer_value(answers, n, has(checkboxes, n))
 }
 
 // How many answers, from the first on, are each for a number that is above the one before and that a question bears:
@@ -62,16 +83,13 @@ pub fn question_value(answers: &[u64], gotos: &Map, checkboxes: &Map, n: u64) ->
 pub fn good_answers(answers: &[u64], questions: &Map) -> usize
     ensures { result ≡ good_answers (used questions.now) 0 answers.now }
 {
-    let count = answers.len() / 2;
-    let mut last: u64 = 0;
-    let mut k: usize = 0;
-    while k < count {
-        let question = answers[2 * k];
-        if (question <= last) | !has(questions, question) {
+    let answers = pairs(answers);
+    let mut last = 0;
+    for (k, &[question, _]) in answers.iter().enumerate() {
+        if question <= last || !has(questions, question) {
             return k;
         }
         last = question;
-        k += 1;
     }
-    k
+    answers.len()
 }

@@ -10,7 +10,6 @@ ghost use Rattle.show.specs.ShownRows.{unplaced, rows_answer, rows_table, rows_o
 
 use question_kinds::mark_rows;
 use read::Answer;
-use rows::clear_bytes;
 use saved_answers::good_answers;
 use table_screen::show_table;
 
@@ -26,7 +25,7 @@ fn refuse(table: &mut [u64], out: &mut [u8], number: u64, place: usize) -> Answe
     ensures out_after { out.new ≡ cleared out.old 0 }
 {
     rows::clear(table, 0);
-    clear_bytes(out, 0);
+    rows::clear(out, 0);
     Answer::Refused(number, place, 0, 0)
 }
 
@@ -48,7 +47,7 @@ fn show_rows(answers: &[u64], table: &mut [u64], out: &mut [u8], rows: usize, fr
         return refuse(table, out, TOO_FEW_BYTES, 0);
     }
     show_table(&mut out[..rows], table, answers, &gotos, &checkboxes);
-    clear_bytes(out, rows);
+    rows::clear(out, rows);
     Answer::Accepted(rows, free)
 }
 
@@ -62,11 +61,11 @@ pub fn show(src: &[u8], answers: &[u64], table: &mut [u64], out: &mut [u8]) -> A
     match answer {
         Answer::Accepted(rows, free) => show_rows(answers, table, out, rows, free),
         Answer::Refused(number, place, line, column) => {
-            clear_bytes(out, 0);
+            rows::clear(out, 0);
             Answer::Refused(number, place, line, column)
         }
         Answer::Short(need) => {
-            clear_bytes(out, 0);
+            rows::clear(out, 0);
             Answer::Short(need)
         }
     }

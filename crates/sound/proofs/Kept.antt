@@ -9,8 +9,7 @@ use native.Mathlib.Omega.{arith}
 use lib.Dec.{eqb, leb}
 use lib.ListN.{get_or}
 use borrow.Author.Tests.{eqb-true, leb-true, ltb-true}
-use Rattle.values.specs.declared.Value.{Value}
-use Rattle.values.specs.declared.Value.TheVariants.{Fits as FitsWord, TooLarge}
+use Rattle.std.specs.Prelude.{Option, Some, None}
 use Rattle.values.specs.Numbers.{value_at}
 use Rattle.numbers.specs.Numbers.{number_limit}
 use Rattle.ll1.specs.Trees.{token, Trees, nil, leaf, node, Symbol, terminal, nonterminal, Alternative, alternative_of, Fits, fits_nil, fits_leaf, fits_node}
@@ -51,14 +50,14 @@ kept_in : (t : Bool) (p : ℕ) → cond t [] (p ∷ []) ≡ [] → t ≡ true
 kept_in true p h = refl
 kept_in false p h = clash cc
 
-in_range : (low high : ℕ) (v : Value) → within low high v ≡ true → (low ≤ held_value v) × (held_value v ≤ high)
-in_range low high (FitsWord v) h = let t = both (leb low v) _ h in (leb-true low v t.0, leb-true v high t.1)
-in_range low high TooLarge h = clash cc
+in_range : (low high : ℕ) (v : Option ℕ) → within low high v ≡ true → (low ≤ held_value v) × (held_value v ≤ high)
+in_range low high (Some v) h = let t = both (leb low v) _ h in (leb-true low v t.0, leb-true v high t.1)
+in_range low high None h = clash cc
 
-in_bytes : (w : ℕ) (v : Value) → fits_bytes w v ≡ true → held_value v < modulus w
+in_bytes : (w : ℕ) (v : Option ℕ) → fits_bytes w v ≡ true → held_value v < modulus w
 unfolding fits
-in_bytes w (FitsWord v) h = ltb-true v (modulus w) h
-in_bytes w TooLarge h = clash cc
+in_bytes w (Some v) h = ltb-true v (modulus w) h
+in_bytes w None h = clash cc
 
 module _ (s : List ℕ) where
   -- ---- trees

@@ -1,2 +1,2 @@
--- What is read where a value was put; new numbers hold undefined values.
+-- What is read where a value was put; new values are undefined.
 pub mod StoredLaws

@@ -1,2 +1,2 @@
--- Values kept in numbers.
+-- Values by number.
 pub mod Stored

@@ -10,7 +10,6 @@ ghost use Rattle.replies.specs.Replies.{resolve_reply};
 ghost use Rattle.text.specs.Answers.{told, RowsPrinted};
 
 use crate::items::put_text;
-use rows::clear_bytes;
 
 // The longest text.
 const LONGEST: usize = 65536;
@@ -49,10 +48,10 @@ fn print_rows(table: &mut [u64], out: &mut [u8], rows: usize, free: u64) -> Answ
     let bytes = put_text(out, table, rows);
     if room(out.len()) < bytes {
         rows::clear(table, 0);
-        clear_bytes(out, 0);
+        rows::clear(out, 0);
         return Answer::Long(bytes);
     }
-    clear_bytes(out, bytes);
+    rows::clear(out, bytes);
     Answer::Resolved(rows, free, bytes)
 }
 
@@ -66,11 +65,11 @@ pub fn resolve(src: &[u8], table: &mut [u64], out: &mut [u8]) -> Answer
     match answer {
         read::Answer::Accepted(rows, free) => print_rows(table, out, rows, free),
         read::Answer::Refused(number, place, line, column) => {
-            clear_bytes(out, 0);
+            rows::clear(out, 0);
             Answer::Refused(number, place, line, column)
         }
         read::Answer::Short(need) => {
-            clear_bytes(out, 0);
+            rows::clear(out, 0);
             Answer::Short(need)
         }
     }

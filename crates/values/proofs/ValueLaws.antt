@@ -9,7 +9,7 @@ use native.Mathlib.Omega.{arith}
 use lib.ListN.{length, get_or, take, drop}
 use lib.Seq.{get_or-drop}
 use borrow.Author.Tests.{lt-ltb, le-ltb, ne_eqb}
-use Rattle.values.specs.declared.Value.TheVariants.{Fits, TooLarge}
+use Rattle.std.specs.Prelude.{Some, None}
 use Rattle.lexemes.specs.Bytes.{is_digit, is_word_byte}
 use Rattle.lexemes.specs.Words.{run, word}
 use Rattle.values.specs.Numbers.{digit_value, value_from, marks_hex, numeral, fitted, value_at}
@@ -17,10 +17,10 @@ use Rattle.lexemes.proofs.Lists.{either_less, from_end, from_next}
 use Rattle.lexemes.proofs.Steps.{digit_word, digit_range}
 use Rattle.lexemes.proofs.WordParts.{word_next, word_empty}
 
-pub fitted_fits : (v : ℕ) → v < 2 ^ 64 → fitted v ≡ Fits v
+pub fitted_fits : (v : ℕ) → v < 2 ^ 64 → fitted v ≡ Some v
 fitted_fits v h = rw (lt-ltb v (2 ^ 64) h)
 
-pub fitted_large : (v : ℕ) → 2 ^ 64 ≤ v → fitted v ≡ TooLarge
+pub fitted_large : (v : ℕ) → 2 ^ 64 ≤ v → fitted v ≡ None
 fitted_large v h = rw (le-ltb v (2 ^ 64) h)
 
 -- `limit` is the largest number whose product with the base fits
@@ -82,7 +82,7 @@ module _ (s : List ℕ) (at : ℕ) where
   unfolding value_at numeral
   value_start e = rw e
 
-  pub value_past : length s ≤ at → Fits 0 ≡ value_at s at
+  pub value_past : length s ≤ at → Some 0 ≡ value_at s at
   unfolding value_at numeral value_from run
   value_past h = rw (from_end s at h)
 
@@ -93,21 +93,21 @@ module _ (s : List ℕ) (at : ℕ) where
   abbrev n : ℕ
   n = numeral (word (drop at s))
 
-  pub value_fits : n < 2 ^ 64 → value_at s at ≡ Fits n
+  pub value_fits : n < 2 ^ 64 → value_at s at ≡ Some n
   unfolding value_at
   value_fits h = fitted_fits n h
 
-  pub value_too_large : 2 ^ 64 ≤ n → value_at s at ≡ TooLarge
+  pub value_too_large : 2 ^ 64 ≤ n → value_at s at ≡ None
   unfolding value_at
   value_too_large h = fitted_large n h
 
-  pub fits_value : (v : ℕ) → value_at s at ≡ Fits v → (n < 2 ^ 64) × (v ≡ n)
+  pub fits_value : (v : ℕ) → value_at s at ≡ Some v → (n < 2 ^ 64) × (v ≡ n)
   fits_value v e =
       either_less n (2 ^ 64)
       (λ h. let fits = value_fits h in (h, cc))
       (λ h. let large = value_too_large h in absurd (let z : ◌≡◌ {A = ℕ} 0 1 = cc in omega arith))
 
-  pub too_large_value : value_at s at ≡ TooLarge → 2 ^ 64 ≤ n
+  pub too_large_value : value_at s at ≡ None → 2 ^ 64 ≤ n
   too_large_value e =
       either_less n (2 ^ 64)
       (λ h. let fits = value_fits h in absurd (let z : ◌≡◌ {A = ℕ} 0 1 = cc in omega arith))

@@ -1,8 +1,6 @@
 -- Which words are hex numbers, the value of a number, and a GUID part's digits (document 01, Tokens and Grammar).
 -- Assumes nothing.
-use Rattle.std.specs.Prelude.{ℕ, ◌+◌, ◌-◌, ◌*◌, ◌^◌, Bool, cond, ◌&&◌, List, [], ◌∷◌, eqb, ltb, length, get_or, drop}
-use Rattle.values.specs.declared.Value.{Value}
-use Rattle.values.specs.declared.Value.TheVariants.{Fits, TooLarge}
+use Rattle.std.specs.Prelude.{ℕ, ◌+◌, ◌-◌, ◌*◌, ◌^◌, Bool, cond, ◌&&◌, List, [], ◌∷◌, eqb, ltb, length, get_or, drop, Option, Some, None}
 use Rattle.lexemes.specs.Bytes.{is_hex_digit}
 use Rattle.lexemes.specs.Words.{all, word}
 
@@ -31,11 +29,11 @@ numeral w =
     cond (marks_hex w) hex decimal
 
 -- the value as 64 bits hold it
-abbrev pub fitted : ℕ → Value
-fitted v = cond (ltb v (2 ^ 64)) (Fits v) TooLarge
+abbrev pub fitted : ℕ → Option ℕ
+fitted v = cond (ltb v (2 ^ 64)) (Some v) None
 
 -- the value of the number that starts at a place of a source
-unfoldable pub value_at : List ℕ → ℕ → Value
+unfoldable pub value_at : List ℕ → ℕ → Option ℕ
 value_at s at = fitted (numeral (word (drop at s)))
 
 -- how many digits follow the `0x` of the number that starts at a place

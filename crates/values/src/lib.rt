@@ -10,14 +10,6 @@ ghost use Rattle.lexemes.specs.Words.{word};
 use lexemes::bytes::{byte_at, in_word, is_digit};
 use lexemes::words::word_end;
 
-// The value of a number.
-#[derive(Clone, Copy)]
-pub enum Value {
-    Fits(u64),
-    // 2^64 or more.
-    TooLarge,
-}
-
 // The largest number of 64 bits, and what is left of it after a division by each base.
 const MAX: u64 = 18446744073709551615;
 
@@ -51,7 +43,7 @@ fn wide(b: u8) -> u64
 }
 
 // The value of digits in a base; `limit` is the largest number whose product with the base fits.
-fn value_in(w: &[u8], base: u64, limit: u64) -> Value
+fn value_in(w: &[u8], base: u64, limit: u64) -> Option<u64>
     requires { (0 < base) × (limit * base < 2 ^ 64) × (2 ^ 64 ≤ limit * base + base) }
     ensures { result ≡ fitted (value_from base 0 w.now) }
 {
@@ -60,20 +52,20 @@ fn value_in(w: &[u8], base: u64, limit: u64) -> Value
     while i < w.len() {
         let digit = wide(digit_value(w[i]));
         if limit < value {
-            return Value::TooLarge;
+            return None;
         }
         let product = value * base;
         if MAX - product < digit {
-            return Value::TooLarge;
+            return None;
         }
         value = product + digit;
         i += 1;
     }
-    Value::Fits(value)
+    Some(value)
 }
 
 // The value of a number's bytes.
-fn number_value(w: &[u8]) -> Value
+fn number_value(w: &[u8]) -> Option<u64>
     ensures { result ≡ fitted (numeral w.now) }
 {
     if byte_at(w, 1) == b'x' {
@@ -83,7 +75,7 @@ fn number_value(w: &[u8]) -> Value
 }
 
 // The value of the number that starts at a place, whatever it is.
-fn any_value_at(src: &[u8], at: usize) -> Value
+fn any_value_at(src: &[u8], at: usize) -> Option<u64>
     requires { at < length src.now }
     ensures { result ≡ value_at src.now at }
 {
@@ -116,17 +108,17 @@ fn decimal_at(src: &[u8], at: usize) -> u64
     value
 }
 
-// The value of the number that starts at a place.
-pub fn value_at(src: &[u8], at: usize) -> Value
+// The value of the number that starts at a place; none where it is 2^64 or more.
+pub fn value_at(src: &[u8], at: usize) -> Option<u64>
     ensures { result ≡ value_at src.now at }
 {
     if src.len() <= at {
-        return Value::Fits(0);
+        return Some(0);
     }
     if byte_at(src, at + 1) != b'x' {
         let value = decimal_at(src, at);
         if value < MAX {
-            return Value::Fits(value);
+            return Some(value);
         }
     }
     any_value_at(src, at)

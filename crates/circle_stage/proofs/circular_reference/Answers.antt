@@ -7,6 +7,4 @@ returns-then-last-eq0 c = none_found _ _ c.add_steps-last.ensures.tells c.if-las
 
 pub returns : goal.returns
 returns c =
-    let steps = c in
-    first_found _ _ steps.empty-map.ensures steps.add_steps-last.ensures.adds steps.add_steps-last.ensures.tells c.close.ensures
-    c.first_mark.ensures
+    first_found _ _ c.empty-map.ensures c.add_steps-last.ensures.adds c.add_steps-last.ensures.tells c.close.ensures c.first_place.ensures

@@ -13,4 +13,4 @@ returns c =
     let s = own in
     let t = s.args.table.now in
     let code = own.cell-code.ensures in
-    let number = own.cell-own.ensures in record { gotos_after = row_marked is_goto s.args.gotos.now t s.args.row code number refl first.mark_if.ensures; checkboxes_after = row_marked is_checkbox s.args.checkboxes.now t s.args.row code number refl second.mark_if-2.ensures; questions_after = row_marked is_question s.args.questions.now t s.args.row code number c.is_question.ensures c.mark_if-3.ensures }
+    let number = own.cell-own.ensures in record { gotos_after = row_marked is_goto s.args.kinds.now.gotos t s.args.row code number refl first.mark_if.ensures; checkboxes_after = row_marked is_checkbox s.args.kinds.now.checkboxes t s.args.row code number refl second.mark_if-2.ensures; questions_after = row_marked is_question s.args.kinds.now.questions t s.args.row code number c.is_question.ensures c.mark_if-3.ensures }

@@ -19,7 +19,7 @@ returns-in-Refused c =
     let answer = cleared in
     let reading = answer in
     let args = reading.args in let it = unshown_refused args.src.now args.answers.now _ args.out.now
-    (ap told (sym c.in-Refused.is) ∙ reading.read-answer.ensures.result_value) reading.read-answer.ensures.table_after cleared.clear_bytes.ensures refl in record { result_value = it.0; table_after = it.1.0; out_after = it.1.1 }
+    (ap told (sym c.in-Refused.is) ∙ reading.read-answer.ensures.result_value) reading.read-answer.ensures.table_after cleared.clear.ensures refl in record { result_value = it.0; table_after = it.1.0; out_after = it.1.1 }
 
 pub returns-in-Short : goal.returns-in-Short
 returns-in-Short c =
@@ -27,4 +27,4 @@ returns-in-Short c =
     let answer = cleared in
     let reading = answer in
     let args = reading.args in let it = unshown_short args.src.now args.answers.now _ args.out.now
-    (ap told (sym c.in-Short.is) ∙ reading.read-answer.ensures.result_value) reading.read-answer.ensures.table_after cleared.clear_bytes-in-Short.ensures refl in record { result_value = it.0; table_after = it.1.0; out_after = it.1.1 }
+    (ap told (sym c.in-Short.is) ∙ reading.read-answer.ensures.result_value) reading.read-answer.ensures.table_after cleared.clear-in-Short.ensures refl in record { result_value = it.0; table_after = it.1.0; out_after = it.1.1 }

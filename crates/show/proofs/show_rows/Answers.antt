@@ -30,7 +30,7 @@ slice_bounds-show_table-end-2 c = sym (length-take-le _ _ (search rules))
 
 pub returns : goal.returns
 returns c =
-    let clear = c.clear_bytes in
+    let clear = c.clear in
     let show = c.show_table in
     let if2 = c in
     let if1 = if2 in

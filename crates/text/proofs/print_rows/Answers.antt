@@ -11,7 +11,7 @@ returns-then-room-bytes c =
     let room = c.room in
     let if1 = c.if-room-bytes in
     let clear = c.clear in
-    let clear-bytes = c.clear_bytes in
+    let clear-bytes = c.clear-2 in
     too_long put-text.ensures (search rules) (rw room.ensures at if1.true) clear.ensures clear-bytes.ensures
 
 pub returns : goal.returns
@@ -19,5 +19,5 @@ returns c =
     let put-text = c.put_text-bytes in
     let room = c.room in
     let if1 = c.if-room-bytes in
-    let clear-bytes = c.clear_bytes-2 in
+    let clear-bytes = c.clear-3 in
     long_enough put-text.ensures (search rules) (rw room.ensures at if1.false) refl clear-bytes.ensures

@@ -1,8 +1,0 @@
--- `stages::drafts::limit_mark` meets its contract.
-use mathlib.Core.Path.{ap, ◌∙◌}
-use Rattle.rows.specs.Draft.{mark_of}
-use Rattle.drafts.proofs.DraftLaws.{limit_read}
-use Rattle.drafts.proofs.limit_mark.Goals as goal
-
-pub returns : goal.returns
-returns c = c.mark.ensures ∙ ap mark_of c.cell.ensures ∙ limit_read c.args.table.now c.args.row

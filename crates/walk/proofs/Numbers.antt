@@ -18,7 +18,7 @@ use Rattle.elements.specs.Words.{no_words, with_word}
 use Rattle.elements.specs.Kinds.{MAYBE, is_flag_list, starts_of, is_kept}
 use Rattle.elements.specs.Symbols.{elements_of}
 use Rattle.phrases.specs.Stream.{stream}
-use Rattle.phrases.specs.Phrase.{Reader, starting, passing, leaving, leaving_one, taking, flags_from, taking_flags, fitting, reading, step_of, phrase_from, starts_past, phrase_read}
+use Rattle.phrases.specs.Phrase.{Reader, starting, taking, flags_from, taking_flags, fitting, reading, step_of, phrase_from, starts_past, phrase_read}
 
 -- not refused, or with 3
 abbrev OnlySyntax : Reader → Type 0

@@ -237,7 +237,6 @@ pub takes_row :
     → ReadsRow s k parent (going st) (going (record { token = r.token; rows = st.rows + 1; rules = r.rules; noted = r.noted })) t t'
 takes_row s parent k {st = st} h p e = rw (p.same refl).1 (row_on s parent (going st) (phrase_some k h) p.passed refl e)
 
-
 -- ---- the row of a rule
 
 abbrev pub ruled : Standing → Cursor → Standing

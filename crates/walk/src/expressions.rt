@@ -24,17 +24,12 @@ fn leaf(src: &[u8], table: &mut [u64], s: State, parent: usize) -> Result<State,
     requires { Room src.now (going s) × (s.token.class ≢ «NOT») × (s.token.class ≢ open_paren) }
     ensures { Reads src.now (r <atom> ∷ []) (Counted (OperandRows src.now parent)) (going s) (standing result) table.old table.new }
 {
-    let class = s.token.class;
-    if is_constant(class) {
-        return Ok(word(src, table, s, parent));
+    match s.token.class {
+        class if is_constant(class) => Ok(word(src, table, s, parent)),
+        KW_QUESTIONREF => flat(src, table, s, parent, phrase::QUESTION_REF),
+        KW_RULEREF => flat(src, table, s, parent, phrase::RULE_REF),
+        _ => flat(src, table, s, parent, phrase::NUMBER),
     }
-    if class == KW_QUESTIONREF {
-        return flat(src, table, s, parent, phrase::QUESTION_REF);
-    }
-    if class == KW_RULEREF {
-        return flat(src, table, s, parent, phrase::RULE_REF);
-    }
-    flat(src, table, s, parent, phrase::NUMBER)
 }
 
 // An atom, with `left` groups left to open.
@@ -92,12 +87,7 @@ fn level(
 }
 
 // A whole expression, whose rows have the parent.
-pub fn expression(
-    src: &[u8],
-    table: &mut [u64],
-    s: State,
-    parent: usize,
-) -> Result<State, Refused>
+pub fn expression(src: &[u8], table: &mut [u64], s: State, parent: usize) -> Result<State, Refused>
     requires { Room src.now (going s) }
     ensures { ReadsOperand src.now max_groups <or> parent (going s) (standing result) table.old table.new }
 {

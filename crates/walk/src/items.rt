@@ -24,12 +24,7 @@ use lexemes::classes::*;
 pub const CONDITIONS: usize = 16;
 
 // One or more options of the oneof in row `parent`.
-fn option_list(
-    src: &[u8],
-    table: &mut [u64],
-    s: State,
-    parent: usize,
-) -> Result<State, Refused>
+fn option_list(src: &[u8], table: &mut [u64], s: State, parent: usize) -> Result<State, Refused>
     requires { Room src.now (going s) }
     ensures { ReadsUnder src.now (r <option> ∷ r <option>* ∷ []) parent (going s) (standing result) table.old table.new }
 {
@@ -92,12 +87,7 @@ fn rule(src: &[u8], table: &mut [u64], s: State, parent: usize) -> Result<State,
 }
 
 // A condition's word, expression and `;`.
-fn open_condition(
-    src: &[u8],
-    table: &mut [u64],
-    s: State,
-    parent: usize,
-) -> Result<State, Refused>
+fn open_condition(src: &[u8], table: &mut [u64], s: State, parent: usize) -> Result<State, Refused>
     requires { Room src.now (going s) × (is_condition s.token.class ≡ true) }
     ensures { OpensCondition src.now parent (going s) (standing result) table.old table.new }
 {

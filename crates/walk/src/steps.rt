@@ -66,13 +66,7 @@ pub fn close(src: &[u8], s: State, phrase: u8) -> Result<State, Refused>
 }
 
 // Writes the row of a phrase that starts with the state's token, where a whole one fits; else it is not made.
-pub fn put_phrase_row(
-    src: &[u8],
-    table: &mut [u64],
-    s: State,
-    parent: usize,
-    entries: [u64; KEPT],
-)
+pub fn put_phrase_row(src: &[u8], table: &mut [u64], s: State, parent: usize, entries: [u64; KEPT])
     ensures { table.new ≡ with_row table.old s.rows (encoded (phrase_draft (number_at src.now) s.token.class parent s.token.start (kept entries))) }
 {
     if s.rows < rows::whole_rows(table) {

@@ -4,7 +4,6 @@
 use mathlib.Core.Path.{refl, sym, ◌∙◌}
 use native.Mathlib.Omega.{arith}
 use Rattle.std.proofs.lemmas.Result.{err_from_is_err_and}
-use Rattle.grammar.specs.Rules.{<atom>}
 use Rattle.elements.specs.Symbols.{GROUP_CLOSE}
 use Rattle.walk.specs.Standing.{going}
 use Rattle.walk.specs.Walked.{Room}

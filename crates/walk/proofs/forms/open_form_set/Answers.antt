@@ -1,7 +1,7 @@
 -- `walk::forms::open_form_set` meets its contract: the two phrases are the opening of a form set.
 -- Assumes nothing.
 use mathlib.Core.Path.{refl}
-use mathlib.Core.List.{[], ◌∷◌}
+use mathlib.Core.List.{◌∷◌}
 use Rattle.std.proofs.lemmas.Result.{err_from_is_err_and}
 use Rattle.grammar.specs.Notation.{r}
 use Rattle.grammar.specs.Rules.{<guid_end>}

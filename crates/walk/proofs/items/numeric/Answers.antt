@@ -1,6 +1,5 @@
 -- `walk::items::numeric` meets its contract: a phrase, its row, and the first number that does not fit.
 -- Assumes nothing.
-use mathlib.Core.Path.{refl, ◌∙◌}
 use Rattle.std.proofs.lemmas.Result.{err_from_is_err_and}
 use Rattle.walk.proofs.Walks.{halts}
 use Rattle.walk.proofs.ItemSteps.{numeric_off, numeric_reads}

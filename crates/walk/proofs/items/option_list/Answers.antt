@@ -1,6 +1,6 @@
 -- `walk::items::option_list` meets its contract. The loop's invariant: whoever ends the list from here ends it from its start.
 -- Assumes nothing.
-use mathlib.Core.Path.{refl, ◌∙◌}
+use mathlib.Core.Path.{refl}
 use native.Mathlib.Omega.{arith}
 use mathlib.Core.List.{[], ◌∷◌}
 use Rattle.std.proofs.lemmas.Result.{err_from_is_err_and}

@@ -115,6 +115,11 @@ ReadsOperand s left A parent st st' t₀ t₁ = Groups s left A (Counted (Operan
 abbrev pub list_of : Bool → ℕ
 list_of in_form = cond in_form <item_or_rule>* <item>*
 
+-- a list's items, with `left` conditions left to open; where none is open, in a form, rules too
+abbrev pub ReadsItems : List ℕ → ℕ → ℕ → Standing → Standing → List ℕ → List ℕ → Type 0
+ReadsItems s left parent st st' t₀ t₁ =
+    WalkedUnder s (depth (max_conditions - left) 0) (r (list_of (eqb left max_conditions)) ∷ []) parent st st' t₀ t₁
+
 -- the alternative of an item that is a condition
 abbrev pub condition_of : ℕ → ℕ
 condition_of k = cond (eqb k class.«suppressif») 7 (cond (eqb k class.«grayoutif») 8 9)

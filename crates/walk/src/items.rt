@@ -1,5 +1,5 @@
 // Items, the conditions round them, and rules (document 01, Grammar).
-ghost use Rattle.std.specs.Prelude.{◌≡◌, true, [], ◌∷◌, ◌-◌, ◌≤◌, eqb};
+ghost use Rattle.std.specs.Prelude.{◌≡◌, true, [], ◌∷◌, ◌≤◌};
 ghost use Rattle.lexemes.specs.Classes.{«numeric», «oneof», «rule»};
 ghost use Rattle.ll1.specs.Trees.{depth};
 ghost use Rattle.grammar.specs.Notation.{r};
@@ -9,7 +9,7 @@ ghost use Rattle.elements.specs.Symbols.{symbols_of, RULE_OPEN};
 ghost use Rattle.walk.specs.Meanings.{Counted, RuleRow};
 ghost use Rattle.walk.specs.Standing.{going, standing};
 ghost use Rattle.walk.specs.Starts.{is_condition, starts_item};
-ghost use Rattle.walk.specs.Walked.{Room, Reads, OpensCondition, list_of, WalkedUnder, ReadsUnder};
+ghost use Rattle.walk.specs.Walked.{Room, Reads, OpensCondition, WalkedUnder, ReadsUnder, ReadsItems};
 
 use crate::expressions::expression;
 use crate::starts::{is_condition, starts_item};
@@ -122,7 +122,7 @@ pub fn items(
     left: usize,
 ) -> Result<State, Refused>
     requires { Room src.now (going s) × (left ≤ max_conditions) }
-    ensures { WalkedUnder src.now (depth (max_conditions - left) 0) (r (list_of (eqb left max_conditions)) ∷ []) parent (going s) (standing result) table.old table.new }
+    ensures { ReadsItems src.now left parent (going s) (standing result) table.old table.new }
 {
     // In a form no condition is open.
     let in_form = left == CONDITIONS;

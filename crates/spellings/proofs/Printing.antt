@@ -30,6 +30,9 @@ as_words e p = rw (← e) p
 pub words_written : {o o' : Output} {ws : List Word} → Written o (text_of ws) o' → Printed o ws o'
 words_written p = record { prints = record { puts = p.puts }; lent = p.lent }
 
+pub printed_bytes : {o o' : Output} {ws : List Word} → Printed o ws o' → Written o (text_of ws) o'
+printed_bytes p = record { puts = p.prints.puts; lent = p.lent }
+
 -- ---- a loop that writes bytes: some are done, and those left make the whole
 
 pub record Partly (o : Output) (whole : List ℕ) (o' : Output) (left : List ℕ) : Type 0 where

@@ -36,7 +36,7 @@ use Rattle.phrases.proofs.Keeping.{written_zeros}
 use Rattle.elements.specs.Symbols.{symbols_of, phrase_symbols, RULE_OPEN, GROUP_CLOSE}
 use Rattle.fields.specs.Phrases.{kept, phrase_draft, rule_draft}
 use Rattle.walk.specs.declared.State.{State}
-use Rattle.walk.specs.declared.Reason.TheVariants.{Syntax}
+use Rattle.refusals.specs.declared.Reason.TheVariants.{Syntax}
 use Rattle.walk.specs.Standing.{Standing, going, halted}
 use Rattle.walk.specs.Meanings.{Meaning, Counted, Silent, first_class, first_place, kept_of, phrase_row, Rowed, RuleRow}
 use Rattle.walk.specs.Walked.{TakesSymbols, Takes, closed, Reads, ReadsRow}

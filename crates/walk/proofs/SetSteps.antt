@@ -47,7 +47,7 @@ use Rattle.grammar.proofs.Equations.{verdict_take, verdict_deep, verdict_miss, v
 use Rattle.elements.proofs.TreeLaws.{entries_node, faults_node}
 use Rattle.fields.specs.Phrases.{kept, marked_value, form_set_draft}
 use Rattle.walk.specs.declared.State.{State}
-use Rattle.walk.specs.declared.Refused.{Refused}
+use Rattle.walk.specs.declared.Halt.{Halt}
 use Rattle.walk.specs.Standing.{Standing, going, halted, cursor}
 use Rattle.walk.specs.Meanings.{◌⧺◌, first_place, kept_of, Counted, Opening, rows_own}
 use Rattle.walk.specs.Walked.{TakesSymbols, Takes, Walked, starting, set_open, OpensSet}
@@ -398,7 +398,7 @@ takes_off {s} α {st} h =
 module _ {s : List ℕ} {st c : Standing} {high low : List ℕ} (z : st.no ≡ 0) (f : st.token ≡ token_at s 0) (nothing : st.noted ≡ nothing_noted)
     (p : Takes s FORM_SET_OPEN st c (replicate KEPT 0) high) where
   -- refused in one of the two phrases
-  pub opens_off : (e : Refused) {x : List ℕ} → TakesSymbols s (r <guid_end> ∷ title_and_help) c (halted e) (replicate KEPT 0) low → OpensSet s (halted e) x x
+  pub opens_off : (e : Halt) {x : List ℕ} → TakesSymbols s (r <guid_end> ∷ title_and_help) c (halted e) (replicate KEPT 0) low → OpensSet s (halted e) x x
   opens_off e {x} q = set_opens_off {e = cursor (halted e)} f nothing (rw z at p.passed) q.passed {x = x} (halts e)
 
   -- with the row of the form set

@@ -2,12 +2,14 @@
 -- Assumes nothing.
 use Prim.Native.Nat.{ℕ, ◌≤◌}
 use mathlib.Core.Path.{◌≡◌, refl, sym, ap, ◌∙◌}
+use mathlib.Core.Bool.{true, false}
 use mathlib.Core.List.{List, [], ◌∷◌, ◌++◌, append-nil}
 use mathlib.Core.Logic.{◌≢◌}
 use native.Mathlib.Omega.{arith}
 use native.Mathlib.Decide.{ℕ_discrete}
 use lib.ListN.{length}
 use borrow.Author.Tests.{eq-eqb, ne_eqb}
+use Rattle.std.proofs.Common.{Result, Ok, Err, is_err}
 use Rattle.lex.specs.declared.Token as lex
 use Rattle.lexemes.specs.Classes as class
 use Rattle.lexemes.specs.Classes.{END}
@@ -15,6 +17,7 @@ use Rattle.lex.specs.Tokens.{token_at}
 use Rattle.ll1.specs.Trees.{leaves, depth}
 use Rattle.ll1.specs.Verdict.{accepted, ends_early, refused}
 use Rattle.ll1.specs.Machine.{due}
+use Rattle.ll1.proofs.Basics.{clash}
 use Rattle.ll1.proofs.Lookups.{find_one}
 use Rattle.grammar.specs.Grammar.{rules}
 use Rattle.grammar.specs.Notation.{r, plain}
@@ -35,10 +38,12 @@ use Rattle.grammar.proofs.Equations.{verdict_all, verdict_extra}
 use Rattle.rows.specs.Table.{cleared}
 use Rattle.rows.proofs.ClearLaws.{cleared_whole}
 use Rattle.walk.specs.Standing.{Standing}
-use Rattle.walk.specs.declared.Outcome.{Outcome}
 use Rattle.walk.specs.Meanings.{Counted, Opening, rows_in}
 use Rattle.walk.specs.Walked.{Room, Walked, Closes, starting, set_open, WalkedUnder, OpensSet, WalksSource}
-use Rattle.walk.specs.Whole.{refusal_number, refusal_place, WalkedWhole, Walks, refusing, ended}
+use Rattle.refusals.proofs.Bounds.{number_bounds}
+use Rattle.walk.specs.declared.Totals.{Totals}
+use Rattle.walk.specs.declared.Fault.{Fault}
+use Rattle.walk.specs.Whole.{Outcome, outcome, refusing, refusal_number, refusal_place, WalkedWhole, Walks, ended}
 use Rattle.walk.proofs.TreeLaws.{faultless}
 use Rattle.walk.proofs.Walks.{walked_then, counted_joins, walked_node, counted_node, resume_enter}
 use Rattle.walk.proofs.MeaningLaws.{under_joins, Content, content_under, content_joins}
@@ -158,3 +163,12 @@ module _ {s : List ℕ} {k : lex.Token} {r' : Standing} {t₀ t₁ : List ℕ} (
     pub walk_accepts : o.no ≡ 0 → Walks s o t₀ t₁
     walk_accepts h =
         rw f (record { number = ends.number; place = ends.place; nothing = ends.nothing; zeros = λ q. absurd (q (rw f at h)); derived = ends.derived })
+
+-- an error has a number, and what is found has none
+pub fault_number : (x : Result Totals Fault) → is_err x ≡ true → (outcome x).no ≢ 0
+fault_number (Ok w) e = clash cc
+fault_number (Err f) e = λ q. let n = (number_bounds f.reason).0 in absurd (omega arith)
+
+pub found_number : (x : Result Totals Fault) → is_err x ≡ false → (outcome x).no ≡ 0
+found_number (Ok w) e = refl
+found_number (Err f) e = clash cc

@@ -37,11 +37,10 @@ use Rattle.elements.proofs.MarkLaws.{noting_append, noting_none}
 use Rattle.phrases.proofs.Resume.{resume_on, resume_no, resume_off}
 use Rattle.grammar.proofs.Equations.{verdict_take, verdict_deep, verdict_in, verdict_enter, verdict_skip, verdict_skip_end}
 use Rattle.elements.proofs.TreeLaws.{faults_of}
-use Rattle.walk.specs.declared.Reason.{Reason}
-use Rattle.walk.specs.declared.Reason.TheVariants.{Syntax, TooDeep}
-use Rattle.walk.specs.declared.Refused.{Refused}
+use Rattle.refusals.proofs.Bounds.{number_bounds}
+use Rattle.walk.specs.declared.Halt.{Halt}
 use Rattle.walk.specs.declared.State.{State}
-use Rattle.walk.specs.Standing.{Standing, number_of, going, halted, refused_deep}
+use Rattle.walk.specs.Standing.{Standing, going, halted, refused_deep}
 use Rattle.walk.specs.Meanings.{◌⧺◌, Meaning, Counted, Silent}
 use Rattle.walk.specs.Walked.{Tree, Walked, Reads, passed, deep}
 use Rattle.walk.proofs.TreeLaws.{leaves_beside, fits_beside, faults_beside, Faultless}
@@ -145,12 +144,8 @@ walked_like {s} {α = α} {M = M} {st = st} {t = t} {t' = t'} e f same w =
 -- ---- nothing is read
 
 -- a refusal has a number
-pub halts : (e : Refused) → (halted e).no ≢ 0
-halts e = by e.reason
-  where
-    by : (x : Reason) → number_of x ≢ 0
-    by Syntax = λ q. absurd (omega arith)
-    by TooDeep = λ q. absurd (omega arith)
+pub halts : (e : Halt) → (halted e).no ≢ 0
+halts e q = let n = (number_bounds e.reason).0 in absurd (omega arith)
 
 -- a refusal is handed on
 pub walked_off : {s : List ℕ} {d : Depth} (α : List Symbol) (M : Meaning) {st : Standing} {t : List ℕ} → st.no ≢ 0 → Walked s d α M st st t t

@@ -5,15 +5,10 @@ use Rattle.lex.specs.declared.Token.{Token}
 use Rattle.elements.specs.declared.noted.Noted.{Noted}
 use Rattle.elements.specs.Marks.{nothing_noted}
 use Rattle.phrases.specs.declared.Cursor.{Cursor}
+use Rattle.refusals.specs.declared.Reason.TheVariants.{TooDeep}
+use Rattle.refusals.specs.Numbers.{number_of}
 use Rattle.walk.specs.declared.State.{State}
-use Rattle.walk.specs.declared.Reason.{Reason}
-use Rattle.walk.specs.declared.Reason.TheVariants.{Syntax, TooDeep}
-use Rattle.walk.specs.declared.Refused.{Refused}
-
--- a refusal's number (document 01, Refusal numbers)
-abbrev pub number_of : Reason → ℕ
-number_of Syntax = 3
-number_of TooDeep = 4
+use Rattle.walk.specs.declared.Halt.{Halt}
 
 -- the refusal or 0, the token, how many rows and how many rules there are so far, and the faults that are noted
 pub record Standing : Type 0 where
@@ -28,16 +23,16 @@ abbrev pub going : State → Standing
 going s = record { no = 0; token = s.token; rows = s.rows; rules = s.rules; noted = s.noted }
 
 -- one that is refused: no row, rule or fault is of use any more
-abbrev pub halted : Refused → Standing
+abbrev pub halted : Halt → Standing
 halted e = record { no = number_of e.reason; token = e.token; rows = 0; rules = 0; noted = nothing_noted }
 
 -- what a reader gives
-abbrev pub standing : Result State Refused → Standing
+abbrev pub standing : Result State Halt → Standing
 standing (Ok s) = going s
 standing (Err e) = halted e
 
 -- refused at the token, which opens a depth too many
-abbrev pub refused_deep : State → Refused
+abbrev pub refused_deep : State → Halt
 refused_deep s = record { reason = TooDeep; token = s.token }
 
 -- where a phrase ends, as its reader says it

@@ -11,7 +11,7 @@ ghost use Rattle.walk.specs.Walked.{Room, Reads, ReadsOperand};
 
 use crate::starts::is_constant;
 use crate::steps::{close, flat, past, too_deep, with_row, word};
-use crate::{Refused, State};
+use crate::{Halt, State};
 use elements::phrase;
 use fields::operators::{LEVELS, level_of};
 use lexemes::classes::*;
@@ -20,7 +20,7 @@ use lexemes::classes::*;
 const GROUPS: usize = 32;
 
 // An atom that holds no other.
-fn leaf(src: &[u8], table: &mut [u64], s: State, parent: usize) -> Result<State, Refused>
+fn leaf(src: &[u8], table: &mut [u64], s: State, parent: usize) -> Result<State, Halt>
     requires { Room src.now (going s) × (s.token.class ≢ «NOT») × (s.token.class ≢ open_paren) }
     ensures { Reads src.now (r <atom> ∷ []) (Counted (OperandRows src.now parent)) (going s) (standing result) table.old table.new }
 {
@@ -34,13 +34,7 @@ fn leaf(src: &[u8], table: &mut [u64], s: State, parent: usize) -> Result<State,
 
 // An atom, with `left` groups left to open.
 #[cycle(atom_level)]
-fn atom(
-    src: &[u8],
-    table: &mut [u64],
-    s: State,
-    parent: usize,
-    left: usize,
-) -> Result<State, Refused>
+fn atom(src: &[u8], table: &mut [u64], s: State, parent: usize, left: usize) -> Result<State, Halt>
     requires { Room src.now (going s) × (left ≤ max_groups) }
     ensures { ReadsOperand src.now left <atom> parent (going s) (standing result) table.old table.new }
 {
@@ -68,7 +62,7 @@ fn level(
     parent: usize,
     left: usize,
     at: u8,
-) -> Result<State, Refused>
+) -> Result<State, Halt>
     requires { Room src.now (going s) × (left ≤ max_groups) × (at ≤ LEVELS) }
     ensures { ReadsOperand src.now left (level_rule at) parent (going s) (standing result) table.old table.new }
 {
@@ -87,7 +81,7 @@ fn level(
 }
 
 // A whole expression, whose rows have the parent.
-pub fn expression(src: &[u8], table: &mut [u64], s: State, parent: usize) -> Result<State, Refused>
+pub fn expression(src: &[u8], table: &mut [u64], s: State, parent: usize) -> Result<State, Halt>
     requires { Room src.now (going s) }
     ensures { ReadsOperand src.now max_groups <or> parent (going s) (standing result) table.old table.new }
 {

@@ -10,13 +10,13 @@ ghost use Rattle.walk.specs.Walked.{Room, TakesSymbols, OpensSet, WalkedUnder};
 
 use crate::items::{CONDITIONS, items};
 use crate::steps::{close, flat, read_phrase};
-use crate::{Refused, State};
+use crate::{Halt, State};
 use elements::noted::nothing_noted;
 use elements::{KEPT, phrase};
 use fields::form_set_row;
 use lexemes::classes::*;
 
-fn form(src: &[u8], table: &mut [u64], s: State) -> Result<State, Refused>
+fn form(src: &[u8], table: &mut [u64], s: State) -> Result<State, Halt>
     requires { Room src.now (going s) }
     ensures { WalkedUnder src.now (depth 0 0) (r <form> ∷ []) 0 (going s) (standing result) table.old table.new }
 {
@@ -26,7 +26,7 @@ fn form(src: &[u8], table: &mut [u64], s: State) -> Result<State, Refused>
 }
 
 // One or more forms.
-pub fn form_list(src: &[u8], table: &mut [u64], s: State) -> Result<State, Refused>
+pub fn form_list(src: &[u8], table: &mut [u64], s: State) -> Result<State, Halt>
     requires { Room src.now (going s) }
     ensures { WalkedUnder src.now (depth 0 0) (r <form> ∷ r <form>* ∷ []) 0 (going s) (standing result) table.old table.new }
 {
@@ -38,7 +38,7 @@ pub fn form_list(src: &[u8], table: &mut [u64], s: State) -> Result<State, Refus
 }
 
 // The rest of a form set's opening, from the inner brace of its GUID on, if there is one.
-fn guid_end(src: &[u8], s: State, kept: &mut [u64]) -> Result<State, Refused>
+fn guid_end(src: &[u8], s: State, kept: &mut [u64]) -> Result<State, Halt>
     requires { Within src.now s.token }
     ensures { TakesSymbols src.now (r <guid_end> ∷ title_and_help) (going s) (standing result) kept.old kept.new }
 {
@@ -49,7 +49,7 @@ fn guid_end(src: &[u8], s: State, kept: &mut [u64]) -> Result<State, Refused>
 }
 
 // The form set's opening, with its row.
-pub fn open_form_set(src: &[u8], table: &mut [u64]) -> Result<State, Refused>
+pub fn open_form_set(src: &[u8], table: &mut [u64]) -> Result<State, Halt>
     ensures { OpensSet src.now (standing result) table.old table.new }
 {
     let first = State {

@@ -14,7 +14,7 @@ ghost use Rattle.walk.specs.Walked.{Room, Reads, OpensCondition, WalkedUnder, Re
 use crate::expressions::expression;
 use crate::starts::{is_condition, starts_item};
 use crate::steps::{close, flat, put_phrase_row, read_phrase, too_deep, word};
-use crate::{Refused, State};
+use crate::{Halt, State};
 use elements::noted::with_outside;
 use elements::{KEPT, phrase};
 use fields::{first_oversized, rule_row};
@@ -24,7 +24,7 @@ use lexemes::classes::*;
 pub const CONDITIONS: usize = 16;
 
 // One or more options of the oneof in row `parent`.
-fn option_list(src: &[u8], table: &mut [u64], s: State, parent: usize) -> Result<State, Refused>
+fn option_list(src: &[u8], table: &mut [u64], s: State, parent: usize) -> Result<State, Halt>
     requires { Room src.now (going s) }
     ensures { ReadsUnder src.now (r <option> ∷ r <option>* ∷ []) parent (going s) (standing result) table.old table.new }
 {
@@ -35,7 +35,7 @@ fn option_list(src: &[u8], table: &mut [u64], s: State, parent: usize) -> Result
     Ok(s)
 }
 
-fn one_of(src: &[u8], table: &mut [u64], s: State, parent: usize) -> Result<State, Refused>
+fn one_of(src: &[u8], table: &mut [u64], s: State, parent: usize) -> Result<State, Halt>
     requires { Room src.now (going s) × (s.token.class ≡ «oneof») }
     ensures { ReadsUnder src.now (r <item> ∷ []) parent (going s) (standing result) table.old table.new }
 {
@@ -45,7 +45,7 @@ fn one_of(src: &[u8], table: &mut [u64], s: State, parent: usize) -> Result<Stat
 }
 
 // A numeric, with its row; the first of its numbers that does not fit its size is noted after the faults in its phrase.
-fn numeric(src: &[u8], table: &mut [u64], s: State, parent: usize) -> Result<State, Refused>
+fn numeric(src: &[u8], table: &mut [u64], s: State, parent: usize) -> Result<State, Halt>
     requires { Room src.now (going s) × (s.token.class ≡ «numeric») }
     ensures { ReadsUnder src.now (r <item> ∷ []) parent (going s) (standing result) table.old table.new }
 {
@@ -61,7 +61,7 @@ fn numeric(src: &[u8], table: &mut [u64], s: State, parent: usize) -> Result<Sta
 }
 
 // A rule's word, name and comma, and its row.
-fn open_rule(src: &[u8], table: &mut [u64], s: State, parent: usize) -> Result<State, Refused>
+fn open_rule(src: &[u8], table: &mut [u64], s: State, parent: usize) -> Result<State, Halt>
     requires { Room src.now (going s) }
     ensures { Reads src.now (symbols_of RULE_OPEN) (Counted (RuleRow src.now parent)) (going s) (standing result) table.old table.new }
 {
@@ -77,7 +77,7 @@ fn open_rule(src: &[u8], table: &mut [u64], s: State, parent: usize) -> Result<S
     })
 }
 
-fn rule(src: &[u8], table: &mut [u64], s: State, parent: usize) -> Result<State, Refused>
+fn rule(src: &[u8], table: &mut [u64], s: State, parent: usize) -> Result<State, Halt>
     requires { Room src.now (going s) × (s.token.class ≡ «rule») }
     ensures { WalkedUnder src.now (depth 0 0) (r <rule> ∷ []) parent (going s) (standing result) table.old table.new }
 {
@@ -87,7 +87,7 @@ fn rule(src: &[u8], table: &mut [u64], s: State, parent: usize) -> Result<State,
 }
 
 // A condition's word, expression and `;`.
-fn open_condition(src: &[u8], table: &mut [u64], s: State, parent: usize) -> Result<State, Refused>
+fn open_condition(src: &[u8], table: &mut [u64], s: State, parent: usize) -> Result<State, Halt>
     requires { Room src.now (going s) × (is_condition s.token.class ≡ true) }
     ensures { OpensCondition src.now parent (going s) (standing result) table.old table.new }
 {
@@ -97,7 +97,7 @@ fn open_condition(src: &[u8], table: &mut [u64], s: State, parent: usize) -> Res
 }
 
 // An item that is no condition.
-fn item(src: &[u8], table: &mut [u64], s: State, parent: usize) -> Result<State, Refused>
+fn item(src: &[u8], table: &mut [u64], s: State, parent: usize) -> Result<State, Halt>
     requires { Room src.now (going s) × (starts_item s.token.class ≡ true) }
     ensures { ReadsUnder src.now (r <item> ∷ []) parent (going s) (standing result) table.old table.new }
 {
@@ -120,7 +120,7 @@ pub fn items(
     s: State,
     parent: usize,
     left: usize,
-) -> Result<State, Refused>
+) -> Result<State, Halt>
     requires { Room src.now (going s) × (left ≤ max_conditions) }
     ensures { ReadsItems src.now left parent (going s) (standing result) table.old table.new }
 {

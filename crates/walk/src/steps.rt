@@ -12,16 +12,17 @@ ghost use Rattle.walk.specs.Meanings.{Counted, Worded};
 ghost use Rattle.walk.specs.Standing.{going, standing, refused_deep};
 ghost use Rattle.walk.specs.Walked.{Room, Reads, Takes, Closes, WithRow, passed, ReadsRow};
 
-use crate::{Reason, Refused, State};
+use crate::{Halt, State};
 use elements::KEPT;
 use fields::{phrase_row, word_row};
 use lex::Token;
+use refusals::Reason;
 
 // The walk is refused at its token, which opens a depth too many.
-pub fn too_deep(s: State) -> Result<State, Refused>
+pub fn too_deep(s: State) -> Result<State, Halt>
     ensures { result ≡ Err (refused_deep s) }
 {
-    Err(Refused {
+    Err(Halt {
         reason: Reason::TooDeep,
         token: s.token,
     })
@@ -38,13 +39,13 @@ pub fn past(src: &[u8], s: State) -> State
 }
 
 // A phrase, whose entries are kept.
-pub fn read_phrase(src: &[u8], s: State, phrase: u8, kept: &mut [u64]) -> Result<State, Refused>
+pub fn read_phrase(src: &[u8], s: State, phrase: u8, kept: &mut [u64]) -> Result<State, Halt>
     requires { Within src.now s.token }
     ensures { Takes src.now phrase (going s) (standing result) kept.old kept.new }
 {
     let c = phrases::read(src, 0, s.token, s.noted, phrase, kept);
     if c.no != 0 {
-        return Err(Refused {
+        return Err(Halt {
             reason: Reason::Syntax,
             token: c.token,
         });
@@ -57,7 +58,7 @@ pub fn read_phrase(src: &[u8], s: State, phrase: u8, kept: &mut [u64]) -> Result
 }
 
 // A phrase that makes no row.
-pub fn close(src: &[u8], s: State, phrase: u8) -> Result<State, Refused>
+pub fn close(src: &[u8], s: State, phrase: u8) -> Result<State, Halt>
     requires { Within src.now s.token }
     ensures { Closes src.now phrase (going s) (standing result) }
 {
@@ -81,7 +82,7 @@ pub fn flat(
     s: State,
     parent: usize,
     phrase: u8,
-) -> Result<State, Refused>
+) -> Result<State, Halt>
     requires { Room src.now (going s) × (phrase ≤ GROUP_CLOSE) }
     ensures { ReadsRow src.now phrase parent (going s) (standing result) table.old table.new }
 {

@@ -11,8 +11,8 @@ returns-then-circle-ne0 c =
     let refused = c.if-circle-ne0.true in
     let refuse = c.refuse.ensures in record { result_value = rw refuse.0 (circle_answer pre start.settle.ensures.table_after circle refused); table_after = circle_table pre start.settle.ensures.table_after circle refused refuse.1 }
 
-pub overflow_sub-result-2 : goal.overflow_sub-result-2
-overflow_sub-result-2 c =
+pub overflow_sub-free-2 : goal.overflow_sub-free-2
+overflow_sub-free-2 c =
     let start = c in
     used_few start.requires start.settle.ensures.used_after c.used_count.ensures
 

@@ -1,11 +1,12 @@
 -- The codes of operators of two operands are three runs of numbers; no other row of an expression has one.
-use Prim.Native.Nat.{ℕ, suc}
+use Prim.Native.Nat.{ℕ, suc, ◌≤◌}
+use native.Mathlib.Decide.{dec_lt}
 use native.Mathlib.Omega.{arith}
 use mathlib.Core.Path.{◌≡◌, refl, sym, ap, ◌∙◌}
-use mathlib.Core.Bool.{Bool, true, false, true≢false, ◌&&◌, ◌||◌, and-false}
+use mathlib.Core.Bool.{Bool, true, false, true≢false, ◌&&◌, ◌||◌, and-false, or-true}
 use mathlib.Core.List.{map}
 use lib.Dec.{leb}
-use borrow.Author.Tests.{lt-leb}
+use borrow.Author.Tests.{lt-leb, le-leb}
 use Rattle.rows.specs.Codes as code
 use Rattle.rows.proofs.ListedCodes.{agree, below, listed_exactly}
 use Rattle.operators.specs.Values.{operations}
@@ -25,6 +26,36 @@ unfolding is_binary operations agree below code.member
 is_binary_lem =
     listed_exactly in_runs (map (λ o. o.0) operations) (suc code.MODULO) refl refl
     (λ k h. simp (lt-leb k code.OR (omega arith), lt-leb k code.BITWISE_OR (omega arith), lt-leb k code.MODULO h, and-false))
+
+-- so a code in a run is one, and a code in none is not
+
+inside : (a b k : ℕ) → a ≤ k → k ≤ b → (leb a k && leb k b) ≡ true
+inside a b k h l = rw (le-leb a k h, le-leb k b l)
+
+outside : (a b k : ℕ) → (a ≤ k → k ≤ b → ⊥) → (leb a k && leb k b) ≡ false
+outside a b k f =
+    elim (dec_lt k a) [
+      | yes h ↦ rw (lt-leb a k h)
+      | no h ↦ elim (dec_lt b k) [ yes l ↦ rw (lt-leb k b l, and-false (leb a k)) | no l ↦ absurd (f (omega arith) (omega arith)) ]
+    ]
+
+module _ (k : ℕ) where
+  pub binary_logic : code.AND ≤ k → k ≤ code.OR → true ≡ is_binary k
+  binary_logic h l = rw (inside code.AND code.OR k h l) at (is_binary_lem k)
+
+  pub binary_equal : code.EQUAL ≤ k → k ≤ code.BITWISE_OR → true ≡ is_binary k
+  binary_equal h l = rw (inside code.EQUAL code.BITWISE_OR k h l, or-true (leb code.AND k && leb k code.OR)) at (is_binary_lem k)
+
+  pub binary_shift : code.SHIFT_LEFT ≤ k → k ≤ code.MODULO → true ≡ is_binary k
+  binary_shift h l =
+      rw (inside code.SHIFT_LEFT code.MODULO k h l, or-true ((leb code.AND k && leb k code.OR) || (leb code.EQUAL k && leb k code.BITWISE_OR)))
+      at (is_binary_lem k)
+
+  pub binary_none :
+      (code.AND ≤ k → k ≤ code.OR → ⊥) → (code.EQUAL ≤ k → k ≤ code.BITWISE_OR → ⊥) → (code.SHIFT_LEFT ≤ k → k ≤ code.MODULO → ⊥)
+      → false ≡ is_binary k
+  binary_none f g h =
+      rw (outside code.AND code.OR k f, outside code.EQUAL code.BITWISE_OR k g, outside code.SHIFT_LEFT code.MODULO k h) at (is_binary_lem k)
 
 -- ---- the operators of expressions
 

@@ -1,8 +1,8 @@
--- The first values of lent numbers as a stack.
+-- The first values of a list as a stack.
 use Prim.Native.Nat.{ℕ, zero, suc, ◌+◌, ◌-◌, ◌≤◌, ◌<◌}
 use native.Mathlib.Omega.{arith}
 use native.Mathlib.Decide.{dec_lt}
-use mathlib.Core.Path.{◌≡◌, refl, ap, ap₂, ◌∙◌}
+use mathlib.Core.Path.{◌≡◌, refl, ap, ap₂}
 use mathlib.Core.Bool.{cond}
 use mathlib.Core.List.{List, ◌∷◌}
 use lib.Dec.{ltb}
@@ -15,8 +15,8 @@ use Rattle.stored.proofs.StoredLaws.{value_outside, room_with, value_same, value
 use Rattle.evaluate.specs.Machine.{pushed, top, under}
 use Rattle.evaluate.specs.Lent.{stacked}
 
-module _ (s : List ℕ) where
-  length_stacked : (h : ℕ) → length (stacked s h) ≡ h
+module _ (s : List Scalar) where
+  pub length_stacked : (h : ℕ) → length (stacked s h) ≡ h
   unfolding stacked
   length_stacked zero = refl
   length_stacked (suc h) = ap suc (length_stacked h)
@@ -32,15 +32,14 @@ module _ (s : List ℕ) where
   unfolding stacked
   top_empty h e = rw e
 
+  pub under_empty : (h : ℕ) → h ≡ 0 → under (stacked s h) ≡ stacked s h
+  unfolding stacked
+  under_empty h e = rw e refl
+
   pub under_stacked : (h : ℕ) → under (stacked s h) ≡ stacked s (h - 1)
   unfolding stacked
   under_stacked zero = refl
   under_stacked (suc h) = let z : suc h - 1 ≡ h = omega arith in rw z
-
-  pub under_twice : (h : ℕ) → under (under (stacked s h)) ≡ stacked s (h - 2)
-  under_twice h =
-      let z : h - 1 - 1 ≡ h - 2 = omega arith in
-      ap under (under_stacked h) ∙ under_stacked (h - 1) ∙ ap (stacked s) z
 
   -- ---- a value put
 

@@ -73,7 +73,7 @@ module _ (questions rules : ℕ → Scalar) where
       (w.0, (w.1, λ c i j k z. expression_meaning w.1.derives w.1.depths k z))
 
 -- and for ascending answers the code's questions answer what W-202 says: so of the value that the code gives
-module _ (answers gotos checkboxes rules : List ℕ) (ascending : Ascending answers) where
+module _ (answers gotos checkboxes : List ℕ) (rules : List Scalar) (ascending : Ascending answers) where
   pub value_meaning :
       {t : List ℕ} {first end : ℕ} {e : Formula} → Spells t first e end → need e ≤ ROOM
       → value_in answers gotos checkboxes rules t first end ≡ meaning (answered answers gotos checkboxes) (value_at rules) e

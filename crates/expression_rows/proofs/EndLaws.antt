@@ -1,5 +1,7 @@
 -- Where the rows of an expression end, by the code's tests; and the value of what follows a row.
-use Prim.Native.Nat.{ℕ, suc, ◌+◌, ◌-◌, ◌≤◌, ◌<◌}
+use Prim.Native.Nat.{ℕ, zero, suc, max, ◌+◌, ◌-◌, ◌≤◌, ◌<◌}
+use native.Mathlib.Decide.{dec_lt}
+use Rattle.std.specs.Prelude.{Option, Some, None, MatchOption, unwrap_or}
 use mathlib.Core.Path.{◌≡◌, sym, ap, ◌∙◌}
 use mathlib.Core.Bool.{true, false}
 use mathlib.Core.List.{List}
@@ -28,11 +30,37 @@ module _ (t : List ℕ) (count i : ℕ) where
     unfolding end_of
     end_on e = let z : count - i ≡ suc (count - suc i) = omega arith in rw (z, e)
 
-    -- as the loop goes on
-    pub end_next : is_expression (cell_at t i column.CODE) ≡ true → end_from t count (i + 1) ≡ end_from t count i
-    end_next e = ap (end_from t count) (add-one i) ∙ sym (end_on e)
+module _ (t : List ℕ) (count : ℕ) where
+  -- n rows of expressions, and then one that is none
+  pub end_parts :
+      (n i j : ℕ) → j ≡ i + n → j ≤ count → ((k : ℕ) → i ≤ k → k < j → is_expression (cell_at t k column.CODE) ≡ true)
+      → (j < count → is_expression (cell_at t j column.CODE) ≡ false) → end_from t count i ≡ j
+  end_parts zero i j e h parts ends =
+      let same : i ≡ j = omega arith in
+      rw same (elim (dec_lt j count) [ yes l ↦ end_here t count j l (ends l) | no l ↦ end_none t count j (omega arith) ])
+  end_parts (suc n) i j e h parts ends =
+      end_on t count i (omega arith) (parts i (omega arith) (omega arith))
+      ∙ end_parts n (suc i) j (omega arith) h (λ k a b. parts k (omega arith) b) ends
 
-module _ (answers gotos checkboxes rules t : List ℕ) where
+  -- what `find` finds of the rows from `from` on
+  pub end_found :
+      (from : ℕ) (r : Option ℕ)
+      → MatchOption r ((k : ℕ) → from ≤ k → k < count → is_expression (cell_at t k column.CODE) ≡ true)
+      (λ i. (from ≤ i) × (i < count) × (is_expression (cell_at t i column.CODE) ≡ false)
+      × ((k : ℕ) → from ≤ k → k < i → is_expression (cell_at t k column.CODE) ≡ true))
+      → unwrap_or r (max from count) ≡ end_from t count from
+  end_found from (Some i) (up, inside, ends, parts) = sym (end_parts (i - from) from i (omega arith) (omega arith) parts (λ h. ends))
+  end_found from None parts =
+      elim (dec_lt from count) [
+        | yes h ↦
+            let last : max from count ≡ count = omega arith in
+            last ∙ sym (end_parts (count - from) from count (omega arith) (omega arith) parts (λ l. absurd (omega arith)))
+        | no h ↦
+            let last : max from count ≡ from = omega arith in
+            last ∙ sym (end_none t count from (omega arith))
+      ]
+
+module _ (answers gotos checkboxes : List ℕ) (rules : List Scalar) (t : List ℕ) where
   -- no rows have no value
   pub value_empty : (i : ℕ) → value_in answers gotos checkboxes rules t i i ≡ Undefined
   unfolding evaluated after_rows

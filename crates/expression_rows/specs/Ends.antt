@@ -17,5 +17,5 @@ abbrev pub end_from : List ℕ → ℕ → ℕ → ℕ
 end_from t count i = end_of t i (count - i)
 
 -- the value of the expression that follows row i, one of the first `count`; undefined where none follows
-abbrev pub value_after : (answers gotos checkboxes rules t : List ℕ) (count i : ℕ) → Scalar
+abbrev pub value_after : (answers gotos checkboxes : List ℕ) (rules : List Scalar) (t : List ℕ) (count i : ℕ) → Scalar
 value_after answers gotos checkboxes rules t count i = value_in answers gotos checkboxes rules t (suc i) (end_from t count (suc i))

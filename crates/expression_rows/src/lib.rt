@@ -4,8 +4,7 @@
 ghost use Rattle.std.specs.Prelude.{◌≡◌};
 ghost use Rattle.expression_rows.specs.Ends.{end_from, value_after};
 
-use evaluate::evaluate;
-use numbers::Map;
+use evaluate::{Known, evaluate};
 use operators::Scalar;
 use rows::columns::CODE;
 use rows::{cell, codes};
@@ -14,32 +13,19 @@ use rows::{cell, codes};
 pub fn expression_end(table: &[u64], from: usize, count: usize) -> usize
     ensures { result ≡ end_from table.now count from }
 {
-    let mut row = from;
-    while row < count {
-        if !codes::is_expression(cell(table, row, CODE)) {
-            return row;
-        }
-        row += 1;
-    }
-    row
+    (from..count)
+        .find(|&row| !codes::is_expression(cell(table, row, CODE)))
+        .unwrap_or(from.max(count))
 }
 
-// The value of the expression that follows a row, one of the first `count`; `rules` holds the rules' values, by their
-// numbers.
-pub fn value_after(
-    table: &[u64],
-    count: usize,
-    row: usize,
-    answers: &[u64],
-    gotos: &Map,
-    checkboxes: &Map,
-    rules: &[u64],
-) -> Scalar
-    ensures { result ≡ value_after answers.now gotos.now checkboxes.now rules.now table.now count row }
+// The value of the expression that follows a row, one of the first `count`.
+pub fn value_after(table: &[u64], count: usize, row: usize, known: Known) -> Scalar
+    ensures { result ≡ value_after known.entry.answers.saved.now known.entry.answers.gotos.now
+        known.entry.answers.checkboxes.now known.entry.rules.now table.now count row }
 {
     if count <= row {
         return Scalar::Undefined;
     }
     let end = expression_end(table, row + 1, count);
-    evaluate(table, row + 1, end, answers, gotos, checkboxes, rules)
+    evaluate(table, row + 1, end, known)
 }

@@ -1,27 +1,19 @@
--- `expression_rows::expression_end` meets its contract: the end from the loop's row is the end from the start.
-use mathlib.Core.Path.{refl, sym, ap, ◌∙◌}
+-- `expression_rows::expression_end` meets its contract.
+use mathlib.Core.Path.{◌≡◌, ap, ◌∙◌}
+use mathlib.Core.Bool.{true, false}
+use borrow.Author.Rules.{rules}
+use Rattle.std.proofs.lemmas.Iterator.{first_from_Range}
+use Rattle.std.specs.Prelude.{unwrap_or}
+use Rattle.expression_rows.proofs.EndLaws.{end_found}
 use Rattle.rows.specs.Codes.{is_expression}
-use Rattle.expression_rows.proofs.EndLaws.{end_none, end_here, end_next}
+use Rattle.rows.specs.Columns as column
+use Rattle.rows.specs.Table.{cell_at}
 use Rattle.expression_rows.proofs.expression_end.Goals as goal
 
-pub loop-row-init : goal.loop-row-init
-loop-row-init c = refl
-
-pub returns-then-not-is_expression : goal.returns-then-not-is_expression
-returns-then-not-is_expression c =
-    let l = c in
-    let s = l in
-    let code = ap is_expression (sym c.cell.ensures) ∙ sym c.is_expression.ensures in
-    sym (end_here s.args.table.now s.args.count l.loop-row.row c.loop-row-test.true (code ∙ c.if-not-is_expression.true))
-    ∙ l.loop-row.invariant
-
-pub loop-row-preserved : goal.loop-row-preserved
-loop-row-preserved c =
-    let l = c in
-    let s = l in
-    let code = ap is_expression (sym c.cell.ensures) ∙ sym c.is_expression.ensures in
-    end_next s.args.table.now s.args.count l.loop-row.row c.loop-row-test.true (code ∙ c.if-not-is_expression.false)
-    ∙ l.loop-row.invariant
-
 pub returns : goal.returns
-returns c = sym (end_none _ _ c.loop-row.row c.loop-row-test.false) ∙ c.loop-row.invariant
+returns c =
+    let a = c.args in
+    let first =
+    first_from_Range _ _ _ c.find.result (λ row. is_expression (cell_at a.table.now row column.CODE) ≡ false)
+    (λ row. is_expression (cell_at a.table.now row column.CODE) ≡ true) c.find.ensures.ran (λ x q h. search rules) (λ x q h. search rules) in
+    c.unwrap_or.ensures ∙ ap (unwrap_or c.find.result) c.max.ensures ∙ end_found a.table.now a.count a.from c.find.result first

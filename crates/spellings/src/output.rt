@@ -1,0 +1,34 @@
+// A lent output, and bytes that are added to it.
+ghost use Rattle.std.specs.Prelude.{◌≡◌, [], ◌∷◌};
+ghost use Rattle.spellings.specs.Printed.{Written};
+
+// An output with the count of its bytes so far: they are written where they fit, and all are counted.
+#[derive(Drop)]
+pub struct Output<'a> {
+    pub bytes: &'a mut [u8],
+    pub at: usize,
+}
+
+impl Output<'_> {
+    // A byte more.
+    pub fn put(&mut self, byte: u8)
+        ensures { Written self.old (byte ∷ []) self.new }
+    {
+        if self.at < self.bytes.len() {
+            self.bytes[self.at] = byte;
+        }
+        self.at = self.at.saturating_add(1);
+    }
+
+    // The bytes of a text.
+    pub fn write(&mut self, text: &[u8])
+        ensures { Written self.old text.now self.new }
+    {
+        let room = self.bytes.len();
+        let next = self.at.saturating_add(text.len());
+        let start = self.at.min(room);
+        let end = next.min(room);
+        self.bytes[start..end].copy_from_slice(&text[..end - start]);
+        self.at = next;
+    }
+}

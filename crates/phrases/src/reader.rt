@@ -23,13 +23,12 @@ pub struct Standing {
 
 // The faults that are noted, with the token, which suits the element: a number may be out of its range.
 fn note_range(src: &[u8], noted: Noted, token: Token, want: u8) -> Noted
-    requires { token.start + 1 < 2 ^ 64 }
     ensures { result ≡ noting noted (map outside (out_of src.now (element_range want token.class) (token.start ∷ []))) }
 {
-    if (noted.outside != 0) || in_range(src, token, want) {
+    if noted.outside.is_some() || in_range(src, token, want) {
         return noted;
     }
-    with_outside(noted, token.start + 1)
+    with_outside(noted, Some(token.start))
 }
 
 // The reader past the token, which suits the element.
@@ -58,7 +57,7 @@ fn take_flags(src: &[u8], at: Standing, kept: &mut Entries, want: u8) -> Result<
     let mut word = at.token;
     let mut words = flags::no_words();
     loop {
-        words = flags::with_word(words, word.class, word.start + 1);
+        words = flags::with_word(words, word.class, word.start);
         let bar = lex::token_at(src, word.end);
         if bar.class != BAR {
             kept.push(flags::list_entry(want, words));

@@ -6,17 +6,17 @@ use Rattle.grammar.specs.Ranges.{out_of}
 use Rattle.elements.specs.Kinds.{element_range}
 use Rattle.elements.specs.Marks.{noting}
 use Rattle.elements.proofs.MarkLaws.{outside_stays}
-use Rattle.phrases.proofs.reader.note_range.Goals.{then-noted-ne0-via-then-noted-ne0, then-noted-ne0-via-else-noted-ne0+then-in_range}
+use Rattle.phrases.proofs.reader.note_range.Goals.{then-is_some-via-then-is_some, then-is_some-via-else-is_some+then-in_range}
 use Rattle.phrases.proofs.reader.note_range.Goals as goal
 
-pub returns-then-noted-ne0 : goal.returns-then-noted-ne0
+pub returns-then-is_some : goal.returns-then-is_some
 unfolding noting
-returns-then-noted-ne0 c =
+returns-then-is_some c =
     let args = c.args in
     let p = args.token.start in
-    elim c.then-noted-ne0.branch [
-      | then-noted-ne0-via-then-noted-ne0 w ↦ sym (outside_stays args.noted (out_of args.src.now (element_range args.want args.token.class) (p ∷ [])) w.if-noted-ne0.true)
-      | then-noted-ne0-via-else-noted-ne0+then-in_range w ↦ rw (sym w.in_range.ensures ∙ w.if-in_range.true)
+    elim c.then-is_some.branch [
+      | then-is_some-via-then-is_some w ↦ sym (outside_stays args.noted (out_of args.src.now (element_range args.want args.token.class) (p ∷ [])) (sym c.is_some.ensures ∙ w.if-is_some.true))
+      | then-is_some-via-else-is_some+then-in_range w ↦ rw (sym w.in_range.ensures ∙ w.if-in_range.true)
     ]
 
 pub returns : goal.returns

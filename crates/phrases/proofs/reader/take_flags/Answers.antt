@@ -1,20 +1,12 @@
 -- `phrases::reader::take_flags` meets its contract. The loop's invariant: nothing is kept yet, the rest of the list is the rest of the whole,
 -- and the token is a flag word within the source; the measure is the tokens left.
 use mathlib.Core.Path.{refl, sym, ◌∙◌}
-use native.Mathlib.Omega.{arith}
-use Rattle.elements.proofs.KindLaws.{flag_below}
 use Rattle.phrases.proofs.Streams.{within_at}
 use Rattle.phrases.proofs.FlagLoop.{going_on, flags_refused, loop_last, loop_fewer, loop_more}
 use Rattle.phrases.proofs.reader.take_flags.Goals as goal
 
 pub loop-kept-init : goal.loop-kept-init
 loop-kept-init c = let given = c.requires in rw c.no_words-words.ensures (refl, going_on _ _ _ given.0, given.1, given.2)
-
-pub overflow_add-word : goal.overflow_add-word
-overflow_add-word c =
-    let i = c.loop-kept.invariant in
-    let inside = i.3 (flag_below _ _ i.1.is_list i.2) in
-    record { fits = omega arith }
 
 pub returns-then-bar-ne-BAR-clause-reads : goal.returns-then-bar-ne-BAR-clause-reads
 returns-then-bar-ne-BAR-clause-reads c =

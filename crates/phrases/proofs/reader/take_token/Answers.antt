@@ -2,9 +2,6 @@
 use Rattle.phrases.specs.Phrase.{taking}
 use Rattle.phrases.proofs.reader.take_token.Goals as goal
 
-pub note_range-noted-requires : goal.note_range-noted-requires
-note_range-noted-requires c = c.requires c.if-want.true
-
 pub push_element-requires : goal.push_element-requires
 push_element-requires c = c.requires c.if-want.true
 

@@ -28,6 +28,7 @@ use Rattle.grammar.specs.Source.{source_tokens}
 use Rattle.grammar.specs.Ranges.{range_of}
 use Rattle.answers.specs.Answer.{drafts}
 use Rattle.phrases.specs.Stream.{stream, refusal, resume}
+use Rattle.rows.specs.Marks.{marked}
 use Rattle.elements.specs.Marks.{nothing_noted}
 use Rattle.elements.proofs.MarkLaws.{second_noted, outside_noted}
 use Rattle.elements.specs.declared.noted.Noted.{Noted}
@@ -123,8 +124,8 @@ module _ {s : List ℕ} {k : lex.Token} {r' : Standing} {t₀ t₁ : List ℕ} (
         table = x.table ∙ rw m.rows;
         rows = x.rows ∙ rw m.rows (omega arith);
         rules = x.counted ∙ rw m.rules (omega arith);
-        second = ap (λ (n : Noted). n.second) x.noted ∙ second_noted s x.trees;
-        outside = ap (λ (n : Noted). n.outside) x.noted ∙ outside_noted s x.trees;
+        second = ap (λ (n : Noted). marked n.second) x.noted ∙ second_noted s x.trees;
+        outside = ap (λ (n : Noted). marked n.outside) x.noted ∙ outside_noted s x.trees;
         few = few z;
       }
 

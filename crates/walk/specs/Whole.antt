@@ -4,6 +4,7 @@
 use Rattle.std.specs.Prelude.{ℕ, ◌≤◌, ◌≡◌, cond, ◌≢◌, eqb, List, map, length, replicate, Result, Ok, Err}
 use Rattle.lexemes.specs.Classes.{END}
 use Rattle.rows.specs.Rows.{put}
+use Rattle.rows.specs.Marks.{marked}
 use Rattle.ll1.specs.Trees.{Trees}
 use Rattle.ll1.specs.Verdict.{Verdict, accepted, ends_early, refused}
 use Rattle.grammar.specs.Derivation.{Derives}
@@ -58,8 +59,8 @@ pub record WalkedWhole (s : List ℕ) (r : Outcome) (t t' : List ℕ) : Type 0 w
   pub rows : r.rows ≡ length (drafts s tree)
   pub rules : r.rules ≡ rules_in tree
   -- the marks, each a place plus one, of the first second word and of the first number out of its range, or 0
-  pub second : r.noted.second ≡ first_mark (second_words tree)
-  pub outside : r.noted.outside ≡ first_mark (out_of_range s tree)
+  pub second : marked r.noted.second ≡ first_mark (second_words tree)
+  pub outside : marked r.noted.outside ≡ first_mark (out_of_range s tree)
   -- each row has a token of its own
   pub few : r.rows ≤ length s
 

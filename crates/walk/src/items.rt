@@ -52,7 +52,7 @@ fn numeric(src: &[u8], table: &mut [u64], s: State, parent: usize) -> Result<Sta
     let mut kept = [0; KEPT];
     let end = read_phrase(src, s, phrase::NUMERIC, &mut kept)?;
     put_phrase_row(src, table, s, parent, kept);
-    let noted = with_outside(end.noted, first_oversized(src, kept) as usize);
+    let noted = with_outside(end.noted, first_oversized(src, kept));
     Ok(State {
         rows: s.rows + 1,
         noted,

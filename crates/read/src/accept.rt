@@ -8,10 +8,11 @@ ghost use Rattle.read.specs.Answers.{found};
 ghost use Rattle.read.specs.Drafted.{Drafted, Ready, table_past12, table_after};
 
 use crate::faults::first_fault;
-use crate::{Accepted, Fault, refuse};
+use crate::{Accepted, refuse};
 use circle_stage::circular_reference;
 use finish::{settle, strip};
 use refusals::Reason;
+use walk::Fault;
 
 // An index on the stack: the heads of the buckets, and room for few names, or for as many as a source can declare.
 const FEW: usize = 1024;

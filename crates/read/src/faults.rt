@@ -3,8 +3,8 @@ ghost use Rattle.std.specs.Prelude.{◌≡◌, Ok};
 ghost use Rattle.answers.specs.Drafts.{drafts_from};
 ghost use Rattle.read.specs.Faults.{stage_fault, first_fault_of, written_after};
 
-use crate::Fault;
 use refusals::Reason;
+use walk::Fault;
 
 // A stage's fault, at the place that its mark tells.
 fn stage(reason: Reason, mark: u64) -> Result<(), Fault>

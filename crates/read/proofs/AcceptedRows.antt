@@ -24,7 +24,7 @@ use Rattle.answers.proofs.Demand3.{rows_whole, accepts_passing, counts_exactly}
 use Rattle.replies.specs.Replies.{Reply, read_reply}
 use Rattle.read.specs.declared.Refusal.{Refusal}
 use Rattle.read.specs.declared.Refusal.TheVariants.{At, TooFewRows}
-use Rattle.read.specs.Answers.{told}
+use Rattle.read.specs.Answers.{refusal_told}
 
 -- the derivation that stages 1 to 5 find is one
 pub derived_derives : (s : List ℕ) (tree : Trees) → checked s ≡ derived tree → Derives (source_tokens s) tree
@@ -58,7 +58,7 @@ accepted_rows s n accepted =
 
 -- ---- a refusal has a number
 
-pub refusal_refused : (s : List ℕ) (n : ℕ) (d : Refusal) → told (Err d) ≡ read_reply s n → (read_answer s n).number ≢ 0
+pub refusal_refused : (s : List ℕ) (n : ℕ) (d : Refusal) → refusal_told d ≡ read_reply s n → (read_answer s n).number ≢ 0
 refusal_refused s n (At reason place line column) e z =
     let number : number_of reason ≡ 0 = ap (λ (r : Reply). r.number) e ∙ z in
     omega (arith, number_bounds reason)

@@ -11,10 +11,10 @@ use Rattle.read.specs.declared.Accepted.{Accepted}
 use Rattle.walk.specs.declared.Fault.{Fault}
 use Rattle.read.specs.declared.Refusal.{Refusal}
 use Rattle.read.specs.declared.Refusal.TheVariants.{TooFewRows}
-use Rattle.read.specs.Answers.{refused, found, told, InFull}
+use Rattle.read.specs.Answers.{refused, found, refusal_told, told, InFull}
 
 module _ (s : List ℕ) where
-  pub needs_told : (need : ℕ) → told (Err (TooFewRows need)) ≡ read_replied s (needs need)
+  pub needs_told : (need : ℕ) → refusal_told (TooFewRows need) ≡ read_replied s (needs need)
   unfolding position_of
   needs_told need = refl
 
@@ -26,7 +26,7 @@ module _ (s : List ℕ) where
 
   pub refused_told :
       {A : Type 0} (o : Result A Fault) (m : Result A Refusal) → InFull s o m → {d : Refusal} → m ≡ Err d
-      → (f : Fault) × (o ≡ Err f) × (told (Err d) ≡ read_replied s (refused f))
+      → (f : Fault) × (o ≡ Err f) × (refusal_told d ≡ read_replied s (refused f))
   refused_told (Ok x) m p h = clash cc
   refused_told (Err f) (Ok x) p h = clash cc
   refused_told (Err f) (Err e) p {d} h = let same : d ≡ e = cc in (f, refl, rw same p)

@@ -1,22 +1,20 @@
 // Stages 7 to 12.
 ghost use Rattle.std.specs.Prelude.{◌≡◌, Ok};
+ghost use Rattle.rows.specs.Marks.{marked};
 ghost use Rattle.answers.specs.Drafts.{drafts_from};
 ghost use Rattle.read.specs.Faults.{stage_fault, first_fault_of, written_after};
 
 use refusals::Reason;
 use walk::Fault;
 
-// A stage's fault, at the place that its mark tells.
-fn stage(reason: Reason, mark: u64) -> Result<(), Fault>
-    ensures { result ≡ stage_fault reason mark (Ok tt) }
+// A stage's fault, at the place that it finds.
+fn stage(reason: Reason, found: Option<usize>) -> Result<(), Fault>
+    ensures { result ≡ stage_fault reason (marked found) (Ok tt) }
 {
-    if mark == 0 {
-        return Ok(());
+    match found {
+        Some(place) => Err(Fault { reason, place }),
+        None => Ok(()),
     }
-    Err(Fault {
-        reason,
-        place: (mark - 1) as usize,
-    })
 }
 
 // The first fault of the rows, by an index of the declared names. Where there is none, the map then has the written

@@ -9,7 +9,7 @@ ghost use Rattle.std.specs.Prelude.{◌≡◌, length, Err};
 ghost use Rattle.rows.specs.Table.{cleared};
 ghost use Rattle.answers.specs.WholeAnswer.{read_table, quick_check};
 ghost use Rattle.replies.specs.Replies.{read_replied, read_reply};
-ghost use Rattle.read.specs.Answers.{refused, told, InFull};
+ghost use Rattle.read.specs.Answers.{refused, refusal_told, told, InFull};
 ghost use Rattle.read.specs.Faults.{fault_at};
 ghost use Rattle.read.specs.Over.{read_over};
 
@@ -62,7 +62,7 @@ fn refuse<T>(table: &mut [u64], reason: Reason, place: usize) -> Result<T, Fault
 
 // The refusal of a fault: line and column are counted where it has a place.
 fn refusal_of(src: &[u8], fault: Fault) -> Refusal
-    ensures { told (Err result) ≡ read_replied src.now (refused fault) }
+    ensures { refusal_told result ≡ read_replied src.now (refused fault) }
 {
     let p = replies::position_of(src, fault.reason.into(), fault.place);
     Refusal::At {

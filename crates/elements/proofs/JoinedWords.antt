@@ -2,24 +2,24 @@
 -- Assumes nothing.
 use Prim.Native.Nat.{ℕ, ◌+◌, ◌*◌}
 use mathlib.Core.Path.{◌≡◌, refl, sym, ap, ◌∙◌}
-use mathlib.Core.Bool.{Bool, true, false, not, cond, ◌||◌, and-false, or-false, or_assoc}
+use mathlib.Core.Bool.{Bool, false, ◌||◌, and-false, or-false, or_assoc}
 use mathlib.Core.List.{List, [], ◌∷◌, map}
 use native.Mathlib.Omega.{arith}
 use lib.Dec.{eqb}
 use Rattle.lexemes.specs.Classes.{«|», «INTERACTIVE», READ_ONLY, RESET_REQUIRED}
-use Rattle.rows.specs.Sizes.{size_and_display}
+use Rattle.std.specs.Prelude.{Option, None, Some}
+use Rattle.std.specs.Option.{is_some, unwrap_or}
+use Rattle.rows.specs.Sizes.{NO_SIZE, UINT_DEC, size_and_display}
 use Rattle.ll1.specs.Trees.{Token, token, Trees, leaves}
 use Rattle.ll1.specs.ParseTable.{member}
-use Rattle.ll1.proofs.Basics.{clash}
 use Rattle.grammar.specs.Parts.{mark, when}
 use Rattle.grammar.specs.Flags.{FlagWord, flag_words, class_of, total, flags}
 use Rattle.grammar.specs.Flags.{size_words, display_words, classes_of, value_or, first_of, size_in, display_in, seconds_after, seconds_in}
-use Rattle.grammar.proofs.FlagTotals.{value_foreign}
-use Rattle.elements.specs.declared.flags.Choice.{Choice}
 use Rattle.elements.specs.declared.flags.Words.{Words}
 use Rattle.elements.specs.Kinds.{FLAG_LIST, NUMERIC_FLAGS}
 use Rattle.elements.specs.Marks.{mark_or, first_mark}
 use Rattle.elements.specs.Words.{no_words, choose, repeats, with_word, bits_of, list_entry, list_second}
+use Rattle.elements.proofs.WordValues.{is_word, value_is, no_value}
 use Rattle.elements.proofs.MarkLaws.{mark_or_none, mark_or_more, first_if}
 
 -- the words w, and those among the tokens
@@ -47,67 +47,40 @@ bits_joined ts =
 
 -- ---- a size and a display: the first word of its sort
 
--- the value of a class that is a word of the sort, and of one that is none
-value_found : (a b : ℕ) (ws : List FlagWord) (k : ℕ) → member k (classes_of ws) ≡ true → value_or a ws k ≡ value_or b ws k
-value_found a b [] k h = clash cc
-value_found a b (w ∷ ws) k h = by (eqb w.class k) h (value_found a b ws k)
-  where
-    by :
-        (t : Bool) → t || member k (classes_of ws) ≡ true → (member k (classes_of ws) ≡ true → value_or a ws k ≡ value_or b ws k)
-        → cond t w.value (value_or a ws k) ≡ cond t w.value (value_or b ws k)
-    by true m later = refl
-    by false m later = later m
-
-value_missed : (a : ℕ) (ws : List FlagWord) (k : ℕ) → member k (classes_of ws) ≡ false → value_or a ws k ≡ a
-value_missed a ws k h = value_foreign a ws k (ap not h)
-
-module _ (c : Choice) (ws : List FlagWord) (k : ℕ) where
-  choose_named : (choose c ws k).named ≡ c.named || member k (classes_of ws)
-  unfolding choose
-  choose_named = by c.named refl (member k (classes_of ws))
+module _ (named : Option ℕ) (ws : List FlagWord) (k : ℕ) where
+  choose_named : is_some (choose named ws k) ≡ is_some named || member k (classes_of ws)
+  choose_named = by named
     where
-      by : (b : Bool) → c.named ≡ b → (t : Bool) → (cond b c (record { named = t; value = value_or c.value ws k })).named ≡ b || t
-      by true e t = e
-      by false e t = refl
+      by : (o : Option ℕ) → is_some (choose o ws k) ≡ is_some o || member k (classes_of ws)
+      by None = is_word ws k
+      by (Some v) = refl
 
   -- a class that is no word of the sort
-  choose_none : member k (classes_of ws) ≡ false → choose c ws k ≡ c
-  unfolding choose
-  choose_none h = rw (h, value_missed c.value ws k h) (by c.named refl)
+  choose_none : member k (classes_of ws) ≡ false → choose named ws k ≡ named
+  choose_none h = by named
     where
-      by : (b : Bool) → c.named ≡ b → cond b c (record { named = false; value = c.value }) ≡ c
-      by true e = refl
-      by false e = ap (λ t. record { named = t; value = c.value }) (sym e)
+      by : (o : Option ℕ) → choose o ws k ≡ o
+      by None = no_value ws k h
+      by (Some v) = refl
 
--- the value that the words of a sort name, after c
-abbrev value_after : Choice → List FlagWord → List ℕ → ℕ
-value_after c ws ks = cond c.named c.value (first_of ws c.value ks)
-
-value_after_lem : (c : Choice) (ws : List FlagWord) (k : ℕ) (ks : List ℕ) → value_after (choose c ws k) ws ks ≡ value_after c ws (k ∷ ks)
-unfolding choose
-value_after_lem c ws k ks = by c.named refl (member k (classes_of ws)) refl
-  where
-    by :
-        (b : Bool) → c.named ≡ b → (t : Bool) → member k (classes_of ws) ≡ t
-        → value_after (cond b c (record { named = t; value = value_or c.value ws k })) ws ks ≡ cond b c.value (value_or (first_of ws c.value ks) ws k)
-    by true e t m = rw e
-    by false e true m = value_found c.value (first_of ws c.value ks) ws k m
-    by false e false m = rw (value_missed c.value ws k m, value_missed (first_of ws c.value ks) ws k m)
-
-module _ (get : Words → Choice) (ws : List FlagWord) (step : (w : Words) (k m : ℕ) → get (with_word w k m) ≡ choose (get w) ws k) where
-  value_joined : (w : Words) (ts : List Token) → (get (joined w ts)).value ≡ value_after (get w) ws (map class_of ts)
-  value_joined w [] = by (get w).named
+  -- the value that the words name, after others
+  choose_value : (other : ℕ) → unwrap_or (choose named ws k) other ≡ unwrap_or named (value_or other ws k)
+  choose_value other = by named
     where
-      by : (b : Bool) → (get w).value ≡ cond b (get w).value (get w).value
-      by true = refl
-      by false = refl
+      by : (o : Option ℕ) → unwrap_or (choose o ws k) other ≡ unwrap_or o (value_or other ws k)
+      by None = value_is ws other k
+      by (Some v) = refl
+
+module _ (get : Words → Option ℕ) (ws : List FlagWord) (step : (w : Words) (k m : ℕ) → get (with_word w k m) ≡ choose (get w) ws k) (other : ℕ) where
+  value_joined : (w : Words) (ts : List Token) → unwrap_or (get (joined w ts)) other ≡ unwrap_or (get w) (first_of ws other (map class_of ts))
+  value_joined w [] = refl
   value_joined w (token k p ∷ ts) =
-      value_joined (with_word w k (mark p)) ts
-      ∙ (ap (λ c. value_after c ws (map class_of ts)) (step w k (mark p)) ∙ value_after_lem (get w) ws k (map class_of ts))
+      let later = first_of ws other (map class_of ts) in
+      value_joined (with_word w k (mark p)) ts ∙ (ap (λ o. unwrap_or o later) (step w k (mark p)) ∙ choose_value (get w) ws k later)
 
 -- ---- the first word of a sort named before
 
-second_joined : (w : Words) (ts : List Token) → (joined w ts).second ≡ mark_or w.second (first_mark (seconds_after w.size.named w.display.named ts))
+second_joined : (w : Words) (ts : List Token) → (joined w ts).second ≡ mark_or w.second (first_mark (seconds_after (is_some w.size) (is_some w.display) ts))
 second_joined w [] = sym (mark_or_none w.second)
 second_joined w (token k p ∷ ts) =
     second_joined (with_word w k (mark p)) ts
@@ -115,7 +88,7 @@ second_joined w (token k p ∷ ts) =
     (mark_or_more w.second (when (repeats w k) (mark p)) (first_mark later) ∙ ap (mark_or w.second) (sym (first_if (repeats w k) p later)))
   where
     later : List ℕ
-    later = seconds_after (w.size.named || member k (classes_of size_words)) (w.display.named || member k (classes_of display_words)) ts
+    later = seconds_after (is_some w.size || member k (classes_of size_words)) (is_some w.display || member k (classes_of display_words)) ts
 
 -- ---- a `|` is no word
 
@@ -128,8 +101,8 @@ joined_bar w p ts =
       or-false w.reset,
       choose_none w.size size_words «|» refl,
       choose_none w.display display_words «|» refl,
-      and-false w.size.named,
-      and-false w.display.named,
+      and-false (is_some w.size),
+      and-false (is_some w.display),
       mark_or_none w.second,
     ))
 
@@ -148,8 +121,8 @@ module _ (c : Trees) where
   numeric_entry_lem =
       rw (
         bits_joined (leaves c),
-        value_joined (λ w. w.size) size_words (λ w k m. refl) no_words (leaves c),
-        value_joined (λ w. w.display) display_words (λ w k m. refl) no_words (leaves c),
+        value_joined (λ w. w.size) size_words (λ w k m. refl) NO_SIZE no_words (leaves c),
+        value_joined (λ w. w.display) display_words (λ w k m. refl) UINT_DEC no_words (leaves c),
       )
 
   pub question_second : list_second FLAG_LIST all ≡ 0

@@ -4,6 +4,7 @@ pub mod MarkLaws
 pub mod TreeLaws
 pub mod Ways
 pub mod ElementKinds
+pub mod WordValues
 pub mod JoinedWords
 pub mod FlagWords
 pub mod Alternatives

@@ -1,11 +1,13 @@
 // The elements of a phrase, and what each asks of a token. Below the kinds here, which start above all classes, an
 // element is a token of that class.
+// Stays: an element is a number, since `suits` and `in_range` answer for every number, and most elements are classes.
 ghost use Rattle.std.specs.Prelude.{◌≡◌, ◌||◌};
 ghost use Rattle.values.specs.Numbers.{value_at};
 ghost use Rattle.ll1.specs.ParseTable.{member};
 ghost use Rattle.grammar.specs.Ranges.{within, keeps};
 ghost use Rattle.elements.specs.Kinds.{numbers, flag_classes, numeric_classes, starts_of, element_range};
 
+use crate::flags::{display, size};
 use lex::Token;
 use lexemes::classes::*;
 
@@ -52,29 +54,20 @@ pub const GROUP: usize = 4;
 fn is_number(class: u8) -> bool
     ensures { result ≡ member class numbers }
 {
-    (class == DECIMAL) | (class == HEX)
+    matches!(class, DECIMAL | HEX)
 }
 
 fn is_flag(class: u8) -> bool
     ensures { result ≡ member class flag_classes }
 {
-    (class == READ_ONLY) | (class == INTERACTIVE) | (class == RESET_REQUIRED)
+    matches!(class, READ_ONLY | INTERACTIVE | RESET_REQUIRED)
 }
 
 // A word of a numeric's FL.
 fn is_numeric_flag(class: u8) -> bool
     ensures { result ≡ member class numeric_classes }
 {
-    (class == READ_ONLY)
-        | (class == INTERACTIVE)
-        | (class == RESET_REQUIRED)
-        | (class == NUMERIC_SIZE_1)
-        | (class == NUMERIC_SIZE_2)
-        | (class == NUMERIC_SIZE_4)
-        | (class == NUMERIC_SIZE_8)
-        | (class == DISPLAY_INT_DEC)
-        | (class == DISPLAY_UINT_DEC)
-        | (class == DISPLAY_UINT_HEX)
+    is_flag(class) | size(class).is_some() | display(class).is_some()
 }
 
 // A token of the class can be, or start, the element.
@@ -108,10 +101,7 @@ fn is_between(src: &[u8], at: usize, low: u64, high: u64) -> bool
 fn word_or_between(src: &[u8], at: usize, word: bool, low: u64, high: u64) -> bool
     ensures { result ≡ (word || within low high (value_at src.now at)) }
 {
-    if word {
-        return true;
-    }
-    is_between(src, at, low, high)
+    word || is_between(src, at, low, high)
 }
 
 // The token, which suits the element, keeps the element's range.

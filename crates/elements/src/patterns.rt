@@ -1,5 +1,10 @@
 // The fixed phrases of the grammar as lists of elements (document 01, Grammar).
+// Stays: what several phrases hold (STR, HEAD) is written out in each, since no constant is joined of others: `[MAYBE, ..HEAD]`.
+ghost use Rattle.std.specs.Prelude.{◌≡◌};
+ghost use Rattle.elements.specs.Symbols.{elements_of};
+
 use crate::kinds::*;
+use crate::phrase;
 use lexemes::classes::*;
 
 // `formset guid = { H8 , H4 , H4 ,`
@@ -346,3 +351,36 @@ pub const RULE_REF: [u8; 4] = [KW_RULEREF, OPEN_PAREN, NAME, CLOSE_PAREN];
 
 // `)`
 pub const GROUP_CLOSE: [u8; 1] = [CLOSE_PAREN];
+
+// The elements of a phrase by its number; a number that no phrase has has none.
+#[tactic(auto, unfolding(crate::specs::Symbols::phrase_elements, crate::specs::Symbols::elements_of))]
+pub fn pattern(phrase: u8) -> &'static [u8]
+    ensures { result.now ≡ elements_of phrase }
+{
+    match phrase {
+        phrase::FORM_SET_OPEN => &FORM_SET_OPEN,
+        phrase::FORM_SET_BRACED => &FORM_SET_BRACED,
+        phrase::FORM_SET_PLAIN => &FORM_SET_PLAIN,
+        phrase::FORM_SET_CLOSE => &FORM_SET_CLOSE,
+        phrase::FORM_OPEN => &FORM_OPEN,
+        phrase::FORM_CLOSE => &FORM_CLOSE,
+        phrase::RULE_OPEN => &RULE_OPEN,
+        phrase::RULE_CLOSE => &RULE_CLOSE,
+        phrase::SUBTITLE => &SUBTITLE,
+        phrase::TEXT => &TEXT,
+        phrase::LABEL => &LABEL,
+        phrase::GOTO => &GOTO,
+        phrase::CHECKBOX => &CHECKBOX,
+        phrase::NUMERIC => &NUMERIC,
+        phrase::ONE_OF_OPEN => &ONE_OF_OPEN,
+        phrase::ONE_OF_CLOSE => &ONE_OF_CLOSE,
+        phrase::OPTION => &OPTION,
+        phrase::CONDITION_CLOSE => &CONDITION_CLOSE,
+        phrase::EXPRESSION_CLOSE => &EXPRESSION_CLOSE,
+        phrase::NUMBER => &NUMBER,
+        phrase::QUESTION_REF => &QUESTION_REF,
+        phrase::RULE_REF => &RULE_REF,
+        phrase::GROUP_CLOSE => &GROUP_CLOSE,
+        _ => &[],
+    }
+}

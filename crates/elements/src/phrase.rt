@@ -1,4 +1,5 @@
 // The phrases by number. A statement's phrase is its whole alternative; other phrases are the fixed parts of one.
+// Stays: a phrase is a number, since `phrases::read` answers for every number: one that no phrase has reads nothing.
 pub const FORM_SET_OPEN: u8 = 0;
 
 pub const FORM_SET_BRACED: u8 = 1;

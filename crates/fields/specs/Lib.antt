@@ -2,3 +2,4 @@ pub mod Words
 pub mod Operators
 pub mod Sizes
 pub mod Phrases
+pub mod Drafted

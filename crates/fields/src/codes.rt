@@ -6,6 +6,8 @@ use lexemes::classes::*;
 use rows::codes;
 
 // The code of a row that is no more than a word: a condition's, an operator's or a constant's. 0 for any other word.
+// Stays: 0 for none, as `word_row` makes a row of any word: `code_of(token.class).unwrap_or(0)`, its only use, is no plainer.
+#[tactic(auto, unfolding(crate::specs::Words::code_of, crate::specs::Words::word_codes))]
 pub fn code_of(class: u8) -> u64
     ensures { result ≡ code_of class }
 {

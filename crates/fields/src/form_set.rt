@@ -10,24 +10,26 @@ use rows::codes;
 use rows::columns::{A, B, FIRST, ROW, SECOND};
 
 // The lowest byte of the number at a mark.
-fn byte(src: &[u8], mark: u64) -> u64
+fn byte(src: &[u8], mark: u64) -> u8
     ensures { result ≡ marked_value (number_at src.now) mark % 256 }
 {
-    value(src, mark) % 256
+    (value(src, mark) % 256) as u8
 }
 
 // The eight bytes of a GUID, the first one highest.
 fn guid_low(src: &[u8], k: [u64; KEPT]) -> u64
     ensures { result ≡ low_of (number_at src.now) (kept k) }
 {
-    byte(src, k[0]) * 0x100_0000_0000_0000
-        + byte(src, k[1]) * 0x1_0000_0000_0000
-        + byte(src, k[2]) * 0x100_0000_0000
-        + byte(src, k[3]) * 0x1_0000_0000
-        + byte(src, k[4]) * 0x100_0000
-        + byte(src, k[5]) * 0x1_0000
-        + byte(src, k[6]) * 0x100
-        + byte(src, k[7])
+    u64::from_be_bytes([
+        byte(src, k[0]),
+        byte(src, k[1]),
+        byte(src, k[2]),
+        byte(src, k[3]),
+        byte(src, k[4]),
+        byte(src, k[5]),
+        byte(src, k[6]),
+        byte(src, k[7]),
+    ])
 }
 
 // A GUID's first three parts, of 32, 16 and 16 bits, the first one highest.

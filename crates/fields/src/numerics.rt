@@ -4,7 +4,7 @@ ghost use Rattle.grammar.specs.Source.{number_at};
 ghost use Rattle.fields.specs.Phrases.{kept, marked_step};
 ghost use Rattle.fields.specs.Sizes.{size_entry, oversized, first_oversized};
 
-use crate::parts::value;
+use crate::parts::{place_of, value};
 use elements::KEPT;
 use rows::displays::UNSIGNED_8;
 
@@ -34,10 +34,10 @@ pub fn step(src: &[u8], mark: u64) -> u64
 fn is_oversized(src: &[u8], size: u64, mark: u64) -> bool
     ensures { result ≡ oversized src.now size mark }
 {
-    if mark == 0 {
+    let Some(at) = place_of(mark) else {
         return false;
-    }
-    !values::value_at(src, (mark - 1) as usize).is_some_and(|n| sizes::fits(size, n))
+    };
+    !values::value_at(src, at).is_some_and(|n| sizes::fits(size, n))
 }
 
 // Of a numeric, the mark of the first of minimum, maximum, step and default that does not fit its size, or 0.
@@ -46,17 +46,10 @@ pub fn first_oversized(src: &[u8], k: [u64; KEPT]) -> u64
     ensures { result ≡ first_oversized src.now (kept k) }
 {
     let size = size_and_display(k[4]) / 4;
-    if is_oversized(src, size, k[5]) {
-        return k[5];
-    }
-    if is_oversized(src, size, k[6]) {
-        return k[6];
-    }
-    if is_oversized(src, size, k[7]) {
-        return k[7];
-    }
-    if is_oversized(src, size, k[8]) {
-        return k[8];
+    for &mark in &[k[5], k[6], k[7], k[8]] {
+        if is_oversized(src, size, mark) {
+            return mark;
+        }
     }
     0
 }

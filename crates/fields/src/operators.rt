@@ -9,6 +9,8 @@ use rows::codes;
 pub const LEVELS: u8 = 9;
 
 // The level of an operator's token, the loosest being 0; LEVELS for any other.
+// Stays: LEVELS for none, since walk's and text's clauses speak of the level of any token, and compare it with others.
+#[tactic(auto, unfolding(crate::specs::Operators::level_of, crate::specs::Operators::operator_levels))]
 pub fn level_of(class: u8) -> u8
     ensures { result ≡ level_of class }
 {
@@ -35,6 +37,8 @@ pub fn level_of(class: u8) -> u8
 }
 
 // The class of an operator's or a constant's word; NAME for any other row.
+// Stays: NAME for none, since text's clauses speak of the class of any row.
+#[tactic(auto, unfolding(crate::specs::Operators::code_class, crate::specs::Operators::code_classes))]
 pub fn class_of(code: u64) -> u8
     ensures { result ≡ code_class code }
 {

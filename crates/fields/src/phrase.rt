@@ -4,117 +4,128 @@ ghost use Rattle.grammar.specs.Source.{number_at};
 ghost use Rattle.answers.specs.Drafts.{encoded};
 ghost use Rattle.fields.specs.Words.{word_draft};
 ghost use Rattle.fields.specs.Phrases.{kept, form_draft, subtitle_draft, text_draft, label_draft, option_draft, number_draft, question_ref_draft, rule_ref_draft, phrase_draft, rule_draft};
+ghost use Rattle.fields.specs.Drafted.{drafted};
 
 use crate::codes::code_of;
-use crate::parts::{plain_row, set_if, value, with_marks};
-use crate::questions::{checkbox_row, goto_row, numeric_row, one_of_row};
+use crate::parts::{Phrase, plain_row, with_marks};
 use elements::KEPT;
+use elements::flags::set_if;
 use lex::Token;
 use lexemes::classes::*;
 use rows::columns::{A, FIRST, FLAGS, OWN, ROW, SECOND};
 use rows::flags::OPTION_DEFAULT;
 use rows::{codes, columns};
 
-// Kept: form number, title.
-fn form_row(src: &[u8], parent: usize, place: usize, k: [u64; KEPT]) -> [u64; ROW]
-    ensures { result ≡ encoded (form_draft (number_at src.now) parent place (kept k)) }
-{
-    let mut r = plain_row(codes::FORM, parent, place);
-    r[OWN] = value(src, k[0]);
-    r[FIRST] = value(src, k[1]);
-    with_marks(r, k[0], 0, 0)
-}
-
-// Kept: text.
-fn subtitle_row(src: &[u8], parent: usize, place: usize, k: [u64; KEPT]) -> [u64; ROW]
-    ensures { result ≡ encoded (subtitle_draft (number_at src.now) parent place (kept k)) }
-{
-    let mut r = plain_row(codes::SUBTITLE, parent, place);
-    r[FIRST] = value(src, k[0]);
-    with_marks(r, 0, 0, 0)
-}
-
-// Kept: help, text.
-fn text_row(src: &[u8], parent: usize, place: usize, k: [u64; KEPT]) -> [u64; ROW]
-    ensures { result ≡ encoded (text_draft (number_at src.now) parent place (kept k)) }
-{
-    let mut r = plain_row(codes::TEXT, parent, place);
-    r[FIRST] = value(src, k[1]);
-    r[SECOND] = value(src, k[0]);
-    with_marks(r, 0, 0, 0)
-}
-
-// Kept: number.
-fn label_row(src: &[u8], parent: usize, place: usize, k: [u64; KEPT]) -> [u64; ROW]
-    ensures { result ≡ encoded (label_draft (number_at src.now) parent place (kept k)) }
-{
-    let mut r = plain_row(codes::LABEL, parent, place);
-    r[OWN] = value(src, k[0]);
-    r
-}
-
-// Kept: text, value, the word DEFAULT.
-fn option_row(src: &[u8], parent: usize, place: usize, k: [u64; KEPT]) -> [u64; ROW]
-    ensures { result ≡ encoded (option_draft (number_at src.now) parent place (kept k)) }
-{
-    let mut r = plain_row(codes::OPTION, parent, place);
-    r[FIRST] = value(src, k[0]);
-    r[FLAGS] = set_if(k[2], OPTION_DEFAULT);
-    r[A] = value(src, k[1]);
-    with_marks(r, 0, k[1], k[2])
-}
-
-// Kept: number.
-fn number_row(src: &[u8], parent: usize, place: usize, k: [u64; KEPT]) -> [u64; ROW]
-    ensures { result ≡ encoded (number_draft (number_at src.now) parent place (kept k)) }
-{
-    let mut r = plain_row(codes::NUMBER, parent, place);
-    r[A] = value(src, k[0]);
-    r
-}
-
-// Kept: a name or 0, a number or 0.
-fn question_ref_row(src: &[u8], parent: usize, place: usize, k: [u64; KEPT]) -> [u64; ROW]
-    ensures { result ≡ encoded (question_ref_draft (number_at src.now) parent place (kept k)) }
-{
-    let mut r = plain_row(codes::QUESTION_REF, parent, place);
-    r[A] = value(src, k[1]);
-    if k[0] == 0 {
-        return with_marks(r, k[1], 0, 0);
+impl Phrase<'_> {
+    // Kept: form number, title.
+    fn form_row(&self) -> [u64; ROW]
+        ensures { result ≡ encoded (drafted form_draft self.now) }
+    {
+        let mut r = self.row(codes::FORM);
+        r[OWN] = self.value(0);
+        r[FIRST] = self.value(1);
+        with_marks(r, self.k[0], 0, 0)
     }
-    with_marks(r, k[0], 0, 0)
-}
 
-// Kept: name.
-fn rule_ref_row(parent: usize, place: usize, k: [u64; KEPT]) -> [u64; ROW]
-    ensures { result ≡ encoded (rule_ref_draft parent place (kept k)) }
-{
-    with_marks(plain_row(codes::RULE_REF, parent, place), k[0], 0, 0)
+    // Kept: text.
+    fn subtitle_row(&self) -> [u64; ROW]
+        ensures { result ≡ encoded (drafted subtitle_draft self.now) }
+    {
+        let mut r = self.row(codes::SUBTITLE);
+        r[FIRST] = self.value(0);
+        with_marks(r, 0, 0, 0)
+    }
+
+    // Kept: help, text.
+    fn text_row(&self) -> [u64; ROW]
+        ensures { result ≡ encoded (drafted text_draft self.now) }
+    {
+        let mut r = self.row(codes::TEXT);
+        r[FIRST] = self.value(1);
+        r[SECOND] = self.value(0);
+        with_marks(r, 0, 0, 0)
+    }
+
+    // Kept: number.
+    #[tactic(auto, unfolding(answers::specs::Drafts::encoded))]
+    fn label_row(&self) -> [u64; ROW]
+        ensures { result ≡ encoded (drafted label_draft self.now) }
+    {
+        let mut r = self.row(codes::LABEL);
+        r[OWN] = self.value(0);
+        r
+    }
+
+    // Kept: text, value, the word DEFAULT.
+    #[tactic(auto, using(crate::proofs::EntryLaws::set_there))]
+    fn option_row(&self) -> [u64; ROW]
+        ensures { result ≡ encoded (drafted option_draft self.now) }
+    {
+        let mut r = self.row(codes::OPTION);
+        r[FIRST] = self.value(0);
+        r[FLAGS] = set_if(self.k[2] != 0, OPTION_DEFAULT);
+        r[A] = self.value(1);
+        with_marks(r, 0, self.k[1], self.k[2])
+    }
+
+    // Kept: number.
+    #[tactic(auto, unfolding(answers::specs::Drafts::encoded))]
+    fn number_row(&self) -> [u64; ROW]
+        ensures { result ≡ encoded (drafted number_draft self.now) }
+    {
+        let mut r = self.row(codes::NUMBER);
+        r[A] = self.value(0);
+        r
+    }
+
+    // Kept: a name or 0, a number or 0.
+    fn question_ref_row(&self) -> [u64; ROW]
+        ensures { result ≡ encoded (drafted question_ref_draft self.now) }
+    {
+        let mut r = self.row(codes::QUESTION_REF);
+        r[A] = self.value(1);
+        let own = if self.k[0] == 0 { self.k[1] } else { self.k[0] };
+        with_marks(r, own, 0, 0)
+    }
+
+    // Kept: name.
+    fn rule_ref_row(&self) -> [u64; ROW]
+        ensures { result ≡ encoded (rule_ref_draft self.now.parent self.now.place (kept self.now.k)) }
+    {
+        with_marks(self.row(codes::RULE_REF), self.k[0], 0, 0)
+    }
 }
 
 // The row of a phrase that starts with the token; one that starts with none of the words here is a number.
+#[tactic(auto, unfolding(crate::specs::Phrases::phrase_draft))]
 pub fn phrase_row(src: &[u8], token: Token, parent: usize, k: [u64; KEPT]) -> [u64; ROW]
     ensures { result ≡ encoded (phrase_draft (number_at src.now) token.class parent token.start (kept k)) }
 {
-    let class = token.class;
     let place = token.start;
-    match class {
-        KW_FORM => form_row(src, parent, place, k),
-        KW_SUBTITLE => subtitle_row(src, parent, place, k),
-        KW_TEXT => text_row(src, parent, place, k),
-        KW_LABEL => label_row(src, parent, place, k),
-        KW_GOTO => goto_row(src, parent, place, k),
-        KW_CHECKBOX => checkbox_row(src, parent, place, k),
-        KW_NUMERIC => numeric_row(src, parent, place, k),
-        KW_ONEOF => one_of_row(src, parent, place, k),
-        KW_OPTION => option_row(src, parent, place, k),
-        KW_QUESTIONREF => question_ref_row(src, parent, place, k),
-        KW_RULEREF => rule_ref_row(parent, place, k),
-        _ => number_row(src, parent, place, k),
+    let phrase = Phrase {
+        src,
+        parent,
+        place,
+        k,
+    };
+    match token.class {
+        KW_FORM => phrase.form_row(),
+        KW_SUBTITLE => phrase.subtitle_row(),
+        KW_TEXT => phrase.text_row(),
+        KW_LABEL => phrase.label_row(),
+        KW_GOTO => phrase.goto_row(),
+        KW_CHECKBOX => phrase.checkbox_row(),
+        KW_NUMERIC => phrase.numeric_row(),
+        KW_ONEOF => phrase.one_of_row(),
+        KW_OPTION => phrase.option_row(),
+        KW_QUESTIONREF => phrase.question_ref_row(),
+        KW_RULEREF => phrase.rule_ref_row(),
+        _ => phrase.number_row(),
     }
 }
 
 // The row of a rule, with its own number and the mark of its name.
+#[tactic(auto, unfolding(answers::specs::Drafts::encoded))]
 pub fn rule_row(parent: usize, place: usize, own: u64, name: u64) -> [u64; ROW]
     ensures { result ≡ encoded (rule_draft parent place own name) }
 {
@@ -125,6 +136,7 @@ pub fn rule_row(parent: usize, place: usize, own: u64, name: u64) -> [u64; ROW]
 }
 
 // The row of a word alone: a condition's, an operator's or a constant's.
+#[tactic(auto, unfolding(answers::specs::Drafts::encoded))]
 pub fn word_row(token: Token, parent: usize) -> [u64; ROW]
     ensures { result ≡ encoded (word_draft token.class parent token.start) }
 {

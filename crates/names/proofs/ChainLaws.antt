@@ -1,14 +1,13 @@
 -- The chains of the index of names.
 use Prim.Native.Nat.{ℕ, suc, ◌+◌, ◌-◌, ◌≤◌, ◌<◌}
 use mathlib.Core.Path.{◌≡◌, refl, sym, ap, ◌∙◌}
-use mathlib.Core.Bool.{Bool, true, false, cond, ◌&&◌, true≢false}
+use mathlib.Core.Bool.{Bool, true, false, cond}
 use mathlib.Core.List.{List, [], ◌∷◌}
 use native.Mathlib.Decide.{ℕ_discrete}
 use native.Mathlib.Omega.{arith}
-use borrow.Author.Tests.{lt-ltb, le-ltb, le-leb, eq-eqb, ne_eqb, ltb-true, ltb-false, leb-true}
-use lib.Dec.{ltb, leb}
+use borrow.Author.Tests.{lt-ltb, le-ltb, eq-eqb, ne_eqb, ltb-true, ltb-false}
+use lib.Dec.{ltb}
 use lib.ListN.{length, get_or, set, length-set}
-use Rattle.numbers.proofs.Ranges.{and_yes}
 use Rattle.names.specs.Names.{link_in, row_in, follow}
 
 module _ (p : ℕ → Bool) where
@@ -97,23 +96,19 @@ pub record Following (p : ℕ → Bool) (es : List ℕ) (first j : ℕ) : Type 0
 pub following_start : (p : ℕ → Bool) (es : List ℕ) (first : ℕ) → Following p es first first
 following_start p es first = record { same = refl }
 
--- the test of the loop
-pub inside : (j n : ℕ) → (ltb 0 j && leb j n) ≡ true → (0 < j) × (j ≤ n)
-inside j n e = let both = and_yes (ltb 0 j) (leb j n) e in (ltb-true 0 j both.0, leb-true j n both.1)
-
 module _ {p : ℕ → Bool} {es : List ℕ} {first j : ℕ} (v : Following p es first j) where
-  pub following_end : (ltb 0 j && leb j (length es)) ≡ false → 0 ≡ follow p es first
-  following_end t = sym (v.same ∙ follow_out p es j (λ a b. true≢false (sym (rw (lt-ltb 0 j a, le-leb j (length es) b)) ∙ t)))
+  pub following_end : (0 < j → length es < j) → 0 ≡ follow p es first
+  following_end none = sym (v.same ∙ follow_out p es j (λ a b. omega (arith, none a)))
 
-  module _ (t : (ltb 0 j && leb j (length es)) ≡ true) {b : Bool} (m : b ≡ p (entry_at p es j)) where
+  module _ (l : 0 < j) (h : j ≤ length es) {b : Bool} (m : b ≡ p (entry_at p es j)) where
     by_parts_lem : follow p es first ≡ cond b (row_in (entry_at p es j) + 1) (cond (ltb (link_in (entry_at p es j)) j) (follow p es (link_in (entry_at p es j))) 0)
-    by_parts_lem = let i = inside j (length es) t in v.same ∙ follow_at p es j i.0 i.1 ∙ rw m
+    by_parts_lem = v.same ∙ follow_at p es j l h ∙ rw m
 
     pub following_here : b ≡ true → row_in (entry_at p es j) + 1 ≡ follow p es first
     following_here y = sym (by_parts_lem ∙ rw y)
 
     pub following_stop : b ≡ false → j ≤ link_in (entry_at p es j) → 0 ≡ follow p es first
-    following_stop y l = sym (by_parts_lem ∙ rw (y, le-ltb (link_in (entry_at p es j)) j l))
+    following_stop y k = sym (by_parts_lem ∙ rw (y, le-ltb (link_in (entry_at p es j)) j k))
 
     pub following_next : b ≡ false → link_in (entry_at p es j) < j → Following p es first (link_in (entry_at p es j))
-    following_next y l = record { same = by_parts_lem ∙ rw (y, lt-ltb (link_in (entry_at p es j)) j l) }
+    following_next y k = record { same = by_parts_lem ∙ rw (y, lt-ltb (link_in (entry_at p es j)) j k) }

@@ -1,26 +1,30 @@
 -- The index of names as the code makes and searches it.
-use Prim.Native.Nat.{ℕ, suc, ◌+◌, ◌-◌, ◌*◌, ◌%◌, ◌≤◌, ◌<◌}
+use Prim.Native.Nat.{ℕ, zero, suc, ◌+◌, ◌-◌, ◌*◌, ◌%◌, ◌≤◌, ◌<◌}
 use mathlib.Core.Path.{◌≡◌, refl, sym, ap, ◌∙◌}
 use mathlib.Core.Bool.{Bool, true, false, cond, ◌&&◌, and-false}
 use mathlib.Core.List.{List, [], ◌∷◌}
 use native.Mathlib.Numerals.{add-one}
 use native.Mathlib.Omega.{arith}
-use borrow.Author.Tests.{lt-ltb, le-ltb, eq-eqb, ne_eqb}
+use borrow.Author.Tests.{lt-ltb, le-ltb, eq-eqb, ne_eqb, ltb-true, le-leb, lt-leb}
+use denote.Param.Members.{Mut}
 use lib.Dec.{ltb, leb}
 use lib.ListN.{length, get_or, set, take, drop, length-set, length-drop, drop_of_length-le}
 use lib.Seq.{take_all}
+use Rattle.std.specs.Prelude.{Option, Some, None}
+use Rattle.rows.specs.Marks.{marked}
+use Rattle.numbers.proofs.Ranges.{and_yes}
 use Rattle.lexemes.specs.Words.{run, word, same_word}
-use Rattle.lexemes.proofs.Equality.{same_word_refl}
 use Rattle.lexemes.proofs.WordParts.{first, word_ends, word_goes_on}
 use Rattle.rows.specs.Codes as code
 use Rattle.rows.specs.Columns as column
 use Rattle.answers.specs.Rows.{Draft}
-use Rattle.answers.specs.Stages.{cell, is, place_of}
+use Rattle.answers.specs.Stages.{cell, is}
 use Rattle.answers.specs.Drafts.{drafts_from}
 use Rattle.drafts.specs.Faults.{draft_at}
-use Rattle.names.specs.Names.{HASHES, BASE, BUCKETS, hash_of, key_of, bucket_of, tag_of, entry_of, tag_in, mark_in, added, names_in, indexed, follow, same_name, matches, find_in, repeats, repeated_from}
+use Rattle.names.specs.Names.{HASHES, BASE, BUCKETS, hash_of, key_of, bucket_of, tag_of, entry_of, added, names_in, indexed, follow, same_name, matches, find_in, repeats, repeated_from}
 use Rattle.names.proofs.ChainLaws.{follow_out}
 use Rattle.drafts.proofs.DraftLaws.{drafts_start, drafts_next, drafts_end}
+use Rattle.drafts.proofs.FaultLaws.{Answers, FirstAnswer}
 
 -- ---- the hash of a word
 
@@ -56,48 +60,29 @@ module _ {s : List ℕ} {at h i : ℕ} (v : Hashing s at h i) where
 
 -- ---- the key of a name
 
-module _ (s : List ℕ) (m : ℕ) (rule : Bool) where
-  pub key_none : m ≡ 0 → 0 ≡ key_of s m rule
+module _ (s : List ℕ) (rule : Bool) where
+  pub key_none : key_of s 0 rule ≡ 0
   unfolding key_of
-  key_none e = rw (eq-eqb m 0 e)
+  key_none = refl
 
-  module _ (z : m ≡ 0 → ⊥) {h : ℕ} (e : h ≡ hash_of 0 (word (drop (place_of m) s))) where
-    key_some : h + cond rule HASHES 0 ≡ key_of s m rule
-    unfolding key_of
-    key_some = rw (ne_eqb m 0 z, e)
-
-    pub key_rule : rule ≡ true → h + HASHES ≡ key_of s m rule
-    key_rule f = ap (λ (b : Bool). h + cond b HASHES 0) (sym f) ∙ key_some
-
-    pub key_question : rule ≡ false → h ≡ key_of s m rule
-    key_question f = omega (arith, ap (λ (b : Bool). cond b HASHES 0) f, key_some)
+  pub key_some : (p : ℕ) → key_of s (p + 1) rule ≡ hash_of 0 (word (drop p s)) + cond rule HASHES 0
+  unfolding key_of
+  key_some p = let e : p + 1 - 1 ≡ p = omega arith in rw (ne_eqb (p + 1) 0 (λ z. omega arith), e)
 
 -- ---- the names at two marks
 
-module _ (s : List ℕ) (m n : ℕ) where
-  pub name_first : m ≡ 0 → false ≡ same_name s m n
+module _ (s : List ℕ) where
+  pub unnamed_first : (n : ℕ) → same_name s 0 n ≡ false
   unfolding same_name
-  name_first e = rw e
+  unnamed_first n = refl
 
-  pub name_second : n ≡ 0 → false ≡ same_name s m n
+  pub unnamed_second : (m : ℕ) → same_name s m 0 ≡ false
   unfolding same_name
-  name_second e = rw e (sym (and-false (ltb 0 m)))
+  unnamed_second m = and-false (ltb 0 m)
 
-  pub name_same : (m ≡ 0 → ⊥) → m ≡ n → true ≡ same_name s m n
+  pub named_both : (p q : ℕ) → same_name s (p + 1) (q + 1) ≡ same_word s p q
   unfolding same_name
-  name_same f e = rw (← e, lt-ltb 0 m (omega (arith, f)), same_word_refl s (m - 1))
-
-  pub name_both : (m ≡ 0 → ⊥) → (n ≡ 0 → ⊥) → same_word s (m - 1) (n - 1) ≡ same_name s m n
-  unfolding same_name
-  name_both f g = rw (lt-ltb 0 m (omega (arith, f)), lt-ltb 0 n (omega (arith, g)))
-
--- an entry has the tag and the name
-module _ (s : List ℕ) (tag m e : ℕ) where
-  pub matches_not : (tag_in e ≡ tag → ⊥) → false ≡ matches s tag m e
-  matches_not h = rw (ne_eqb (tag_in e) tag h)
-
-  pub matches_tag : tag_in e ≡ tag → {b : Bool} → b ≡ same_name s (mark_in e) m → b ≡ matches s tag m e
-  matches_tag h g = rw (eq-eqb (tag_in e) tag h) g
+  named_both p q = let e : p + 1 - 1 ≡ p = omega arith in let f : q + 1 - 1 ≡ q = omega arith in rw (lt-ltb 0 (p + 1) (omega arith), lt-ltb 0 (q + 1) (omega arith), e, f)
 
 -- ---- an entry more
 
@@ -111,9 +96,9 @@ module _ (xs : List ℕ) (n key row mark : ℕ) where
   unfolding added
   added_room h = rw (lt-ltb (BUCKETS + n) (length xs) h)
 
-  pub add_some : BUCKETS + n < length xs → {k x : ℕ} → k ≡ key → x ≡ entry_of (tag_of k) (get_or xs (bucket_of k) 0) row mark
-      → set (set xs (length xs - 1 - n) x) (bucket_of k) (n + 1) ≡ added xs n key row mark
-  add_some h f e = let slot : length xs - 1 - n ≡ length xs - suc n = omega arith in rw (slot, add-one n, e, f) (sym (added_room h))
+  pub add_some : BUCKETS + n < length xs → {b tag x : ℕ} → b ≡ bucket_of key → tag ≡ tag_of key → x ≡ entry_of tag (get_or xs b 0) row mark
+      → set (set xs (length xs - 1 - n) x) b (n + 1) ≡ added xs n key row mark
+  add_some h f g e = let slot : length xs - 1 - n ≡ length xs - suc n = omega arith in rw (slot, add-one n, e, g, f) (sym (added_room h))
 
   pub length_added : length (added xs n key row mark) ≡ length xs
   unfolding added
@@ -200,19 +185,23 @@ module _ {s t xs₀ xs : List ℕ} {c n i : ℕ} (v : Entering s t c xs₀ xs n 
           same = g ∙ rw (split, e) (sym (indexed_named d ds s (i - 1) xs₀ (λ x. z (e ∙ x)) ∙ rw (y, ← v.same, ← v.count)));
         }
 
--- ---- a name looked for, by its key k
+-- ---- a name looked for, by the bucket and the tag of its key
 
 module _ (s xs : List ℕ) (m : ℕ) (rule : Bool) where
   pub find_none : length xs < BUCKETS → 0 ≡ find_in s xs m rule
   unfolding find_in
   find_none h = rw (drop_of_length-le xs {i = BUCKETS} (omega arith)) (sym (follow_out (matches s (tag_of (key_of s m rule)) m) [] (get_or xs (bucket_of (key_of s m rule)) 0) (λ a b. omega arith)))
 
-  pub find_along : {k : ℕ} → k ≡ key_of s m rule → {r : ℕ} → r ≡ follow (matches s (tag_of k) m) (take (length xs - BUCKETS) (drop BUCKETS xs)) (get_or xs (bucket_of k) 0)
-      → r ≡ find_in s xs m rule
+  pub find_along : {b tag r : ℕ} → b ≡ bucket_of (key_of s m rule) → tag ≡ tag_of (key_of s m rule)
+      → r ≡ follow (matches s tag m) (take (length xs - BUCKETS) (drop BUCKETS xs)) (get_or xs b 0) → r ≡ find_in s xs m rule
   unfolding find_in
-  find_along e f = f ∙ rw (take_all (length xs - BUCKETS) (drop BUCKETS xs) (omega (arith, length-drop BUCKETS xs)), e)
+  find_along e f g = g ∙ rw (take_all (length xs - BUCKETS) (drop BUCKETS xs) (omega (arith, length-drop BUCKETS xs)), e, f)
 
 -- ---- a name repeated
+
+-- the mark of the name by which row i finds a row before, 0 where it finds none
+abbrev pub repeated_at : List ℕ → List ℕ → ℕ → Draft → ℕ
+repeated_at s xs i d = cond (repeats s xs i d) (cell column.NAME d) 0
 
 module _ (s xs : List ℕ) where
   repeated_none : (i : ℕ) → repeated_from s xs i [] ≡ 0
@@ -223,7 +212,7 @@ module _ (s xs : List ℕ) where
   unfolding repeated_from
   repeated_cons i d ds = refl
 
-  -- row i by its mark and the row plus one that it finds
+  -- row i by the mark of its name, and the row plus one that it finds
   module _ (i : ℕ) (d : Draft) {m : ℕ} (e : m ≡ cell column.NAME d) where
     pub repeats_unnamed : m ≡ 0 → repeats s xs i d ≡ false
     unfolding repeats
@@ -233,16 +222,47 @@ module _ (s xs : List ℕ) where
     unfolding repeats
     repeats_named z g = rw (← e, lt-ltb 0 m (omega (arith, z)), ← g)
 
--- the loop of `repeated_name`: row i and those after it have the same first repeated name as all rows
-pub record Scanning (s xs t : List ℕ) (c i : ℕ) : Type 0 where
-  pub inside : i ≤ c
-  pub same : repeated_from s xs 0 (drafts_from t 0 c) ≡ repeated_from s xs i (drafts_from t i (c - i))
+  module _ (i : ℕ) (d : Draft) where
+    pub repeated_unnamed : cell column.NAME d ≡ 0 → repeated_at s xs i d ≡ 0
+    repeated_unnamed e = rw (repeats_unnamed i d refl e)
 
-pub scanning_start : (s xs t : List ℕ) (c : ℕ) → Scanning s xs t c 0
-scanning_start s xs t c = record { inside = omega arith; same = ap (repeated_from s xs 0) (drafts_start t c) }
+    module _ (p : ℕ) (e : p + 1 ≡ cell column.NAME d) where
+      by_found : {f : ℕ} → f ≡ find_in s xs (p + 1) (is code.RULE d) → repeated_at s xs i d ≡ cond (ltb 0 f && leb f i) (p + 1) 0
+      by_found g = rw (repeats_named i d e (λ z. omega arith) g, ← e)
+
+      pub repeated_nowhere : 0 ≡ find_in s xs (p + 1) (is code.RULE d) → 0 ≡ repeated_at s xs i d
+      repeated_nowhere g = sym (by_found g)
+
+      module _ (first : ℕ) (g : first + 1 ≡ find_in s xs (p + 1) (is code.RULE d)) where
+        pub repeated_before : first < i → p + 1 ≡ repeated_at s xs i d
+        repeated_before h = sym (by_found g ∙ rw (lt-ltb 0 (first + 1) (omega arith), le-leb (first + 1) i (omega arith)))
+
+        pub repeated_after : i ≤ first → 0 ≡ repeated_at s xs i d
+        repeated_after h = sym (by_found g ∙ rw (lt-ltb 0 (first + 1) (omega arith), lt-leb (first + 1) i (omega arith)))
+
+    -- a row repeats a name where it has a mark
+    repeats_yes : {m : ℕ} → m ≡ repeated_at s xs i d → 0 < m → (repeats s xs i d ≡ true) × (m ≡ cell column.NAME d)
+    repeats_yes {m} e h = go (repeats s xs i d) e
+      where
+        go : (b : Bool) → m ≡ cond b (cell column.NAME d) 0 → (b ≡ true) × (m ≡ cell column.NAME d)
+        go true f = (refl, f)
+        go false f = absurd (omega arith)
+
+    repeats_no : 0 ≡ repeated_at s xs i d → repeats s xs i d ≡ false
+    unfolding repeats
+    repeats_no e = go (repeats s xs i d) refl e
+      where
+        go : (b : Bool) → repeats s xs i d ≡ b → 0 ≡ cond b (cell column.NAME d) 0 → b ≡ false
+        go true f g = absurd (omega (arith, ltb-true 0 (cell column.NAME d) (and_yes (ltb 0 (cell column.NAME d)) _ f).0))
+        go false f g = refl
+
+-- row i and those after it have the same first repeated name as all rows
+record Scanning (s xs t : List ℕ) (c i : ℕ) : Type 0 where
+  inside : i ≤ c
+  same : repeated_from s xs 0 (drafts_from t 0 c) ≡ repeated_from s xs i (drafts_from t i (c - i))
 
 module _ {s xs t : List ℕ} {c i : ℕ} (v : Scanning s xs t c i) where
-  pub scanning_end : c ≤ i → 0 ≡ repeated_from s xs 0 (drafts_from t 0 c)
+  scanning_end : c ≤ i → 0 ≡ repeated_from s xs 0 (drafts_from t 0 c)
   scanning_end h = sym (v.same ∙ rw (drafts_end t i c h) (repeated_none s xs i))
 
   module _ (h : i < c) where
@@ -250,8 +270,21 @@ module _ {s xs t : List ℕ} {c i : ℕ} (v : Scanning s xs t c i) where
         ≡ cond (repeats s xs i (draft_at t i)) (cell column.NAME (draft_at t i)) (repeated_from s xs (i + 1) (drafts_from t (i + 1) (c - (i + 1))))
     by_row = v.same ∙ rw (drafts_next t i c h) (repeated_cons s xs i (draft_at t i) (drafts_from t (i + 1) (c - (i + 1))))
 
-    pub scanning_here : {m : ℕ} → m ≡ cell column.NAME (draft_at t i) → repeats s xs i (draft_at t i) ≡ true → m ≡ repeated_from s xs 0 (drafts_from t 0 c)
-    scanning_here e y = e ∙ sym (by_row ∙ rw y)
+    scanning_here : {m : ℕ} → m ≡ repeated_at s xs i (draft_at t i) → 0 < m → m ≡ repeated_from s xs 0 (drafts_from t 0 c)
+    scanning_here e l = let r = repeats_yes s xs i (draft_at t i) e l in r.1 ∙ sym (by_row ∙ rw r.0)
 
-    pub scanning_next : repeats s xs i (draft_at t i) ≡ false → Scanning s xs t c (i + 1)
-    scanning_next y = record { inside = omega arith; same = by_row ∙ rw y }
+    scanning_next : 0 ≡ repeated_at s xs i (draft_at t i) → Scanning s xs t c (i + 1)
+    scanning_next e = record { inside = omega arith; same = by_row ∙ rw (repeats_no s xs i (draft_at t i) e) }
+
+-- where a closure answers it of each row, its first answer is that of the first row which repeats a name
+module _ {F : Type 0} {g : Mut F (ℕ × Unit {0}) (Option ℕ)} {f : F} (s xs t : List ℕ) (c : ℕ)
+    (told : (row : ℕ) (m : Option ℕ) → row < c → Answers g f row m → marked m ≡ repeated_at s xs row (draft_at t row)) where
+  passed : (i : ℕ) → i ≤ c → ((row : ℕ) → row < i → Answers g f row None) → Scanning s xs t c i
+  passed zero l h = record { inside = omega arith; same = ap (repeated_from s xs 0) (drafts_start t c) }
+  passed (suc i) l h =
+      let before = passed i (omega arith) (λ k q. h k (omega arith)) in
+      rw (← add-one) (scanning_next before (omega arith) (told i None (omega arith) (h i (omega arith))))
+
+  pub first_repeated : (r : Option ℕ) → FirstAnswer g f c r → marked r ≡ repeated_from s xs 0 (drafts_from t 0 c)
+  first_repeated None all = scanning_end (passed c (omega arith) all) (omega arith)
+  first_repeated (Some m) (i, inside, here, before) = scanning_here (passed i (omega arith) before) inside (told i (Some m) inside here) (omega arith)

@@ -6,6 +6,7 @@ use Rattle.rows.specs.Columns as column
 use Rattle.answers.specs.Rows.{Draft}
 use Rattle.answers.specs.Stages.{cell, is, asks, place_of, declares}
 use Rattle.drafts.specs.Sound.{MARKS}
+use Rattle.names.specs.declared.Entry.{Entry}
 
 -- ---- keys: names of one sort that are the same have the same key
 
@@ -61,6 +62,10 @@ row_in e = e / MARKS % MARKS
 
 abbrev pub mark_in : ℕ → ℕ
 mark_in e = e % MARKS
+
+-- its parts
+abbrev pub unpacked : ℕ → Entry
+unpacked e = record { tag = tag_in e; link = link_in e; row = row_in e; mark = mark_in e }
 
 -- ---- an index: the heads of the buckets, and then the entries, numbered from 1 on from the last one back
 

@@ -1,5 +1,5 @@
 -- Question numbers (document 01, "Rows"): the map of used numbers, the free numbers, and which question gets which number.
-use Rattle.std.specs.Prelude.{◌≡◌, Bool, true, false, not, cond, ◌&&◌, ◌||◌, ℕ, zero, suc, ◌+◌, ◌-◌, ◌/◌, ◌%◌, ◌^◌, ◌<◌, ltb, eqb, length, get_or, set, take, replicate}
+use Rattle.std.specs.Prelude.{◌≡◌, Bool, true, false, not, cond, ◌&&◌, ◌||◌, ℕ, zero, suc, ◌+◌, ◌-◌, ◌/◌, ◌%◌, ◌^◌, ◌<◌, ltb, eqb, length, get_or, set, take, replicate, Option, Some, None}
 use mathlib.Core.List.{List, [], ◌∷◌, head_d}
 use Rattle.std.specs.Int.Bits.{bit_or}
 
@@ -52,6 +52,11 @@ used_count words = length (picked (used words) 0 number_limit)
 -- the smallest question number from n up that is not used, 65,536 where there is none
 unfoldable pub first_free : List ℕ → ℕ → ℕ
 first_free words n = head_d (free_from (used words) n) number_limit
+
+-- a number that may be absent, as a number: 65,536 stands for none
+abbrev pub number_or_limit : Option ℕ → ℕ
+number_or_limit None = number_limit
+number_or_limit (Some n) = n
 
 -- ---- own numbers: what each question writes with `questionid`, in source order, 0 where it writes nothing
 

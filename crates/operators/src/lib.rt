@@ -1,14 +1,14 @@
 // Values of expressions (document 02, W-202): operators by their codes, and constants.
 #![tactic(auto)]
 
-ghost use Rattle.std.specs.Prelude.{◌≡◌, ◌*◌, ◌/◌, ◌%◌, ◌^◌};
-ghost use Rattle.operators.specs.Values.{shifted_left, shifted_right, divided, operation_of, combined, negated, constant_of};
+ghost use Rattle.std.specs.Prelude.{◌≡◌, ◌*◌, ◌%◌, ◌^◌, MatchOption};
+ghost use Rattle.operators.specs.declared.Scalar.TheVariants.{Number, Undefined};
+ghost use Rattle.operators.specs.Values.{shifted_left, shifted_right, operation_of, combined, negated, constant_of};
 
 use rows::codes;
-use std::num::{wrapping_add_u64, wrapping_sub_u64};
 
 // TRUE or FALSE, an unsigned 64-bit number, or undefined.
-#[derive(Clone, Copy)]
+#[derive(Clone, Copy, Debug, PartialEq, Eq)]
 pub enum Scalar {
     Boolean(bool),
     Number(u64),
@@ -21,7 +21,8 @@ const HALF: u64 = 4294967296;
 // How many bits a number has: a shift by so many or more leaves none.
 const BITS: u64 = 64;
 
-// The program's own wrapping multiply (document 01, "The shape of some places"): the low 64 bits of a * b.
+// The program's own wrapping multiply: the low 64 bits of a * b.
+// Stays: document 01, "The shape of some places", wants it in place of std's `wrapping_mul`.
 // By halves of 32 bits: the product of the upper halves counts 2^64 times, so nothing of it is left; of the products of
 // an upper and a lower half, which count 2^32 times, the low 32 bits are.
 pub fn wrapping_mul(a: u64, b: u64) -> u64
@@ -31,11 +32,12 @@ pub fn wrapping_mul(a: u64, b: u64) -> u64
     let a1 = a / HALF;
     let b0 = b % HALF;
     let b1 = b / HALF;
-    let cross = wrapping_add_u64(a1 * b0, a0 * b1);
-    wrapping_add_u64(cross % HALF * HALF, a0 * b0)
+    let cross = (a1 * b0).wrapping_add(a0 * b1);
+    (cross % HALF * HALF).wrapping_add(a0 * b0)
 }
 
 // a shifted left by n, its low 64 bits; 0 from 64 on.
+#[tactic(auto, unfolding(crate::specs::Values::shifted_left))]
 fn shift_left(a: u64, n: u64) -> u64
     ensures { result ≡ shifted_left a n }
 {
@@ -43,35 +45,25 @@ fn shift_left(a: u64, n: u64) -> u64
 }
 
 // a shifted right by n; 0 from 64 on.
+#[tactic(auto, unfolding(crate::specs::Values::shifted_right))]
 fn shift_right(a: u64, n: u64) -> u64
     ensures { result ≡ shifted_right a n }
 {
     if n < BITS { a >> n } else { 0 }
 }
 
-// a / b; undefined for a zero divisor.
-fn quotient(a: u64, b: u64) -> Scalar
-    ensures { result ≡ divided ◌/◌ a b }
+// A number, or undefined where there is none: of a quotient or remainder, for a zero divisor.
+fn defined(number: Option<u64>) -> Scalar
+    ensures { MatchOption number (result ≡ Undefined) (λ n. result ≡ Number n) }
 {
-    if b == 0 {
-        return Scalar::Undefined; // a / 0
+    match number {
+        Some(n) => Scalar::Number(n),
+        None => Scalar::Undefined,
     }
-    let q = a / b;
-    Scalar::Number(q)
-}
-
-// a % b; undefined for a zero divisor.
-fn remainder(a: u64, b: u64) -> Scalar
-    ensures { result ≡ divided ◌%◌ a b }
-{
-    if b == 0 {
-        return Scalar::Undefined; // a % 0
-    }
-    let m = a % b;
-    Scalar::Number(m)
 }
 
 // What an operator makes of two booleans: logic and equality.
+#[tactic(auto, unfolding(crate::specs::Values::found, crate::specs::Values::operations))]
 fn of_booleans(code: u64, a: bool, b: bool) -> Scalar
     ensures { result ≡ (operation_of code).booleans a b }
 {
@@ -85,6 +77,7 @@ fn of_booleans(code: u64, a: bool, b: bool) -> Scalar
 }
 
 // What an operator makes of two numbers: bits, equality, order, shifts and arithmetic, with wrapping add, subtract and multiply.
+#[tactic(auto, unfolding(crate::specs::Values::found, crate::specs::Values::operations, crate::specs::Values::sum, crate::specs::Values::product))]
 fn of_numbers(code: u64, a: u64, b: u64) -> Scalar
     ensures { result ≡ (operation_of code).numbers a b }
 {
@@ -99,46 +92,40 @@ fn of_numbers(code: u64, a: u64, b: u64) -> Scalar
         codes::LESS_EQUAL => Scalar::Boolean(a <= b),
         codes::SHIFT_LEFT => Scalar::Number(shift_left(a, b)),
         codes::SHIFT_RIGHT => Scalar::Number(shift_right(a, b)),
-        codes::ADD => Scalar::Number(wrapping_add_u64(a, b)),
-        codes::SUBTRACT => Scalar::Number(wrapping_sub_u64(a, b)),
+        codes::ADD => Scalar::Number(a.wrapping_add(b)),
+        codes::SUBTRACT => Scalar::Number(a.wrapping_sub(b)),
         codes::MULTIPLY => Scalar::Number(wrapping_mul(a, b)),
-        codes::DIVIDE => quotient(a, b),
-        codes::MODULO => remainder(a, b),
+        codes::DIVIDE => defined(a.checked_div(b)),
+        codes::MODULO => defined(a.checked_rem(b)),
         _ => Scalar::Undefined,
     }
 }
 
 // What the binary operator of this code makes of its operands; undefined for every other code.
+#[tactic(auto, unfolding(crate::specs::Values::applied))]
 pub fn combine(code: u64, l: Scalar, r: Scalar) -> Scalar
     ensures { result ≡ combined code l r }
 {
-    match l {
-        Scalar::Boolean(a) => match r {
-            Scalar::Boolean(b) => of_booleans(code, a, b),
-            Scalar::Number(_) => Scalar::Undefined,
-            Scalar::Undefined => Scalar::Undefined, // `TRUE OR UNDEFINED` too
-        },
-        Scalar::Number(a) => match r {
-            Scalar::Boolean(_) => Scalar::Undefined,
-            Scalar::Number(b) => of_numbers(code, a, b),
-            Scalar::Undefined => Scalar::Undefined,
-        },
-        Scalar::Undefined => Scalar::Undefined,
+    match (l, r) {
+        (Scalar::Boolean(a), Scalar::Boolean(b)) => of_booleans(code, a, b),
+        (Scalar::Number(a), Scalar::Number(b)) => of_numbers(code, a, b),
+        _ => Scalar::Undefined, // `TRUE OR UNDEFINED` too
     }
 }
 
 // What `NOT` makes of its operand.
+#[tactic(auto, unfolding(crate::specs::Values::negated))]
 pub fn negate(w: Scalar) -> Scalar
     ensures { result ≡ negated w }
 {
     match w {
         Scalar::Boolean(a) => Scalar::Boolean(!a),
-        Scalar::Number(_) => Scalar::Undefined,
-        Scalar::Undefined => Scalar::Undefined,
+        Scalar::Number(_) | Scalar::Undefined => Scalar::Undefined,
     }
 }
 
 // The constant of this code; undefined for every other code.
+#[tactic(auto, unfolding(crate::specs::Values::found, crate::specs::Values::constants))]
 pub fn constant(code: u64) -> Scalar
     ensures { result ≡ constant_of code }
 {

@@ -3,7 +3,7 @@
 use Prim.Native.Nat.{ℕ, zero, suc, ◌+◌, ◌≤◌, ◌<◌}
 use mathlib.Core.Path.{◌≡◌, refl, sym, ap, ◌∙◌}
 use mathlib.Core.Bool.{true, false}
-use mathlib.Core.List.{List}
+use mathlib.Core.List.{List, [], ◌∷◌}
 use mathlib.Core.Logic.{◌≢◌}
 use native.Mathlib.Numerals.{add-one}
 use native.Mathlib.Omega.{arith}
@@ -20,7 +20,7 @@ use Rattle.elements.specs.Marks.{with_second}
 use Rattle.grammar.specs.Parts.{mark}
 use Rattle.phrases.specs.Stream.{stream}
 use Rattle.elements.specs.Kinds.{is_flag_list, starts_of}
-use Rattle.phrases.specs.Phrase.{Reader, Kept, with_entry, ready, refusing, flags_from, taking_flags}
+use Rattle.phrases.specs.Phrase.{Reader, Kept, with_entry, with_entries, ready, refusing, flags_from, taking_flags}
 use Rattle.phrases.proofs.Streams.{stream_falls}
 use Rattle.elements.proofs.KindLaws.{flag_below}
 
@@ -80,10 +80,11 @@ module _ {s : List ℕ} {x : Reader} {e : ℕ} {u t : Token} {w : Words}
     (g : Going s x e u w) (at_bar : t ≡ token_at s u.end) (m : member u.class (starts_of e) ≡ true) where
   pub loop_last :
       {w' : Words} {b m : ℕ} {k : Kept} {n : Noted}
-      → t.class ≢ «|» → w' ≡ with_word w u.class (u.start + 1) → b ≡ list_entry e w' → k ≡ with_entry x.kept b
-      → m ≡ list_second e w' → n ≡ with_second x.noted m → ready (token_at s u.end) n k ≡ taking_flags s x e
+      → t.class ≢ «|» → w' ≡ with_word w u.class (u.start + 1) → b ≡ list_entry e w' → k ≡ with_entries x.kept (b ∷ [])
+      → m ≡ list_second e w' → n ≡ with_second x.noted m → ready t n k ≡ taking_flags s x e
+  unfolding with_entries
   loop_last n q v h a d =
-      rw (d, a, h, v, q, add-one u.start)
+      rw (at_bar, d, a, h, v, q, add-one u.start)
       (sym (g.same ∙ last_at s x e u w g.is_list m g.turns g.enough (λ z. n (ap (λ (a : Token). a.class) at_bar ∙ z))))
 
   pub loop_fewer : {v : Token} → t.class ≡ «|» → v ≡ token_at s t.end → length (stream s v) < length (stream s u)

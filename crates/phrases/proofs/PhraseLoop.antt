@@ -1,28 +1,25 @@
 -- The loop over a pattern's elements, turn by turn.
 -- Assumes nothing.
-use Prim.Native.Nat.{ℕ, zero, suc, ◌+◌, ◌≤◌, ◌<◌}
-use mathlib.Core.Path.{◌≡◌, refl, sym, ap, ◌∙◌, subst}
+use Prim.Native.Nat.{ℕ, zero, suc, ◌-◌, ◌<◌, min}
+use Rattle.std.proofs.lemmas.List.{take_all, drop_min}
+use mathlib.Core.Path.{◌≡◌, refl, sym, ap, ◌∙◌}
 use mathlib.Core.Bool.{Bool, true, false, cond}
-use mathlib.Core.List.{List}
+use mathlib.Core.List.{List, [], ◌∷◌}
 use mathlib.Core.Logic.{◌≢◌}
-use native.Mathlib.Numerals.{add-one}
 use native.Mathlib.Omega.{arith}
 use lib.Dec.{eqb}
-use lib.ListN.{length, get_or, drop, drop_of_length-le}
-use lib.Seq.{drop-cons, drop-drop, get_or-drop}
-use borrow.Author.Tests.{eq-eqb, ne_eqb}
+use lib.ListN.{length, get_or, take, drop, length-drop}
 use Rattle.lex.specs.declared.Token.{Token}
 use Rattle.lexemes.specs.Classes.{«|», NAME}
 use Rattle.lex.specs.Tokens.{token_at}
 use Rattle.ll1.specs.ParseTable.{member}
-use Rattle.phrases.specs.declared.Cursor.{Cursor}
 use Rattle.elements.specs.declared.flags.Words.{Words}
 use Rattle.elements.specs.declared.noted.Noted.{Noted}
 use Rattle.elements.specs.Words.{with_word}
 use Rattle.grammar.specs.Parts.{mark}
 use Rattle.phrases.specs.Stream.{Within}
 use Rattle.elements.specs.Kinds.{MAYBE, GROUP, is_flag_list, starts_of, is_kept}
-use Rattle.phrases.specs.Phrase.{Kept, kept_at, with_entry, Reader, reader, ready, onward, skipping, refusing, taking, flags_from, taking_flags, fitting, step_of, phrase_from}
+use Rattle.phrases.specs.Phrase.{Kept, with_entries, Reader, ready, skipping, refusing, taking, flags_from, taking_flags, fitting, step_of, phrase_from}
 use Rattle.phrases.proofs.Streams.{within_at}
 use Rattle.phrases.proofs.ReadingLaws.{reads_group, leaves_group, reads_tokens, takes_word, refuses_word, step_on, left_out, handed_on}
 
@@ -56,73 +53,70 @@ module _ (s : List ℕ) where
 
 -- ---- the turns
 
--- k elements of the pattern p are read, from x to y
-pub record Turns (s p : List ℕ) (x : Reader) (k : ℕ) (y : Reader) : Type 0 where
-  pub same : phrase_from s p x ≡ phrase_from s (drop k p) y
+-- from x to y the pattern p is read as far as where q is left
+pub record Turns (s p : List ℕ) (x : Reader) (q : List ℕ) (y : Reader) : Type 0 where
+  pub same : phrase_from s p x ≡ phrase_from s q y
   pub within : Within s y.token
 
-pub turns_none : (s p : List ℕ) (x : Reader) → Within s x.token → Turns s p x 0 x
+pub turns_none : (s p : List ℕ) (x : Reader) → Within s x.token → Turns s p x p x
 turns_none s p x h = record { same = refl; within = h }
 
-module _ {s p : List ℕ} {x y : Reader} {k : ℕ} (w : Turns s p x k y) where
-  turns_more : {y' : Reader} → k < length p → y' ≡ step_of s y (get_or p k 0) (get_or p (k + 1) 0) → Within s y'.token → Turns s p x (k + 1) y'
+module _ {s p : List ℕ} {x y : Reader} {e : ℕ} {q : List ℕ} (w : Turns s p x (e ∷ q) y) where
+  turns_more : {y' : Reader} → y' ≡ step_of s y e (get_or q 0 0) → Within s y'.token → Turns s p x q y'
   unfolding phrase_from
-  turns_more h e within =
-      let q : get_or (drop (suc k) p) 0 0 ≡ get_or p (k + 1) 0 = rw (get_or-drop (suc k) p 0 0) (ap (λ (j : ℕ). get_or p j 0) (omega arith)) in
-      record { same = w.same ∙ rw (drop-cons p k 0 h, add-one k) (ap (phrase_from s (drop (suc k) p)) (ap (step_of s y (get_or p k 0)) q ∙ sym e)); within = within }
+  turns_more f within = record { same = w.same ∙ ap (phrase_from s q) (sym f); within = within }
 
-  turns_off : y.skip ≡ 0 → y.no ≢ 0 → y ≡ phrase_from s p x
-  turns_off z h = sym (w.same ∙ handed_on s (drop k p) y z h)
+turns_off : {s p q : List ℕ} {x y : Reader} → Turns s p x q y → y.skip ≡ 0 → y.no ≢ 0 → y ≡ phrase_from s p x
+turns_off {s} {q = q} {y = y} w z h = sym (w.same ∙ handed_on s q y z h)
 
-turns_skip : {s p : List ℕ} {x : Reader} (y : Reader) {k : ℕ} (n : ℕ) → Turns s p x k (skipping y n) → Turns s p x (k + n) (skipping y 0)
-turns_skip {s} {p} y {k} n w = record { same = w.same ∙ (left_out s n (drop k p) y ∙ ap (λ (q : List ℕ). phrase_from s q (skipping y 0)) (drop-drop n k p)); within = w.within }
+turns_skip : {s p q : List ℕ} {x : Reader} (y : Reader) (n : ℕ) → Turns s p x q (skipping y n) → Turns s p x (drop n q) (skipping y 0)
+turns_skip {s} {q = q} y n w = record { same = w.same ∙ left_out s n q y; within = w.within }
+
+-- the whole pattern is read
+pub turns_all : {s p q : List ℕ} {x : Reader} {t : Token} {was : Noted} {kept : Kept} → length q ≡ 0 → Turns s p x q (ready t was kept) → ready t was kept ≡ phrase_from s p x
+unfolding phrase_from
+turns_all {q = []} e w = sym w.same
+turns_all {q = k ∷ q} e w = absurd (omega arith)
+
+-- the code's slice without a group, as far as there is one
+past_group : (q : List ℕ) → take (length q - min GROUP (length q)) (drop (min GROUP (length q)) q) ≡ drop GROUP q
+past_group q = take_all (length q - min GROUP (length q)) (drop (min GROUP (length q)) q) (omega (arith, length-drop (min GROUP (length q)) q)) ∙ drop_min GROUP q
 
 -- the turns of the code, from the token t, the faults noted, and what is kept
-module _ {s p : List ℕ} {x : Reader} {k : ℕ} {t : Token} {was : Noted} {kept : Kept} (w : Turns s p x k (ready t was kept)) where
+module _ {s p : List ℕ} {x : Reader} {e : ℕ} {q : List ℕ} {t : Token} {was : Noted} {kept : Kept} (w : Turns s p x (e ∷ q) (ready t was kept)) where
   abbrev here : Reader
   here = ready t was kept
 
-  pub turns_all : length p ≤ k → here ≡ phrase_from s p x
-  unfolding phrase_from
-  turns_all h = sym (w.same ∙ rw (drop_of_length-le p h))
+  abbrev next : ℕ
+  next = get_or q 0 0
 
-  module _ (h : k < length p) where
-    abbrev want : ℕ
-    want = get_or p k 0
+  step_tokens : e ≢ MAYBE → step_of s here e next ≡ fitting s here e
+  step_tokens m = step_on s here e next refl refl ∙ reads_tokens s here e next m
 
-    abbrev next : ℕ
-    next = get_or p (k + 1) 0
+  -- a sign or a reserved word
+  pub turns_word : {t' : Token} → e < NAME → t.class ≡ e → t' ≡ token_at s t.end → Turns s p x q (ready t' was kept)
+  turns_word l c f = rw f (turns_more w (sym (step_tokens (λ z. omega arith) ∙ takes_word s here e l c)) (within_at s t.end))
 
-    step_tokens : want ≢ MAYBE → step_of s here want next ≡ fitting s here want
-    step_tokens m = step_on s here want next refl refl ∙ reads_tokens s here want next m
+  pub refused_word : e < NAME → t.class ≢ e → refusing here t ≡ phrase_from s p x
+  refused_word l c = turns_off (turns_more w (sym (step_tokens (λ z. omega arith) ∙ refuses_word s here e l c)) w.within) refl (λ z. omega arith)
 
-    -- a sign or a reserved word
-    pub turns_word : {t' : Token} → want < NAME → t.class ≡ want → t' ≡ token_at s t.end → Turns s p x (k + 1) (ready t' was kept)
-    turns_word l q e =
-        rw e (turns_more w h (sym (step_tokens (λ z. omega arith) ∙ takes_word s here want l q)) (within_at s t.end))
+  -- a group that is there, and one that is not
+  pub turns_group : {n : ℕ} → e ≡ MAYBE → n ≡ next → t.class ≡ n → Turns s p x q here
+  turns_group m f c = turns_more w (sym (step_on s here e next refl refl ∙ reads_group s here e next m (c ∙ f))) w.within
 
-    pub refused_word : want < NAME → t.class ≢ want → refusing here t ≡ phrase_from s p x
-    refused_word l q = turns_off (turns_more w h (sym (step_tokens (λ z. omega arith) ∙ refuses_word s here want l q)) w.within) refl (λ z. omega arith)
+  pub turns_absent :
+      {n m : ℕ} {kept' : Kept} → e ≡ MAYBE → n ≡ next → t.class ≢ n → kept' ≡ with_entries kept (0 ∷ []) → m ≡ min GROUP (length q)
+      → Turns s p x (take (length q - m) (drop m q)) (ready t was kept')
+  unfolding with_entries
+  turns_absent {kept' = kept'} m f c k g =
+      rw (g, past_group q)
+      (turns_skip (ready t was kept') GROUP
+      (turns_more w (leaves_group s here e next m (λ z. c (z ∙ sym f)) k ∙ sym (step_on s here e next refl refl)) w.within))
 
-    -- a group that is there, and one that is not
-    pub turns_group : {n : ℕ} → want ≡ MAYBE → n ≡ next → t.class ≡ n → Turns s p x (k + 1) here
-    turns_group m e q = turns_more w h (sym (step_on s here want next refl refl ∙ reads_group s here want next m (q ∙ e))) w.within
+  -- any other element
+  module _ (m : e ≢ MAYBE) where
+    pub turns_taken : {y : Reader} → y ≡ fitting s here e → Turns s p x q y
+    turns_taken f = turns_more w (f ∙ sym (step_tokens m)) (rw f (fitting_inside s here e w.within).within)
 
-    pub turns_absent : {n : ℕ} {kept' : Kept} → want ≡ MAYBE → n ≡ next → t.class ≢ n → kept' ≡ with_entry kept 0 → Turns s p x (k + (1 + GROUP)) (ready t was kept')
-    turns_absent {kept' = kept'} m e q f =
-        let left = turns_more w h (leaves_group s here want next m (λ z. q (z ∙ sym e)) f ∙ sym (step_on s here want next refl refl)) w.within in
-        subst (λ (j : ℕ). Turns s p x j (ready t was kept')) (omega arith) (turns_skip (ready t was kept') GROUP left)
-
-    -- any other element
-    module _ (c : Cursor) (l : List ℕ) (m : want ≢ MAYBE) (e : onward s (reader c l) ≡ fitting s here want) where
-      turns_element : Turns s p x (k + 1) (onward s (reader c l))
-      turns_element = turns_more w h (e ∙ sym (step_tokens m)) (rw e (fitting_inside s here want w.within).within)
-
-      pub turns_taken : {t' : Token} → c.no ≡ 0 → t' ≡ token_at s c.token.end → Turns s p x (k + 1) (ready t' c.noted (kept_at c.count l))
-      turns_taken z q = rw q (let v : Turns s p x (k + 1) (onward s (reader c l)) = turns_element in rw (eq-eqb c.no 0 z) at v)
-
-      pub refused_element : c.no ≢ 0 → reader c l ≡ phrase_from s p x
-      refused_element z =
-          let f : onward s (reader c l) ≡ reader c l = rw (ne_eqb c.no 0 z) in
-          let v : Turns s p x (k + 1) (reader c l) = rw f at turns_element in
-          turns_off v refl z
+    pub refused_element : {y : Reader} → y ≡ fitting s here e → y.skip ≡ 0 → y.no ≢ 0 → y ≡ phrase_from s p x
+    refused_element f z h = turns_off (turns_taken f) z h

@@ -1,23 +1,26 @@
 -- What reading a phrase gives: its elements spell symbols of the grammar.
 -- Assumes nothing.
-use Prim.Native.Nat.{ℕ, ◌≤◌, ◌<◌}
+use Prim.Native.Nat.{ℕ, ◌≤◌}
 use mathlib.Core.Path.{◌≡◌, refl, sym, ap, ◌∙◌, subst}
-use mathlib.Core.Bool.{true, false}
+use mathlib.Core.Bool.{true, false, not, ◌||◌}
 use mathlib.Core.List.{List, [], ◌++◌}
 use mathlib.Core.Logic.{◌≢◌}
 use native.Mathlib.Omega.{arith}
 use native.Mathlib.Decide.{ℕ_discrete}
-use lib.ListN.{get_or-eq_default}
+use lib.Dec.{eqb}
 use borrow.Author.Tests.{eq-eqb, ne_eqb}
 use Rattle.lex.specs.declared.Token.{Token}
 use Rattle.ll1.specs.Trees.{Symbol}
 use Rattle.ll1.specs.Machine.{due_all}
+use Rattle.std.specs.Prelude.{Result}
 use Rattle.phrases.specs.declared.Cursor.{Cursor}
+use Rattle.phrases.specs.declared.kept.Entries.{Entries}
+use Rattle.phrases.specs.declared.reader.Standing.{Standing}
 use Rattle.elements.specs.declared.noted.Noted.{Noted}
 use Rattle.elements.specs.Entries.{KEPT, entries}
-use Rattle.elements.specs.Symbols.{GROUP_CLOSE, symbols_of, phrase_elements, elements_of}
+use Rattle.elements.specs.Symbols.{symbols_of, elements_of}
 use Rattle.phrases.specs.Stream.{Within}
-use Rattle.phrases.specs.Phrase.{Kept, Reader, reader, starting, skipping, phrase_from, starts_past, unread, phrase_read}
+use Rattle.phrases.specs.Phrase.{Kept, kept_at, Reader, reader, went_at, went, starting, skipping, phrase_from, starts_past, unread, phrase_read}
 use Rattle.phrases.specs.Passed.{Passed}
 use Rattle.elements.proofs.Spelling.{widths, Spells}
 use Rattle.elements.proofs.EachSpelled.{phrase_spelled, phrase_has_room}
@@ -65,17 +68,30 @@ module _ (s : List ℕ) (n : ℕ) (t : Token) (was : Noted) (k : ℕ) (l : List 
 
   -- ---- the branches of a phrase by its number
 
-  pub read_refused : n ≢ 0 → phrase_read s n t was k l ≡ unread n t was l
+  read_refused : n ≢ 0 → phrase_read s n t was k l ≡ unread n t was l
   unfolding phrase_read
   read_refused h = rw (ne_eqb n 0 h)
 
-  pub read_past : n ≡ 0 → starts_past s t ≡ true → phrase_read s n t was k l ≡ unread 0 t was l
+  -- a refusal, and a token past the source
+  pub read_handed : not (eqb n 0) || starts_past s t ≡ true → phrase_read s n t was k l ≡ unread n t was l
   unfolding phrase_read
-  read_past z h = rw (eq-eqb n 0 z, h, z)
+  read_handed h = by (ℕ_discrete n 0)
+    where
+      by : Dec (n ≡ 0) → phrase_read s n t was k l ≡ unread n t was l
+      by (yes z) = rw (z, rw z at h)
+      by (no f) = read_refused f
 
   pub read_on : n ≡ 0 → starts_past s t ≡ false → phrase_read s n t was k l ≡ phrase_from s (elements_of k) (starting t was l)
   unfolding phrase_read
   read_on z h = rw (eq-eqb n 0 z, h)
+
+  -- no refusal, and a token within the source
+  pub read_here : not (eqb n 0) || starts_past s t ≡ false → (n ≡ 0) × (starts_past s t ≡ false)
+  read_here h = by (ℕ_discrete n 0)
+    where
+      by : Dec (n ≡ 0) → (n ≡ 0) × (starts_past s t ≡ false)
+      by (yes z) = (z, rw z at h)
+      by (no f) = absurd (let e : not (eqb n 0) || starts_past s t ≡ false = h in cc (rw (ne_eqb n 0 f) at e))
 
 -- ---- the theorem
 
@@ -92,13 +108,7 @@ module _ {s : List ℕ} {n : ℕ} {t : Token} {was : Noted} {l : List ℕ} {c : 
       by (yes z) = rw z (read_spelled (phrase_spelled k) (phrase_has_room k) (e ∙ read_on s n t was k l z (not_past s t w)))
       by (no h) = same_reader (e ∙ read_refused s n t was k l h) (handed_on s n t was k l h)
 
--- ---- the patterns of the code
+-- ---- the slice that was lent holds what was kept
 
--- the phrase k is the phrase j
-pub read_numbered : (s : List ℕ) {k : ℕ} {x : Reader} (y : Reader) (j : ℕ) → k ≡ j → x ≡ phrase_from s (elements_of j) y → x ≡ phrase_from s (elements_of k) y
-read_numbered s y j q e = rw q e
-
--- a number that no phrase has
-pub read_nothing : (s : List ℕ) {k : ℕ} {t : Token} {was : Noted} {l : List ℕ} → GROUP_CLOSE < k → starting t was l ≡ phrase_from s (elements_of k) (starting t was l)
-unfolding elements_of phrase_elements phrase_from
-read_nothing s {k} h = rw (get_or-eq_default phrase_elements [] {n = k} h)
+pub landed : (r : Result Standing Standing) (k : Entries) {l : List ℕ} {x : Reader} → went r k ≡ x → l ≡ k.lent.now → went_at r (kept_at k.count l) ≡ x
+landed r k e f = rw f e

@@ -1,11 +1,13 @@
 -- Reading a phrase: a list of elements, from a token on.
 -- Assumes nothing.
-use Rattle.std.specs.Prelude.{ℕ, zero, suc, ◌+◌, ◌-◌, Bool, cond, ◌&&◌, List, [], ◌∷◌, map, eqb, ltb, leb, length, get_or, set}
+use Rattle.std.specs.Prelude.{ℕ, zero, suc, ◌+◌, ◌-◌, Bool, cond, ◌&&◌, List, [], ◌∷◌, map, eqb, ltb, leb, length, get_or, set, Result, Ok, Err, ◌≡◌}
 use Rattle.lex.specs.declared.Token.{Token}
 use Rattle.lexemes.specs.Classes.{«|», BAD}
 use Rattle.lex.specs.Tokens.{token_at}
 use Rattle.ll1.specs.ParseTable.{member}
 use Rattle.phrases.specs.declared.Cursor.{Cursor}
+use Rattle.phrases.specs.declared.kept.Entries.{Entries}
+use Rattle.phrases.specs.declared.reader.Standing.{Standing}
 use Rattle.elements.specs.declared.flags.Words.{Words}
 use Rattle.elements.specs.declared.noted.Noted.{Noted}
 use Rattle.elements.specs.Words.{no_words, with_word, list_entry, list_second}
@@ -33,6 +35,19 @@ unfoldable pub with_entries : Kept → List ℕ → Kept
 with_entries k [] = k
 with_entries k (e ∷ es) = with_entries (with_entry k e) es
 
+-- those of the code, in the slice that was lent
+abbrev pub held : Entries → Kept
+held k = kept_at k.count k.lent.now
+
+-- the slice that was lent stays the one that is written
+abbrev pub IsSameSlice : Entries → Entries → Type 0
+IsSameSlice k k' = k'.lent.ghost_name ≡ k.lent.ghost_name
+
+-- entries es after those of k, which then is k'
+pub record Keeps (k : Entries) (es : List ℕ) (k' : Entries) : Type 0 where
+  pub kept : held k' ≡ with_entries (held k) es
+  pub lent : IsSameSlice k k'
+
 -- ---- where the reader stands
 
 -- the refusal or 0; the token; the faults that are noted; how many elements are left out still; what is kept
@@ -58,10 +73,6 @@ starting t n l = ready t n (kept_at 0 l)
 abbrev pub passing : List ℕ → Reader → Reader
 passing s x = ready (token_at s x.token.end) x.noted x.kept
 
--- past the last token of an element; a refusal stays
-abbrev pub onward : List ℕ → Reader → Reader
-onward s x = cond (eqb x.no 0) (passing s x) x
-
 -- with n elements to leave out
 abbrev pub skipping : Reader → ℕ → Reader
 skipping x n = record { no = x.no; token = x.token; noted = x.noted; skip = n; kept = x.kept }
@@ -77,6 +88,18 @@ leaving x = skipping (ready x.token x.noted (with_entry x.kept 0)) GROUP
 -- one element less to leave out
 abbrev pub leaving_one : Reader → Reader
 leaving_one x = skipping x (x.skip - 1)
+
+-- where the code's reader stands
+abbrev pub stands : Standing → Entries → Reader
+stands at k = ready at.token at.noted (held k)
+
+-- and where it comes to, or is refused
+abbrev pub went_at : Result Standing Standing → Kept → Reader
+went_at (Ok at) k = ready at.token at.noted k
+went_at (Err at) k = refusing (ready at.token at.noted k) at.token
+
+abbrev pub went : Result Standing Standing → Entries → Reader
+went r k = went_at r (held k)
 
 -- ---- elements of one token
 

@@ -1,9 +1,10 @@
 -- Flag words, one after another.
 -- Assumes nothing.
-use Prim.Native.Nat.{ℕ, suc, ◌+◌, ◌≤◌, ◌<◌}
+use Prim.Native.Nat.{ℕ, zero, suc, ◌+◌, ◌≤◌, ◌<◌}
+use native.Mathlib.Omega.{arith}
 use native.Mathlib.Numerals.{add-one}
 use mathlib.Core.Path.{◌≡◌, refl, sym, ap, ◌∙◌}
-use mathlib.Core.Bool.{Bool, true, false, cond, ◌||◌, or-false, or_assoc}
+use mathlib.Core.Bool.{Bool, true, false, cond, ◌||◌}
 use mathlib.Core.List.{List, [], ◌∷◌, ◌++◌, append_assoc}
 use lib.ListN.{length, get_or, drop, drop_of_length-le}
 use lib.Seq.{drop-cons}
@@ -16,6 +17,7 @@ use Rattle.rows.specs.Sizes.{NO_SIZE, INT_DEC, UINT_DEC, UINT_HEX, size_of, disp
 use Rattle.grammar.specs.Flags.{FlagWord, flag_word, flag_words, set_in, size_word, display_word}
 use Rattle.answers.specs.Text.{Word, words, lexeme, barred, flag_list, text_of}
 use Rattle.spellings.proofs.Outputs.{text_append}
+use Rattle.print.specs.declared.shown.TheConstants.{FLAG_WORDS}
 use Rattle.print.specs.Phrase.{set_words, numeric_flags, after_bar, filled, any_flag}
 
 -- a list of flag words, where any stands before it or none
@@ -69,12 +71,21 @@ module _ (set : ℕ) where
     flags_end true i h = rw (drop_of_length-le ws h)
     flags_end false i h = rw (drop_of_length-le ws h)
 
-pub any_flag_lem : (set : ℕ) → (flag.is_set flag.READ_ONLY set || flag.is_set flag.INTERACTIVE set) || flag.is_set flag.RESET_REQUIRED set ≡ any_flag set
-any_flag_lem set =
-    let a = flag.is_set flag.READ_ONLY set in
-    let b = flag.is_set flag.INTERACTIVE set in
-    let c = flag.is_set flag.RESET_REQUIRED set in
-    or_assoc a b c ∙ ap (λ (x : Bool). a || (b || x)) (sym (or-false c)) ∙ any_set_lem set flag_words
+-- some word from a place of a table on is set
+module _ (set : ℕ) (ws : List FlagWord) where
+  pub any_next : (i : ℕ) {w : FlagWord} {there : Bool} → i < length ws → w ≡ get_or ws i (flag_word 0 0) → there ≡ stands set w
+      → any_set set (drop i ws) ≡ there || any_set set (drop (i + 1) ws)
+  any_next i h e f = rw (drop-cons ws i (flag_word 0 0) h, add-one i, ← e, f)
+
+  pub any_end : (i : ℕ) → length ws ≤ i → any_set set (drop i ws) ≡ false
+  any_end i h = rw (drop_of_length-le ws h)
+
+-- the words of the printer's table
+pub table_word : (i : ℕ) (d : ℕ × ℕ) → i < 3 → flag_word (get_or FLAG_WORDS i d).0 (get_or FLAG_WORDS i d).1 ≡ get_or flag_words i (flag_word 0 0)
+table_word zero d h = refl
+table_word (suc zero) d h = refl
+table_word (suc (suc zero)) d h = refl
+table_word (suc (suc (suc i))) d h = absurd (omega arith)
 
 -- ---- a numeric's size and display after its flags
 

@@ -1,6 +1,7 @@
 -- One element of a phrase after another.
 -- Assumes nothing.
-use Prim.Native.Nat.{ℕ, zero, suc, ◌+◌, ◌-◌, ◌/◌, ◌%◌, ◌^◌, ◌≤◌, ◌<◌}
+use Prim.Native.Nat.{ℕ, zero, suc, ◌+◌, ◌-◌, ◌/◌, ◌%◌, ◌^◌, ◌≤◌, ◌<◌, min}
+use Rattle.std.specs.Int.{w64, to_be_bytes}
 use native.Mathlib.Numerals.{add-one}
 use native.Mathlib.Omega.{arith}
 use mathlib.Core.Path.{◌≡◌, refl, sym, ap, ◌∙◌}
@@ -15,11 +16,13 @@ use Rattle.elements.specs.Kinds.{OPTION_FLAGS, TRUTH, FLAG_LIST, NUMERIC_FLAGS, 
 use Rattle.answers.specs.Text.{Word, lexeme, decimal, truth, text_of}
 use Rattle.rows.specs.Columns as column
 use Rattle.print.specs.declared.phrase.Progress.{Progress}
-use Rattle.spellings.specs.Output.{Prints}
+use Rattle.spellings.specs.declared.output.Output.{Output}
+use Rattle.spellings.specs.Printed.{Printed}
 use Rattle.print.specs.Phrase.{element_words, numeric_flags, element_of, shown_by, has_flags, has_default, GUID, value_from, one_more}
 use Rattle.print.specs.Phrase.{added, skip_after, passed_after, phrase_from, shown_in, element_in}
 use Rattle.print.specs.Steps.{left_of, Entered, Stepped}
-use Rattle.spellings.proofs.Outputs.{prints_none, text_append}
+use Rattle.spellings.proofs.Outputs.{text_append}
+use Rattle.spellings.proofs.Printing.{printed_none}
 
 -- ---- what an element is printed as
 
@@ -83,6 +86,27 @@ last_byte r s h =
     same : get_or r column.B 0 % 256 ≡ get_or r column.B 0 / 256 ^ 0 % 256
     same = omega arith
 
+-- the byte of the GUID that has so many before it
+abbrev be_byte : List ℕ → ℕ → ℕ
+be_byte r k = get_or (to_be_bytes w64 (get_or r column.B 0)) k 0
+
+byte_is : (r : List ℕ) (k : ℕ) → be_byte r (min k 7) ≡ value_from r (GUID + 3 + k)
+unfolding value_from
+byte_is r zero = omega arith
+byte_is r (suc zero) = omega arith
+byte_is r (suc (suc zero)) = omega arith
+byte_is r (suc (suc (suc zero))) = omega arith
+byte_is r (suc (suc (suc (suc zero)))) = omega arith
+byte_is r (suc (suc (suc (suc (suc zero))))) = omega arith
+byte_is r (suc (suc (suc (suc (suc (suc zero)))))) = omega arith
+byte_is r (suc (suc (suc (suc (suc (suc (suc k))))))) =
+    let late : min (suc (suc (suc (suc (suc (suc (suc k))))))) 7 ≡ 7 = omega arith in
+    rw late (last_byte r (GUID + 3 + suc (suc (suc (suc (suc (suc (suc k))))))) (omega arith))
+
+pub guid_byte : (r bs : List ℕ) (b s k : ℕ) → b ≡ get_or r column.B 0 → bs ≡ to_be_bytes w64 b → GUID + 3 ≤ s → k ≡ min (s - GUID - 3) 7 → get_or bs k 0 ≡ value_from r s
+guid_byte r bs b s k c f h e = let at : GUID + 3 + (s - GUID - 3) ≡ s = omega arith in
+    ap (λ (l : List ℕ). get_or l k 0) (f ∙ ap (λ (n : ℕ). to_be_bytes w64 n) c) ∙ ap (be_byte r) e ∙ byte_is r (s - GUID - 3) ∙ ap (value_from r) at
+
 -- ---- steps
 
 module _ (shown : ℕ → Bool) (element : ℕ → ℕ → List Word) where
@@ -93,11 +117,11 @@ module _ (shown : ℕ → Bool) (element : ℕ → ℕ → List Word) where
   phrase_skips (suc s) passed [] = refl
   phrase_skips (suc s) passed (e ∷ l) = let one : suc s - 1 ≡ s = omega arith in rw (ne_eqb (suc s) 0 (λ z. omega arith), one) (phrase_skips s passed l)
 
-module _ (sources r pattern o o' : List ℕ) (p q : Progress) (h : p.next < length pattern) where
+module _ (sources r pattern : List ℕ) (o o' : Output) (p q : Progress) (h : p.next < length pattern) where
   abbrev here : ℕ
   here = get_or pattern p.next 0
 
-  pub step_word : here < NAME → q.next ≡ p.next + 1 → q.passed ≡ p.passed → Prints o p.at (lexeme here) o' q.at → Stepped sources r pattern o p o' q
+  pub step_word : here < NAME → q.next ≡ p.next + 1 → q.passed ≡ p.passed → Printed o (lexeme here) o' → Stepped sources r pattern o p o' q
   unfolding left_of phrase_from added skip_after passed_after
   step_word l n k g =
       let m = ne_eqb here MAYBE (λ e. omega arith) in
@@ -110,7 +134,7 @@ module _ (sources r pattern o o' : List ℕ) (p q : Progress) (h : p.next < leng
 
   pub step_element :
       {source : ℕ} → NAME ≤ here → (here ≡ MAYBE → ⊥) → source ≡ get_or sources p.passed 0
-      → q.next ≡ p.next + 1 → q.passed ≡ one_more p.passed → Prints o p.at (element_of r here source) o' q.at
+      → q.next ≡ p.next + 1 → q.passed ≡ one_more p.passed → Printed o (element_of r here source) o'
       → Stepped sources r pattern o p o' q
   unfolding left_of phrase_from added skip_after passed_after
   step_element {source = source} l a f n k g =
@@ -123,7 +147,7 @@ module _ (sources r pattern o o' : List ℕ) (p q : Progress) (h : p.next < leng
       }
 
 -- a group is printed, or left out
-module _ (r pattern : List ℕ) (p q : Progress) (h : p.next < length pattern) (e : get_or pattern p.next 0 ≡ MAYBE) (a : q.at ≡ p.at) where
+module _ (r pattern : List ℕ) (p q : Progress) (h : p.next < length pattern) (e : get_or pattern p.next 0 ≡ MAYBE) where
   abbrev fate : Bool
   fate = shown_in r (get_or pattern (p.next + 1) 0)
 
@@ -136,7 +160,7 @@ module _ (r pattern : List ℕ) (p q : Progress) (h : p.next < length pattern) (
       rw (drop-cons pattern p.next 0 h, e, m)
 
   entered : (p.next < q.next) → ((sources : List ℕ) → left_of sources r pattern p ≡ left_of sources r pattern q) → Entered r pattern p q
-  entered f l = record { steps = λ sources o. record { added = []; prints = rw a (prints_none o p.at); left = l sources; further = f } }
+  entered f l = record { steps = λ sources o. record { added = []; prints = printed_none; left = l sources; further = f } }
 
   module _ {shown : Bool} {code set w : ℕ} (c : code ≡ get_or r column.CODE 0) (f : set ≡ get_or r column.FLAGS 0) (g : w ≡ get_or pattern (p.next + 1) 0)
       (s : shown ≡ shown_by (has_flags code set) (has_default set) w) where
@@ -161,7 +185,7 @@ module _ (r pattern : List ℕ) (p q : Progress) (h : p.next < length pattern) (
 -- ---- the loop over a pattern
 
 module _ (sources r pattern : List ℕ) where
-  pub phrase_next : {o o' : List ℕ} {p q : Progress} (s : Stepped sources r pattern o p o' q)
+  pub phrase_next : {o o' : Output} {p q : Progress} (s : Stepped sources r pattern o p o' q)
       → text_of (left_of sources r pattern p) ≡ text_of s.added ++ text_of (left_of sources r pattern q)
   phrase_next {q = q} s = rw s.left (text_append s.added (left_of sources r pattern q))
 

@@ -1,9 +1,8 @@
 // The printer of a phrase from a row: the phrases are those that are read (crate phrases).
-ghost use Rattle.std.specs.Prelude.{◌≡◌, ◌≤◌, ◌<◌, length, get_or};
-ghost use Rattle.lexemes.specs.Classes.{NAME};
+ghost use Rattle.std.specs.Prelude.{◌≡◌, ◌<◌, length, get_or};
 ghost use Rattle.rows.specs.Table.{row_at};
 ghost use Rattle.elements.specs.Kinds.{MAYBE};
-ghost use Rattle.spellings.specs.Output.{Prints};
+ghost use Rattle.spellings.specs.Printed.{Printed};
 ghost use Rattle.print.specs.Phrase.{one_more, element_of, phrase_words};
 ghost use Rattle.print.specs.Steps.{Stepped, Entered};
 
@@ -13,13 +12,11 @@ use elements::kinds::{GROUP, MAYBE, NUMERIC_FLAGS};
 use lexemes::classes::NAME;
 use rows::cell;
 use rows::columns::{CODE, FLAGS, SIZE};
-use spellings::words::put_word;
+use spellings::output::Output;
 
-// Where the printer of a phrase stands: the bytes so far, the next element, how many of those that have values it has
-// passed.
-#[derive(Clone, Copy)]
+// Where the printer of a phrase stands: the next element, how many of those that have values it has passed.
+#[derive(Clone, Copy, Debug, PartialEq, Eq)]
 pub struct Progress {
-    pub at: usize,
     pub next: usize,
     pub passed: usize,
 }
@@ -27,130 +24,94 @@ pub struct Progress {
 // No phrase has as many values.
 const LAST: usize = 256;
 
-fn byte_at(list: &[u8], k: usize) -> u8
-    ensures { result ≡ get_or list.now k 0 }
-{
-    if k < list.len() { list[k] } else { 0 }
-}
-
 // One more.
 fn after_one(n: usize) -> usize
     ensures { result ≡ one_more n }
 {
-    if n < LAST {
-        return n + 1;
-    }
-    n
+    if n < LAST { n + 1 } else { n }
 }
 
-// The four elements after MAYBE are printed, or left out with their value.
-fn enter_group(p: Progress, pattern: &[u8], table: &[u64], row: usize) -> Progress
-    requires { (p.next < length pattern.now) × (get_or pattern.now p.next 0 ≡ MAYBE) }
-    ensures { Entered (row_at table.now row) pattern.now p result }
-{
-    let next = p.next + 1;
-    if shows(
-        byte_at(pattern, next),
-        cell(table, row, CODE),
-        cell(table, row, FLAGS),
-    ) {
-        return Progress {
-            at: p.at,
-            next,
-            passed: p.passed,
-        };
-    }
-    Progress {
-        at: p.at,
-        next: next + GROUP,
-        passed: after_one(p.passed),
-    }
-}
-
-// An element that is no sign and no reserved word, of the value from a source; a numeric's FL is of two columns.
-fn put_from_row(out: &mut [u8], at: usize, want: u8, source: u8, table: &[u64], row: usize) -> usize
-    ensures { Prints out.old at (element_of (row_at table.now row) want source) out.new result }
-{
-    if want == NUMERIC_FLAGS {
-        return put_numeric_flags(out, at, cell(table, row, FLAGS), cell(table, row, SIZE));
-    }
-    put_element(out, at, want, value_from(table, row, source))
-}
-
-// The next element, which is no sign and no reserved word.
-fn put_value(
-    out: &mut [u8],
-    p: Progress,
-    pattern: &[u8],
-    sources: &[u8],
-    table: &[u64],
+// A phrase of a row: its elements, and where their values come from.
+#[derive(Clone, Copy)]
+struct Phrase<'a> {
+    pattern: &'a [u8],
+    sources: &'a [u8],
+    table: &'a [u64],
     row: usize,
-) -> Progress
-    requires { (p.next < length pattern.now) × (NAME ≤ get_or pattern.now p.next 0) × (get_or pattern.now p.next 0 ≡ MAYBE → ⊥) }
-    ensures { Stepped sources.now (row_at table.now row) pattern.now out.old p out.new result }
-{
-    let k = p.next;
-    let at = put_from_row(
-        out,
-        p.at,
-        pattern[k],
-        byte_at(sources, p.passed),
-        table,
-        row,
-    );
-    Progress {
-        at,
-        next: k + 1,
-        passed: after_one(p.passed),
-    }
 }
 
-// The next element of a phrase.
-fn step(
-    out: &mut [u8],
-    p: Progress,
-    pattern: &[u8],
-    sources: &[u8],
-    table: &[u64],
-    row: usize,
-) -> Progress
-    requires { p.next < length pattern.now }
-    ensures { Stepped sources.now (row_at table.now row) pattern.now out.old p out.new result }
-{
-    let k = p.next;
-    let want = pattern[k];
-    if want < NAME {
-        let at = put_word(out, p.at, want);
-        return Progress {
-            at,
-            next: k + 1,
-            passed: p.passed,
-        };
+impl Phrase<'_> {
+    // The four elements after MAYBE are printed, or left out with their value.
+    fn enter_group(&self, p: Progress) -> Progress
+        requires { (p.next < length self.now.pattern.now) × (get_or self.now.pattern.now p.next 0 ≡ MAYBE) }
+        ensures { Entered (row_at self.now.table.now self.now.row) self.now.pattern.now p result }
+    {
+        let next = p.next + 1;
+        let first = self.pattern.get(next).copied().unwrap_or(0);
+        if shows(
+            first,
+            cell(self.table, self.row, CODE),
+            cell(self.table, self.row, FLAGS),
+        ) {
+            return Progress { next, ..p };
+        }
+        Progress {
+            next: next + GROUP,
+            passed: after_one(p.passed),
+        }
     }
-    if want == MAYBE {
-        return enter_group(p, pattern, table, row);
+
+    // An element that is no sign and no reserved word, of the value from a source; a numeric's FL is of two columns.
+    fn put_from_row(&self, out: &mut Output<'_>, want: u8, source: u8)
+        ensures { Printed out.old (element_of (row_at self.now.table.now self.now.row) want source) out.new }
+    {
+        if want == NUMERIC_FLAGS {
+            return put_numeric_flags(
+                out,
+                cell(self.table, self.row, FLAGS),
+                cell(self.table, self.row, SIZE),
+            );
+        }
+        put_element(out, want, value_from(self.table, self.row, source))
     }
-    put_value(out, p, pattern, sources, table, row)
+
+    // The next element of a phrase.
+    fn step(&self, out: &mut Output<'_>, p: Progress) -> Progress
+        requires { p.next < length self.now.pattern.now }
+        ensures { Stepped self.now.sources.now (row_at self.now.table.now self.now.row) self.now.pattern.now out.old p out.new result }
+    {
+        let want = self.pattern[p.next];
+        if want < NAME {
+            out.word(want);
+            return Progress {
+                next: p.next + 1,
+                ..p
+            };
+        }
+        if want == MAYBE {
+            return self.enter_group(p);
+        }
+        let source = self.sources.get(p.passed).copied().unwrap_or(0);
+        self.put_from_row(out, want, source);
+        Progress {
+            next: p.next + 1,
+            passed: after_one(p.passed),
+        }
+    }
 }
 
 // Prints a phrase from a row; `sources` are those of its elements' values.
-pub fn put_phrase(
-    out: &mut [u8],
-    at: usize,
-    pattern: &[u8],
-    sources: &[u8],
-    table: &[u64],
-    row: usize,
-) -> usize
-    ensures { Prints out.old at (phrase_words pattern.now sources.now (row_at table.now row)) out.new result }
+pub fn put_phrase(out: &mut Output<'_>, pattern: &[u8], sources: &[u8], table: &[u64], row: usize)
+    ensures { Printed out.old (phrase_words pattern.now sources.now (row_at table.now row)) out.new }
 {
-    let mut p = Progress {
-        at,
-        next: 0,
-        passed: 0,
+    let phrase = Phrase {
+        pattern,
+        sources,
+        table,
+        row,
     };
+    let mut p = Progress { next: 0, passed: 0 };
     while p.next < pattern.len() {
-        p = step(out, p, pattern, sources, table, row);
+        p = phrase.step(out, p);
     }
-    p.at
 }

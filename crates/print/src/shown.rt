@@ -1,17 +1,16 @@
 // What an element of a phrase is printed as, and which of the parts that may be absent are printed.
-ghost use Rattle.std.specs.Prelude.{◌≡◌, ◌<◌, length};
+ghost use Rattle.std.specs.Prelude.{◌≡◌, ◌<◌};
 ghost use Rattle.rows.specs.Flags.{is_set};
-ghost use Rattle.grammar.specs.Flags.{flag_word, flag_words, size_word, display_word};
+ghost use Rattle.grammar.specs.Flags.{size_word, display_word};
 ghost use Rattle.answers.specs.Text.{truth};
-ghost use Rattle.spellings.specs.Output.{Prints};
-ghost use Rattle.print.specs.Phrase.{word_at, after_bar, set_words, option_flags, numeric_flags, element_words, shown_by, any_flag, has_flags, has_default};
+ghost use Rattle.spellings.specs.Printed.{Printed};
+ghost use Rattle.print.specs.Phrase.{after_bar, set_words, option_flags, numeric_flags, element_words, shown_by, any_flag, has_flags, has_default};
 
 use elements::kinds::*;
 use lexemes::classes::*;
 use rows::codes::NUMERIC;
 use rows::{displays, flags};
-use spellings::numerals::{put_decimal, put_hex, put_rule_name};
-use spellings::words::{put_word, put_word_if};
+use spellings::output::Output;
 
 // A flag, by its value, is set.
 fn is_set(set: u64, flag: u64) -> bool
@@ -21,61 +20,45 @@ fn is_set(set: u64, flag: u64) -> bool
     set / flag % 2 == 1
 }
 
-// A flag word: its class and its value.
-#[derive(Clone, Copy)]
-struct FlagWord(u8, u64);
-
-// How many flag words there are, each at its place in document 01's order.
-const FLAG_WORDS: usize = 3;
-
-// The flag word at a place.
-fn flag_word(i: usize) -> FlagWord
-    requires { i < length flag_words }
-    ensures result_value { flag_word result.0 result.1 ≡ word_at i }
-    ensures result_nonzero { 0 < result.1 }
-{
-    match i {
-        0 => FlagWord(READ_ONLY, flags::READ_ONLY),
-        1 => FlagWord(INTERACTIVE, flags::INTERACTIVE),
-        _ => FlagWord(RESET_REQUIRED, flags::RESET_REQUIRED),
-    }
-}
+// The flag words in document 01's order, each by its class and its value.
+const FLAG_WORDS: [(u8, u64); 3] = [
+    (READ_ONLY, flags::READ_ONLY),
+    (INTERACTIVE, flags::INTERACTIVE),
+    (RESET_REQUIRED, flags::RESET_REQUIRED),
+];
 
 // Some flag word is set.
 fn any_flag(set: u64) -> bool
     ensures { result ≡ any_flag set }
 {
-    is_set(set, flags::READ_ONLY)
-        | is_set(set, flags::INTERACTIVE)
-        | is_set(set, flags::RESET_REQUIRED)
+    for (_, flag) in FLAG_WORDS {
+        if is_set(set, flag) {
+            return true;
+        }
+    }
+    false
 }
 
 // A flag word where it is there, after `|` where another stands before it.
-fn put_flag(out: &mut [u8], at: usize, any: bool, there: bool, class: u8) -> usize
-    ensures { Prints out.old at (after_bar any there class) out.new result }
+fn put_flag(out: &mut Output<'_>, any: bool, there: bool, class: u8)
+    ensures { Printed out.old (after_bar any there class) out.new }
 {
     if there {
-        let word = put_word_if(out, at, any, BAR);
-        return put_word(out, word, class);
+        out.word_if(any, BAR);
+        out.word(class);
     }
-    at
 }
 
 // FL: the flag words that are set, in document 01's order, with `|` between.
-fn put_flags(out: &mut [u8], at: usize, set: u64) -> usize
-    ensures { Prints out.old at (set_words set) out.new result }
+fn put_flags(out: &mut Output<'_>, set: u64)
+    ensures { Printed out.old (set_words set) out.new }
 {
-    let mut at = at;
     let mut any = false;
-    let mut i = 0;
-    while i < FLAG_WORDS {
-        let word = flag_word(i);
-        let there = is_set(set, word.1);
-        at = put_flag(out, at, any, there, word.0);
-        any = any | there;
-        i += 1;
+    for (class, flag) in FLAG_WORDS {
+        let there = is_set(set, flag);
+        put_flag(out, any, there, class);
+        any |= there;
     }
-    at
 }
 
 // The word of a size: that of eight bytes where there is no such word.
@@ -102,48 +85,49 @@ fn display_word(display: u64) -> u8
 }
 
 // A numeric's FL: the flag words that are set, then its size and its display.
-pub fn put_numeric_flags(out: &mut [u8], at: usize, set: u64, size_and_display: u64) -> usize
-    ensures { Prints out.old at (numeric_flags set size_and_display) out.new result }
+pub fn put_numeric_flags(out: &mut Output<'_>, set: u64, size_and_display: u64)
+    ensures { Printed out.old (numeric_flags set size_and_display) out.new }
 {
-    let flags = put_flags(out, at, set);
-    let bar = put_word_if(out, flags, any_flag(set), BAR);
-    let size = put_word(out, bar, size_word(size_and_display / 4));
-    let second = put_word(out, size, BAR);
-    put_word(out, second, display_word(size_and_display % 4))
+    put_flags(out, set);
+    out.word_if(any_flag(set), BAR);
+    out.word(size_word(size_and_display / 4));
+    out.word(BAR);
+    out.word(display_word(size_and_display % 4));
 }
 
-fn put_truth(out: &mut [u8], at: usize, value: u64) -> usize
-    ensures { Prints out.old at (truth value) out.new result }
+fn put_truth(out: &mut Output<'_>, value: u64)
+    ensures { Printed out.old (truth value) out.new }
 {
     if value == 1 {
-        return put_word(out, at, TRUE);
+        out.word(TRUE)
+    } else {
+        out.word(FALSE)
     }
-    put_word(out, at, FALSE)
 }
 
 // An option's flags: `0` or `DEFAULT`.
-fn put_option_flags(out: &mut [u8], at: usize, set: u64) -> usize
-    ensures { Prints out.old at (option_flags set) out.new result }
+fn put_option_flags(out: &mut Output<'_>, set: u64)
+    ensures { Printed out.old (option_flags set) out.new }
 {
     if is_set(set, flags::OPTION_DEFAULT) {
-        return put_word(out, at, DEFAULT);
+        return out.word(DEFAULT);
     }
-    put_decimal(out, at, 0)
+    out.decimal(0)
 }
 
 // An element that is no sign and no reserved word, of the value.
-pub fn put_element(out: &mut [u8], at: usize, want: u8, value: u64) -> usize
-    ensures { Prints out.old at (element_words want value) out.new result }
+pub fn put_element(out: &mut Output<'_>, want: u8, value: u64)
+    ensures { Printed out.old (element_words want value) out.new }
 {
     match want {
-        NAME => put_rule_name(out, at, value),
-        OPTION_FLAGS => put_option_flags(out, at, value),
-        TRUTH => put_truth(out, at, value),
-        FLAG_LIST => put_flags(out, at, value),
-        H8 => put_hex(out, at, value, 8),
-        H4 => put_hex(out, at, value, 4),
-        H2 => put_hex(out, at, value, 2),
-        _ => put_decimal(out, at, value),
+        NAME => out.rule_name(value),
+        OPTION_FLAGS => put_option_flags(out, value),
+        TRUTH => put_truth(out, value),
+        FLAG_LIST => put_flags(out, value),
+        H8 => out.hex(value, 8),
+        H4 => out.hex(value, 4),
+        H2 => out.hex(value, 2),
+        _ => out.decimal(value),
     }
 }
 

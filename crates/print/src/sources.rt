@@ -1,8 +1,8 @@
 // Where the values of a phrase's elements come from: a column of its row, or a part of the GUID in columns a and b.
 // The elements that have values are those that reading keeps.
-ghost use Rattle.std.specs.Prelude.{◌≡◌, ◌+◌, ◌≤◌, ◌<◌};
+ghost use Rattle.std.specs.Prelude.{◌≡◌};
 ghost use Rattle.rows.specs.Table.{row_at};
-ghost use Rattle.print.specs.Phrase.{GUID, value_from};
+ghost use Rattle.print.specs.Phrase.{value_from};
 
 use rows::cell;
 use rows::columns::*;
@@ -30,86 +30,41 @@ const NO_NAME: u8 = NAME as u8;
 // The sources from here on are the parts of a GUID, of 32, 16 and 16 bits, and its eight bytes, in order.
 const GUID: u8 = 64;
 
-const PART_0: u8 = GUID;
+const GUID_BYTES: u8 = GUID + 3;
 
-const PART_1: u8 = GUID + 1;
-
-const PART_2: u8 = GUID + 2;
-
-const BYTE_0: u8 = GUID + 3;
-
-const BYTE_1: u8 = GUID + 4;
-
-const BYTE_2: u8 = GUID + 5;
-
-const BYTE_3: u8 = GUID + 6;
-
-const BYTE_4: u8 = GUID + 7;
-
-const BYTE_5: u8 = GUID + 8;
-
-const BYTE_6: u8 = GUID + 9;
-
-const BYTE_7: u8 = GUID + 10;
-
-// A part of the GUID in a row.
-fn guid_part(table: &[u64], row: usize, source: u8) -> u64
-    requires { (GUID ≤ source) × (source < GUID + 3) }
-    ensures { result ≡ value_from (row_at table.now row) source }
-{
-    let a = cell(table, row, A);
-    match source {
-        PART_0 => a / 0x1_0000_0000,
-        PART_1 => a / 0x1_0000 % 0x1_0000,
-        _ => a % 0x1_0000,
-    }
-}
-
-// A byte of the GUID in a row.
-fn guid_byte(table: &[u64], row: usize, source: u8) -> u64
-    requires { GUID + 3 ≤ source }
-    ensures { result ≡ value_from (row_at table.now row) source }
-{
-    let b = cell(table, row, B);
-    match source {
-        BYTE_0 => b / 0x100_0000_0000_0000 % 256,
-        BYTE_1 => b / 0x1_0000_0000_0000 % 256,
-        BYTE_2 => b / 0x100_0000_0000 % 256,
-        BYTE_3 => b / 0x1_0000_0000 % 256,
-        BYTE_4 => b / 0x100_0000 % 256,
-        BYTE_5 => b / 0x1_0000 % 256,
-        BYTE_6 => b / 0x100 % 256,
-        _ => b % 256,
-    }
-}
-
+// Stays: a source is a number, and no enum, since `value_from` answers for every number (its contract), and the edit
+// guid_from_the_fourteenth_column gives it one from 13 on.
 pub fn value_from(table: &[u64], row: usize, source: u8) -> u64
     ensures { result ≡ value_from (row_at table.now row) source }
 {
     if source < GUID {
-        return cell(table, row, source as usize);
+        return cell(table, row, usize::from(source));
     }
-    if source < BYTE_0 {
-        return guid_part(table, row, source);
+    let a = cell(table, row, A);
+    let b = cell(table, row, B);
+    match source - GUID {
+        0 => a >> 32,
+        1 => (a >> 16) % 0x1_0000,
+        2 => a % 0x1_0000,
+        part => u64::from(b.to_be_bytes()[usize::from(part - 3).min(7)]),
     }
-    guid_byte(table, row, source)
 }
 
 // ---- of each phrase
 
 // A GUID's first three parts.
-pub const FORM_SET_OPEN: [u8; 3] = [PART_0, PART_1, PART_2];
+pub const FORM_SET_OPEN: [u8; 3] = [GUID, GUID + 1, GUID + 2];
 
 // Its eight bytes; title, help.
 pub const FORM_SET_BRACED: [u8; 10] = [
-    BYTE_0,
-    BYTE_1,
-    BYTE_2,
-    BYTE_3,
-    BYTE_4,
-    BYTE_5,
-    BYTE_6,
-    BYTE_7,
+    GUID_BYTES,
+    GUID_BYTES + 1,
+    GUID_BYTES + 2,
+    GUID_BYTES + 3,
+    GUID_BYTES + 4,
+    GUID_BYTES + 5,
+    GUID_BYTES + 6,
+    GUID_BYTES + 7,
     FIRST_STRING,
     SECOND_STRING,
 ];

@@ -3,7 +3,7 @@
 // (Measured for a chain of 255 rules: about 0.03 ms.)
 #![tactic(auto)]
 
-ghost use Rattle.std.specs.Prelude.{◌≡◌, cond, [], ◌∷◌, ◌<◌, eqb, get_or, replicate};
+ghost use Rattle.std.specs.Prelude.{◌≡◌, cond, [], ◌∷◌, ◌<◌, eqb, get_or};
 ghost use Rattle.numbers.specs.Numbers.{picked};
 ghost use Rattle.ranks.specs.Ranks.{rank_in, RanksOf, Appends, order_in};
 
@@ -14,14 +14,13 @@ use numbers::Map;
 pub fn rank(map: &Map, a: u64) -> u64
     ensures { result ≡ rank_in map.now a }
 {
-    let words: &[u64] = map;
     if a >= RULES {
         return 0;
     }
     let row = (a * ROW_WORDS) as usize;
     let mut sum: u64 = 0;
-    for j in 0..4 {
-        sum += u64::count_ones(words[row + j]) as u64;
+    for word in &map[row..row + 4] {
+        sum += u64::from(word.count_ones());
     }
     sum
 }
@@ -29,23 +28,13 @@ pub fn rank(map: &Map, a: u64) -> u64
 // A number for each rule number, or for each place in an order of the rules.
 pub type PerRule = [u64; 256];
 
-// All numbers 0.
-fn zeros() -> PerRule
-    ensures { result ≡ replicate 256 0 }
-{
-    [0; 256]
-}
-
 // The ranks of all rule numbers.
 fn all_ranks(map: &Map) -> PerRule
     ensures { RanksOf map.now result }
 {
-    let mut all = zeros();
-    let mut a: u64 = 0;
-    while a < RULES {
-        let own = rank(map, a);
-        all[a as usize] = own;
-        a += 1;
+    let mut all = [0; 256];
+    for (a, own) in all.iter_mut().enumerate() {
+        *own = rank(map, a as u64);
     }
     all
 }
@@ -54,14 +43,10 @@ fn all_ranks(map: &Map) -> PerRule
 fn put_if(order: &mut PerRule, i: u64, a: u64, wanted: bool) -> u64
     ensures { Appends order.old i (cond wanted (a ∷ []) []) order.new result }
 {
-    if !wanted {
+    if !wanted || i >= RULES {
         return i;
     }
-    if i >= RULES {
-        return i;
-    }
-    let places: &mut [u64] = order;
-    places[i as usize] = a;
+    order[i as usize] = a;
     i + 1
 }
 
@@ -70,13 +55,9 @@ fn put_rank(order: &mut PerRule, i: u64, ranks: &PerRule, r: u64, n: u64) -> u64
     requires { n < 256 }
     ensures { Appends order.old i (picked (λ a. eqb (get_or ranks.now a 0) r) 1 n) order.new result }
 {
-    let of: &[u64] = ranks;
     let mut next = i;
-    let mut a: u64 = 1;
-    while a <= n {
-        let wanted = of[a as usize] == r;
-        next = put_if(order, next, a, wanted);
-        a += 1;
+    for a in 1..=n {
+        next = put_if(order, next, a, ranks[a as usize] == r);
     }
     next
 }
@@ -88,12 +69,10 @@ pub fn order(map: &Map, n: u64) -> PerRule
 {
     let end = circles::last_rule(n);
     let all = all_ranks(map);
-    let mut order = zeros();
-    let mut next: u64 = 0;
-    let mut r: u64 = 0;
-    while r < end {
+    let mut order = [0; 256];
+    let mut next = 0;
+    for r in 0..end {
         next = put_rank(&mut order, next, &all, r, end);
-        r += 1;
     }
     order
 }

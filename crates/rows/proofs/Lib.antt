@@ -9,5 +9,4 @@ pub mod LaidLaws
 pub mod MarkLaws
 pub mod SizeLaws
 pub mod ListedCodes
-mod CodeLaws
 mod Examples

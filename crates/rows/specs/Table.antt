@@ -1,5 +1,5 @@
 -- A table of rows: the numbers that the caller lends, ROW to a row (document 01, "Rows").
-use Rattle.std.specs.Prelude.{ℕ, ◌+◌, ◌-◌, ◌*◌, ◌/◌, cond, List, ◌++◌, ltb, length, get_or, set, take, drop, replicate}
+use Rattle.std.specs.Prelude.{ℕ, ◌+◌, ◌-◌, ◌*◌, ◌/◌, cond, List, ◌++◌, ltb, length, get_or, set, take, drop, replicate, ◌≡◌, refl}
 use Rattle.rows.specs.Columns.{ROW}
 
 -- "whole rows lent" (document 01, "Refusal numbers", No. 6)
@@ -25,3 +25,8 @@ with_cell t n c v = with_row t n (set (row_at t n) c v)
 -- the table with 0 from an index on
 unfoldable pub cleared : List ℕ → ℕ → List ℕ
 cleared t from = take from t ++ replicate (length t - from) 0
+
+-- which is: up to there the numbers stay, and from there on as many zeros stand as numbers stood
+pub cleared_filled : (t : List ℕ) (from : ℕ) → cleared t from ≡ take from t ++ replicate (length t - from) 0
+unfolding cleared
+cleared_filled t from = refl

@@ -1,5 +1,6 @@
 // The codes of rows, in the order of document 01's table. They are operation codes of UEFI 2.10 and bear its
 // names, but for GOTO (REF), OPTION (ONE_OF_OPTION), LABEL (GUID), NUMBER (UINT64) and QUESTION_REF (QUESTION_REF1).
+// Stays: codes are what stands in the lent table, which C reads (W-202, `face`), so they are numbers and no enum.
 ghost use Rattle.std.specs.Prelude.{◌≡◌};
 ghost use Rattle.rows.specs.Codes.{is_question, is_expression};
 
@@ -104,19 +105,24 @@ pub const RULE_REF: u64 = 0x3F;
 // ---- kinds of codes
 
 // Whether a row of this code is a question.
+#[tactic(auto, unfolding(crate::specs::Codes::is_question, crate::specs::Codes::member, crate::specs::Codes::questions))]
 pub fn is_question(code: u64) -> bool
     ensures { result ≡ is_question code }
 {
-    (code == GOTO) | (code == CHECKBOX) | (code == NUMERIC) | (code == ONE_OF)
+    matches!(code, GOTO | CHECKBOX | NUMERIC | ONE_OF)
 }
 
 // Whether a row of this code is part of an expression. The codes of expressions are five runs of numbers.
+#[tactic(auto, unfolding(crate::specs::Codes::is_expression, crate::specs::Codes::member, crate::specs::Codes::expressions))]
 pub fn is_expression(code: u64) -> bool
     ensures { result ≡ is_expression code }
 {
-    (AND <= code) & (code <= NOT)
-        | (EQUAL <= code) & (code <= BITWISE_OR)
-        | (SHIFT_LEFT <= code) & (code <= QUESTION_REF)
-        | (NUMBER <= code) & (code <= FALSE)
-        | (ZERO <= code) & (code <= UNDEFINED)
+    matches!(
+        code,
+        AND..=NOT
+            | EQUAL..=BITWISE_OR
+            | SHIFT_LEFT..=QUESTION_REF
+            | NUMBER..=FALSE
+            | ZERO..=UNDEFINED
+    )
 }

@@ -1,4 +1,5 @@
 // The columns of a row (document 01, "Rows", and document 02, W-204).
+// Stays: columns are places in the lent table, which C reads, so they are numbers and no fields of a struct.
 
 // How many numbers a row has.
 pub const ROW: usize = 13;

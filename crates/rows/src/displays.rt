@@ -1,4 +1,5 @@
 // The displays of numerics, and what column 12 holds of a numeric that names neither size nor display (document 02, W-204).
+// Stays: displays are what stands in the lent table, which C reads, so they are numbers and no enum.
 
 pub const INT_DEC: u64 = 0;
 

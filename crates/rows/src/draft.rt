@@ -1,5 +1,6 @@
 // Draft rows: while a source is read, the upper half of a cell keeps a mark, which is a place plus one, or 0 for
 // none. The lower half is what the finished row holds there.
+// Stays: a mark stands in half a cell of the lent table, which the clauses read by `mark_of`, so it is a number and no Option.
 ghost use Rattle.std.specs.Prelude.{◌≡◌};
 ghost use Rattle.rows.specs.Draft.{low_of, mark_of, with_mark};
 

@@ -1,4 +1,5 @@
 // The bits of a row's flags (document 01, "Grammar" and "Rows").
+// Stays: flags are bits of the lent table, which C reads, so they are numbers.
 
 // The flags of a question.
 pub const READ_ONLY: u64 = 1;

@@ -13,7 +13,6 @@ use lent::Numbers;
 use question_kinds::{Kinds, mark_rows};
 use read::Accepted;
 use refusals::Reason;
-use rows::clear_bytes;
 use saved_answers::{Answers, good_answers};
 use table_screen::show_table;
 
@@ -53,7 +52,7 @@ fn refuse(table: &mut [u64], out: &mut [u8], refusal: Refusal) -> Result<Accepte
     ensures out_after { out.new ≡ cleared out.old 0 }
 {
     rows::clear(table, 0);
-    clear_bytes(out, 0);
+    rows::clear(out, 0);
     Err(refusal)
 }
 
@@ -89,7 +88,7 @@ fn show_rows(
         checkboxes: &kinds.checkboxes,
     };
     show_table(&mut out[..rows], table, given);
-    clear_bytes(out, rows);
+    rows::clear(out, rows);
     Ok(accepted)
 }
 
@@ -107,7 +106,7 @@ pub fn show(
     match read::read(src, table) {
         Ok(accepted) => show_rows(answers, table, out, accepted),
         Err(refusal) => {
-            clear_bytes(out, 0);
+            rows::clear(out, 0);
             Err(refusal.into())
         }
     }

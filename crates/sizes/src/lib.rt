@@ -7,6 +7,7 @@ ghost use Rattle.sizes.specs.Sizes as sizes;
 ghost use Rattle.sizes.specs.Biased.{biased};
 
 // Half of the numbers of a size: those from here on have their top bit set.
+#[tactic(auto, unfolding(crate::specs::Sizes::width, crate::specs::Sizes::half))]
 fn half(size: u64) -> u64
     ensures value { result ≡ sizes.half (sizes.width size) }
     ensures result_nonzero { (0 < result) × (result ≤ 2 ^ 63) }
@@ -39,10 +40,7 @@ pub fn amount(size: u64, x: u64) -> u64
 {
     let h = half(size);
     let rest = x % h;
-    if minus(size, x) {
-        return h - rest;
-    }
-    rest
+    if minus(size, x) { h - rest } else { rest }
 }
 
 // x plus half of the numbers of the size, wrapped: unsigned, these stand in the order of the signed numbers.
@@ -51,10 +49,7 @@ fn bias(size: u64, x: u64) -> u64
 {
     let h = half(size);
     let rest = x % h;
-    if minus(size, x) {
-        return rest;
-    }
-    h + rest
+    if minus(size, x) { rest } else { h + rest }
 }
 
 // x is below y, in the signed order of the size or in the unsigned one.
@@ -62,7 +57,8 @@ pub fn below(size: u64, signed: bool, x: u64, y: u64) -> bool
     ensures { result ≡ sizes.below (sizes.width size) signed x y }
 {
     if signed {
-        return bias(size, x) < bias(size, y);
+        bias(size, x) < bias(size, y)
+    } else {
+        x < y
     }
-    x < y
 }

@@ -1,11 +1,13 @@
 -- Bytes and words written one after another, forward and from the end.
 -- Assumes nothing.
-use Prim.Native.Nat.{ℕ, zero, suc, ◌+◌, ◌-◌, ◌≤◌, ◌<◌}
+use Prim.Native.Nat.{ℕ, zero, suc, ◌+◌, ◌-◌, ◌≤◌, ◌<◌, min}
 use native.Mathlib.Omega.{arith}
 use mathlib.Core.Path.{◌≡◌, refl, sym, ap, ◌∙◌}
 use mathlib.Core.List.{List, [], ◌∷◌, ◌++◌, append_assoc, append-nil}
-use lib.ListN.{length, set, take, length-set, length-take, length-append}
-use lib.Seq.{sets, set_comm, set_out, take_all, take-nil}
+use lib.ListN.{length, set, take, drop, length-set, length-take, length-append, drop_of_length-le, take-append-drop}
+use lib.Seq.{sets, sets-eq, set_comm, set_out, take_all, take-nil, length-sets, length-take-le}
+use borrow.Rule.Slice.PartMut.{put_mid}
+use Rattle.std.proofs.lemmas.List.{drop-drop}
 use Rattle.lexemes.proofs.Lists.{either_less}
 use Rattle.answers.specs.Text.{Word, gap_after, text_of}
 use Rattle.spellings.specs.Output.{MOST, end_of, with_bytes, Puts, PutsBefore, Prints, PrintsBefore}
@@ -49,6 +51,26 @@ all_bytes o at (b ∷ bs) h =
     either_less at MOST
     (λ l. let n : MOST - at ≡ suc (MOST - suc at) = omega arith in rw n (all_bytes (set o at b) (suc at) bs (omega (arith, length-set o at b))))
     (λ l. let n : MOST - at ≡ 0 = omega arith in rw n (sym (sets_out o at (b ∷ bs) (omega arith))))
+
+-- bytes that are copied over those from a place on, as far as they fit
+pub copied : (o bs : List ℕ) (at a k : ℕ) → length o ≤ MOST → a ≡ min at (length o) → k ≡ min (min (at + length bs) MOST) (length o) - a → put_mid a k o (take k bs) ≡ with_bytes o at bs
+copied o bs at a k h e f =
+    either_less at (length o)
+    (λ l.
+    let start : a ≡ at = omega arith in
+    let few : k ≤ length bs = omega arith in
+    let front : length (take k bs) ≡ k = length-take-le k bs few in
+    let rest : sets (sets o at (take k bs)) (at + k) (drop k bs) ≡ sets o at (take k bs) =
+    either_less k (length bs) (λ m. sets_out _ (at + k) (drop k bs) (omega (arith, length-sets o at (take k bs)))) (λ m. ap (sets (sets o at (take k bs)) (at + k)) (drop_of_length-le bs m)) in
+    let split : sets o at bs ≡ sets o at (take k bs) = ap (sets o at) (sym (take-append-drop k bs)) ∙ sets_append o at (take k bs) (drop k bs) ∙ rw front rest in
+    let whole : sets o at (take k bs) ≡ take at o ++ (take k bs ++ drop (at + k) o) = sets-eq (take k bs) o at (omega (arith, front)) ∙ rw front (append_assoc (take at o) (take k bs) (drop (at + k) o)) in
+    rw (start, drop-drop k at o) (sym (all_bytes o at bs h ∙ split ∙ whole)))
+    (λ l.
+    let start : a ≡ length o = omega arith in
+    let none : k ≡ 0 = omega arith in
+    let all : take (length o) o ≡ o = take_all (length o) o (omega arith) in
+    let past : drop (length o) o ≡ [] = drop_of_length-le o (omega arith) in
+    rw (start, none, all, past) (append-nil o ∙ sym (all_bytes o at bs h ∙ sets_out o at bs l)))
 
 -- ---- bytes after bytes
 
@@ -103,10 +125,6 @@ prints_none o at = record { puts = puts_none o at }
 pub prints_then : {o o₁ o₂ : List ℕ} {at r₁ r₂ : ℕ} {a b : List Word} → Prints o at a o₁ r₁ → Prints o₁ r₁ b o₂ r₂ → Prints o at (a ++ b) o₂ r₂
 prints_then {a = a} {b = b} p q = record { puts = rw text_append (puts_then p.puts q.puts) }
 
--- the same words
-pub as_words : {o o' : List ℕ} {at r : ℕ} {a b : List Word} → a ≡ b → Prints o at a o' r → Prints o at b o' r
-as_words e p = rw (← e) p
-
 pub print_before : {o o₁ o₂ : List ℕ} {end r₁ r₂ : ℕ} {a b : List Word} → PrintsBefore o end b o₁ r₁ → PrintsBefore o₁ r₁ a o₂ r₂ → PrintsBefore o end (a ++ b) o₂ r₂
 print_before {a = a} {b = b} p q = record { puts = rw text_append (then_before p.puts q.puts) }
 
@@ -114,9 +132,6 @@ print_before {a = a} {b = b} p q = record { puts = rw text_append (then_before p
 
 pub put_one : {o o' : List ℕ} {at b r : ℕ} → o' ≡ set o at b → r ≡ end_of at 1 → length o ≤ MOST → Puts o at (b ∷ []) o' r
 put_one {o} {at = at} {b = b} e f h = record { stored = e ∙ sym (all_bytes o at (b ∷ []) h); end = f }
-
-pub one_before : {o o' : List ℕ} {end at b : ℕ} → at ≡ end - 1 → o' ≡ set o at b → PutsBefore o end (b ∷ []) o' at
-one_before f e = record { fit = λ h l. (omega arith, e) }
 
 -- bytes written before the end of as many, where they are counted or far past the output
 pub before_end : {o o' : List ℕ} {at end r : ℕ} {bs : List ℕ} → end ≡ end_of at (length bs) → PutsBefore o end bs o' r → (MOST < at + length bs → (at ≤ MOST) × (length o + length bs ≤ MOST)) → Puts o at bs o' end
@@ -139,23 +154,6 @@ count_before h p e = let a = p.fit h (omega arith) in omega (arith, a.0)
 -- how many bytes were written from the first place on
 pub count_after : {o o' : List ℕ} {n : ℕ} {bs : List ℕ} → length bs ≤ MOST → Puts o 0 bs o' n → n ≡ length bs
 count_after h p = omega (arith, p.end)
-
--- ---- a loop that writes bytes: some are done, and those left make the whole
-
-pub record Partly (o : List ℕ) (at : ℕ) (whole o' : List ℕ) (r : ℕ) (left : List ℕ) : Type 0 where
-  pub done : List ℕ
-  pub written : Puts o at done o' r
-  pub split : whole ≡ done ++ left
-
-pub partly_none : (o : List ℕ) (at : ℕ) (bs : List ℕ) → Partly o at bs o at bs
-partly_none o at bs = record { done = []; written = puts_none o at; split = refl }
-
-pub partly_more : {o o₁ o₂ : List ℕ} {at r₁ r₂ : ℕ} {whole left xs ys : List ℕ} → Partly o at whole o₁ r₁ left → left ≡ xs ++ ys → Puts o₁ r₁ xs o₂ r₂ → Partly o at whole o₂ r₂ ys
-partly_more {xs = xs} {ys = ys} p e q =
-    record { done = p.done ++ xs; written = puts_then p.written q; split = p.split ∙ rw e (sym (append_assoc p.done xs ys)) }
-
-pub partly_all : {o o₁ : List ℕ} {at r₁ : ℕ} {whole left : List ℕ} → Partly o at whole o₁ r₁ left → left ≡ [] → Puts o at whole o₁ r₁
-partly_all p e = rw (p.split, e, append-nil p.done) p.written
 
 -- ---- a word and what stands after it
 

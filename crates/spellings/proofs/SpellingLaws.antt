@@ -1,32 +1,19 @@
 -- The words of the classes, one by one.
 -- Assumes nothing.
-use Prim.Native.Nat.{ℕ, zero, suc, ◌+◌, ◌≤◌, ◌<◌}
+use Prim.Native.Nat.{ℕ, zero, suc, ◌+◌, ◌≤◌}
 use native.Mathlib.Omega.{arith}
 use mathlib.Core.Path.{◌≡◌, refl}
-use mathlib.Core.Bool.{Bool, true, ◌&&◌}
-use mathlib.Core.List.{[], ◌∷◌}
-use lib.Dec.{leb}
+use mathlib.Core.List.{List, [], ◌∷◌}
 use lib.ListN.{length, get_or, get_or-eq_default}
+use mathlib.Core.Bool.{true}
+use lib.Dec.{leb}
 use borrow.Author.Tests.{leb-true}
+use Rattle.spellings.proofs.DigitLaws.{up_to, below}
 use Rattle.lexemes.specs.Words.{same}
 use Rattle.lexemes.specs.Classes.{NAME}
 use Rattle.lexemes.specs.Lexemes.{signs, reserved, lexemes}
-use Rattle.lexemes.proofs.Lists.{either_less, and_true}
+use Rattle.lexemes.proofs.Lists.{either_less}
 use Rattle.answers.specs.Text.{lexeme, text_of}
-use Rattle.spellings.specs.declared.texts.Spelling.{Spelling}
-use Rattle.spellings.specs.Spelling.{ROOM, spelt, SpellsText}
-
--- ---- a test over the first numbers
-
-abbrev up_to : ℕ → (ℕ → Bool) → Bool
-up_to zero p = true
-up_to (suc n) p = p n && up_to n p
-
-below : (p : ℕ → Bool) (n k : ℕ) → up_to n p ≡ true → k < n → p k ≡ true
-below p zero k t h = absurd (omega arith)
-below p (suc n) k t h =
-    let both = and_true (p n) (up_to n p) t in
-    either_less k n (λ l. below p n k both.1 l) (λ l. let e : k ≡ n = omega arith in rw e both.0)
 
 -- ---- the words: a class has one just where it comes before NAME
 
@@ -49,17 +36,18 @@ past_all N j (suc m) k h f =
     omega arith
 
 -- an arm of the spellings, that of the class k
-pub spells : {class k : ℕ} {s : Spelling} → class ≡ k → spelt s ≡ text_of (lexeme k) → leb 2 s.3 && leb s.3 ROOM ≡ true → SpellsText (text_of (lexeme class)) s
-spells {s = s} e same bounds =
-    let both = and_true (leb 2 s.3) (leb s.3 ROOM) bounds in
-    rw e (record { same = same; least = leb-true 2 s.3 both.0; most = leb-true s.3 ROOM both.1 })
+pub spells : {class k : ℕ} {s : List ℕ} → class ≡ k → s ≡ text_of (lexeme k) → s ≡ text_of (lexeme class)
+spells e same = rw e same
 
 -- the text of a class that has no word
 pub no_word : (k : ℕ) → NAME ≤ k → text_of (lexeme k) ≡ 32 ∷ []
 unfolding text_of same
 no_word k h = rw (no_lexeme k h)
 
--- a word is short
+-- no word has more bytes, with what stands after it
+abbrev pub ROOM : ℕ
+ROOM = 24
+
 short_checked : up_to NAME (λ k. leb (length (text_of (lexeme k))) ROOM) ≡ true
 unfolding text_of lexemes signs reserved same
 short_checked = refl

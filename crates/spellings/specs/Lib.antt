@@ -1,3 +1,3 @@
--- The definitions that the contracts of `spellings` cite: an output and what is written into it, and short texts as numbers.
+-- The definitions that the contracts of `spellings` cite: an output, and what is written into it.
 pub mod Output
-pub mod Spelling
+pub mod Printed

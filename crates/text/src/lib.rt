@@ -10,7 +10,7 @@ ghost use Rattle.replies.specs.Replies.{resolve_reply};
 ghost use Rattle.text.specs.Answers.{told, RowsPrinted};
 
 use crate::items::put_text;
-use rows::clear_bytes;
+use spellings::output::Output;
 
 // The longest text.
 const LONGEST: usize = 65536;
@@ -46,13 +46,15 @@ fn room(lent: usize) -> usize
 fn print_rows(table: &mut [u64], out: &mut [u8], rows: usize, free: u64) -> Answer
     ensures { RowsPrinted table.old rows free out.old result table.new out.new }
 {
-    let bytes = put_text(out, table, rows);
+    let mut text = Output { bytes: out, at: 0 };
+    put_text(&mut text, table, rows);
+    let bytes = text.at;
     if room(out.len()) < bytes {
         rows::clear(table, 0);
-        clear_bytes(out, 0);
+        rows::clear(out, 0);
         return Answer::Long(bytes);
     }
-    clear_bytes(out, bytes);
+    rows::clear(out, bytes);
     Answer::Resolved(rows, free, bytes)
 }
 
@@ -66,11 +68,11 @@ pub fn resolve(src: &[u8], table: &mut [u64], out: &mut [u8]) -> Answer
     match answer {
         read::Answer::Accepted(rows, free) => print_rows(table, out, rows, free),
         read::Answer::Refused(number, place, line, column) => {
-            clear_bytes(out, 0);
+            rows::clear(out, 0);
             Answer::Refused(number, place, line, column)
         }
         read::Answer::Short(need) => {
-            clear_bytes(out, 0);
+            rows::clear(out, 0);
             Answer::Short(need)
         }
     }

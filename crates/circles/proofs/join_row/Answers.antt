@@ -1,5 +1,5 @@
 -- `circles::join_row` meets its contract: after j turns the first j words of row k are joined to row a.
-use mathlib.Core.Path.{ap}
+use mathlib.Core.Path.{ap, refl}
 use mathlib.Core.Bool.{not}
 use native.Mathlib.Omega.{arith}
 use Rattle.circles.proofs.Rows.{joining_start, joining_next}
@@ -15,12 +15,8 @@ pub loop-j-init : goal.loop-j-init
 loop-j-init c = joining_start _ _ _
 
 pub loop-j-preserved : goal.loop-j-preserved
-loop-j-preserved c =
-    let t = c in
-    joining_next t.loop-j.invariant (omega (arith, t.loop-j.invariant.size, c.join_word.ensures.map_len)) t.loop-j-test.true c.join_word.ensures.map_after
+loop-j-preserved c = joining_next c.loop-j.invariant (omega (arith, c.loop-j.invariant.size)) (omega arith) refl
 
 pub returns : goal.returns
 returns c =
-    let t = c in
-    let s = t in
-    row_tested s.args.map.now s.args.a s.args.k t.has.ensures (ap not t.if-not-has.false) c.loop-j.invariant c.loop-j-test.false
+    row_tested c.args.map.now c.args.a c.args.k c.has.ensures (ap not c.if-not-has.false) c.loop-j.invariant (omega arith)

@@ -1,16 +1,14 @@
 -- `has` meets its contract: past the last word nothing is used.
-use native.Mathlib.Omega.{arith}
-use mathlib.Core.Path.{sym}
-use borrow.Author.Rules.{rules}
+use Rattle.std.proofs.Common.{arith, rules, sym, ◌∙◌}
+use borrow.Author.Tests.{le-ltb}
 use Rattle.numbers.specs.Numbers.{used}
 use Rattle.numbers.proofs.Maps.{used_past}
 use Rattle.numbers.proofs.has.Goals as goal
 
-pub returns-then-n-ge-LIMIT : goal.returns-then-n-ge-LIMIT
-returns-then-n-ge-LIMIT c =
-    let s = c in
-    sym (used_past s.args.map.now s.args.n (omega (arith, c.words-1.given)))
-
-pub returns : goal.returns
+pub returns-then-n-lt-LIMIT : goal.returns-then-n-lt-LIMIT
 unfolding used
-returns c = search rules
+returns-then-n-lt-LIMIT c = search rules
+
+pub returns-else-n-lt-LIMIT : goal.returns-else-n-lt-LIMIT
+returns-else-n-lt-LIMIT c =
+    le-ltb c.args.n 65536 c.if-n-lt-LIMIT.false ∙ sym (used_past c.args.map.now c.args.n (omega arith))

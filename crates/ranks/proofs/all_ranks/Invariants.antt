@@ -1,10 +1,6 @@
 -- `ranks::all_ranks` meets its contract.
-use Prim.Native.Nat.{◌-◌}
 use Rattle.ranks.proofs.Places.{Knowing}
 use Rattle.ranks.proofs.all_ranks.Given as goal
 
 abbrev pub invariant-loop-a : goal.invariant-loop-a
-invariant-loop-a l = Knowing l.map l.a l.all
-
-abbrev pub decreases-loop-a : goal.decreases-loop-a
-decreases-loop-a l = 256 - l.a
+invariant-loop-a l = Knowing l.map l.a l.own-items

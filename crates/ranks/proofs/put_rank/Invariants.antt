@@ -1,5 +1,4 @@
 -- `ranks::put_rank` meets its contract.
-use Prim.Native.Nat.{◌+◌, ◌-◌}
 use lib.Dec.{eqb}
 use lib.ListN.{get_or}
 use Rattle.ranks.proofs.Places.{Putting}
@@ -7,6 +6,3 @@ use Rattle.ranks.proofs.put_rank.Given as goal
 
 abbrev pub invariant-loop-a : goal.invariant-loop-a
 invariant-loop-a l = Putting (λ x. eqb (get_or l.ranks x 0) l.r) l.n l.initial.order l.i l.a l.order l.next
-
-abbrev pub decreases-loop-a : goal.decreases-loop-a
-decreases-loop-a l = l.n + 1 - l.a

@@ -1,35 +1,31 @@
 -- `ranks::rank` meets its contract: after j turns the sum is the ones of the row's first j words.
-use native.Mathlib.Omega.{arith}
-use Prim.Native.Nat.{◌+◌, ◌*◌}
-use lib.Count.{ones-le}
-use Rattle.ranks.proofs.Ranks.{rank_none, ranking_start, ranking_next, ranking_end}
+use Rattle.std.proofs.Common.{ℕ, ◌+◌, ◌-◌, ◌*◌, ◌<◌, ◌≤◌, ◌≡◌, ◌∙◌, ap, List, length, get_or, take, drop, arith, length-take, length-drop}
+use lib.Count.{ones}
+use lib.Seq.{get_or-take, get_or-drop}
+use Rattle.ranks.proofs.Ranks.{rank_none, ranking_next, ranking_end}
 use Rattle.ranks.proofs.rank.Goals as goal
 
+-- the four words from n on
+module _ (ws : List ℕ) (n : ℕ) where
+  abbrev row : List ℕ
+  row = take (n + 4 - n) (drop n ws)
+
+  row_length : n + 4 ≤ length ws → length row ≡ 4
+  row_length h = simp (length-take, length-drop) (omega arith)
+
+  row_word : (j : ℕ) → j < 4 → get_or row j 0 ≡ get_or ws (n + j) 0
+  row_word j h = get_or-take (n + 4 - n) (drop n ws) j 0 (omega arith) ∙ get_or-drop n ws j 0
+
 pub returns-then-a-ge-RULES : goal.returns-then-a-ge-RULES
-returns-then-a-ge-RULES c =
-    let s = c in
-    rank_none s.args.map.now s.args.a (omega arith) c.if-a-ge-RULES.true
+returns-then-a-ge-RULES c = rank_none c.args.map.now c.args.a (omega arith) c.if-a-ge-RULES.true
 
-pub loop-j-init : goal.loop-j-init
-loop-j-init c = ranking_start _ _
-
-pub bounds-words-row : goal.bounds-words-row
-bounds-words-row c = omega arith
-
-pub overflow_cast-sum : goal.overflow_cast-sum
-overflow_cast-sum c =
-    let s = c in
-    omega (arith, ones-le 64 _ (c.type_inv.words (s.args.a * 4 + s.loop-j.j)).fits)
-
-pub overflow_add-sum-in-loop-j : goal.overflow_add-sum-in-loop-j
-overflow_add-sum-in-loop-j c =
-    let s = c in
-    omega (arith, ones-le 64 _ (c.type_inv.words (s.args.a * 4 + s.loop-j.j)).fits)
-
-pub loop-j-preserved : goal.loop-j-preserved
-loop-j-preserved c =
-    let s = c in
-    ranking_next s.loop-j.invariant c.loop-j-test.true (c.type_inv.words (s.args.a * 4 + s.loop-j.j)).fits
+pub loop-word-preserved : goal.loop-word-preserved
+loop-word-preserved c =
+    let ws = c.args.map.now in
+    let j : ℕ = c.loop-word.word-index in
+    let inside : j < 4 = omega (arith, row_length ws (c.args.a * 4) (omega arith), c.loop-word-test.true) in
+    rw (c.from-sum.ensures ∙ ap ones (row_word ws (c.args.a * 4) j inside)) (ranking_next c.loop-word.invariant inside (c.fits-map _))
 
 pub returns : goal.returns
-returns c = ranking_end c.loop-j.invariant c.loop-j-test.false
+returns c =
+    ranking_end c.loop-word.invariant (omega (arith, row_length c.args.map.now (c.args.a * 4) (omega arith), c.loop-word-test.false))

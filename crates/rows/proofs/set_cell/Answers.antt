@@ -1,20 +1,16 @@
 -- `rows::set_cell` meets its contract.
-use mathlib.Core.Path.{sym}
-use native.Mathlib.Omega.{arith}
+use Rattle.std.proofs.Common.{arith, sym}
 use Rattle.rows.proofs.CellLaws.{with_cell_inside, with_cell_outside, with_cell_past}
 use Rattle.rows.proofs.set_cell.Goals as goal
+use Rattle.rows.proofs.set_cell.Goals.{else-row-whole_rows-via-then-row-whole_rows+else-column-lt-ROW, else-row-whole_rows-via-else-row-whole_rows}
 
-pub returns-then-whole_rows-row : goal.returns-then-whole_rows-row
-returns-then-whole_rows-row c =
-    let a = c.args in
-    sym (with_cell_outside a.table.now a.row a.column a.value (omega arith))
+pub returns-then-column-lt-ROW : goal.returns-then-column-lt-ROW
+returns-then-column-lt-ROW c = let a = c.args in with_cell_inside a.table.now a.row a.column a.value (omega arith) (omega arith)
 
-pub returns-then-column-ge-ROW : goal.returns-then-column-ge-ROW
-returns-then-column-ge-ROW c =
+pub returns-else-row-whole_rows : goal.returns-else-row-whole_rows
+returns-else-row-whole_rows c =
     let a = c.args in
-    sym (with_cell_past a.table.now a.row a.column a.value (omega arith))
-
-pub returns : goal.returns
-returns c =
-    let a = c.args in
-    with_cell_inside a.table.now a.row a.column a.value (omega arith) (omega arith)
+    elim c.else-row-whole_rows.branch [
+      | else-row-whole_rows-via-then-row-whole_rows+else-column-lt-ROW w ↦ sym (with_cell_past a.table.now a.row a.column a.value (omega arith))
+      | else-row-whole_rows-via-else-row-whole_rows w ↦ sym (with_cell_outside a.table.now a.row a.column a.value (omega arith))
+    ]

@@ -16,5 +16,5 @@ pub returns-in-Err : goal.returns-in-Err
 returns-in-Err c =
     let args = c.args in
     let read = c.in-Err.ensures in
-    let it = unshown args.src.now args.answers.now _ args.out.now read.result_value read.table_after c.clear_bytes.ensures (refusal_refused _ _ _ read.result_value) in
+    let it = unshown args.src.now args.answers.now _ args.out.now read.result_value read.table_after c.clear.ensures (refusal_refused _ _ _ read.result_value) in
     record { result_value = rw c.into.ensures it.0; table_after = it.1.0; out_after = it.1.1 }

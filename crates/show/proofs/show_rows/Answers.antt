@@ -32,5 +32,5 @@ returns c =
     let it =
     all_shown _ _ _ _ _ good c.if-good-answers.false c.if-out-rows.false
     c.empty.ensures c.mark_rows.ensures.gotos_after c.empty-2.ensures c.mark_rows.ensures.checkboxes_after
-    c.show_table.ensures (search rules) refl c.clear_bytes.ensures in
+    c.show_table.ensures (search rules) refl c.clear.ensures in
     record { result_value = it.0; table_after = it.1.0; out_after = it.1.1 }

@@ -10,6 +10,6 @@ returns-then-signed c =
     rw (c.if-signed.true, c.bias.ensures, c.bias-then-signed.ensures)
     (sym (below_biased (width args.size) (width_some args.size) args.x args.y))
 
-pub returns : goal.returns
+pub returns-else-signed : goal.returns-else-signed
 unfolding below
-returns c = rw c.if-signed.false
+returns-else-signed c = rw c.if-signed.false

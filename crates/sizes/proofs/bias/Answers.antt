@@ -11,13 +11,8 @@ returns-then-minus c =
     let v = value _ (width_some args.size) args.x in
     rw c.half-h.ensures.value (omega (arith, v.with_minus (sym c.minus.ensures ∙ c.if-minus.true)))
 
-pub overflow_add-result : goal.overflow_add-result
-overflow_add-result c =
-    let h = c.half-h in
-    omega (arith, mod-lt c.args.x h.ensures.result_nonzero.0)
-
-pub returns : goal.returns
-returns c =
+pub returns-else-minus : goal.returns-else-minus
+returns-else-minus c =
     let args = c.args in
     let v = value _ (width_some args.size) args.x in
     rw c.half-h.ensures.value (omega (arith, v.without_minus (sym c.minus.ensures ∙ c.if-minus.false)))

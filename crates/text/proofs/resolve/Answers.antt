@@ -17,10 +17,10 @@ pub returns-in-Refused : goal.returns-in-Refused
 returns-in-Refused c =
     let args = c.args in
     let reading = c.read-answer in
-    let clear = c.clear_bytes in let it = unresolved_refused args.src.now _ args.out.now (ap read.told (sym c.in-Refused.is) ∙ reading.ensures.result_value) refl reading.ensures.table_after clear.ensures in record { result_value = it.0; table_after = it.1.0; out_after = it.1.1 }
+    let clear = c.clear in let it = unresolved_refused args.src.now _ args.out.now (ap read.told (sym c.in-Refused.is) ∙ reading.ensures.result_value) refl reading.ensures.table_after clear.ensures in record { result_value = it.0; table_after = it.1.0; out_after = it.1.1 }
 
 pub returns-in-Short : goal.returns-in-Short
 returns-in-Short c =
     let args = c.args in
     let reading = c.read-answer in
-    let clear2 = c.clear_bytes-in-Short in let it = unresolved_short args.src.now _ args.out.now (ap read.told (sym c.in-Short.is) ∙ reading.ensures.result_value) refl reading.ensures.table_after clear2.ensures in record { result_value = it.0; table_after = it.1.0; out_after = it.1.1 }
+    let clear2 = c.clear-in-Short in let it = unresolved_short args.src.now _ args.out.now (ap read.told (sym c.in-Short.is) ∙ reading.ensures.result_value) refl reading.ensures.table_after clear2.ensures in record { result_value = it.0; table_after = it.1.0; out_after = it.1.1 }

@@ -7,6 +7,6 @@ pub returns-then-want-eq-NUMERIC_FLAGS : goal.returns-then-want-eq-NUMERIC_FLAGS
 unfolding list_second
 returns-then-want-eq-NUMERIC_FLAGS c = rw (eq-eqb _ _ c.if-want-eq-NUMERIC_FLAGS.true)
 
-pub returns : goal.returns
+pub returns-else-want-eq-NUMERIC_FLAGS : goal.returns-else-want-eq-NUMERIC_FLAGS
 unfolding list_second
-returns c = rw (ne_eqb _ _ c.if-want-eq-NUMERIC_FLAGS.false)
+returns-else-want-eq-NUMERIC_FLAGS c = rw (ne_eqb _ _ c.if-want-eq-NUMERIC_FLAGS.false)

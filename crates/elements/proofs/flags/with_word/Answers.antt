@@ -2,4 +2,4 @@
 use Rattle.elements.proofs.flags.with_word.Goals as goal
 
 pub returns : goal.returns
-returns c = rw (c.with_size.ensures, c.with_display.ensures, c.mark_or.ensures, c.second_mark.ensures)
+returns c = rw (c.or.ensures, c.or-2.ensures, c.size.ensures, c.display.ensures, c.mark_or.ensures, c.second_mark.ensures)

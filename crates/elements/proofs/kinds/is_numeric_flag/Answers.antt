@@ -1,13 +1,6 @@
--- `elements::kinds::is_numeric_flag` meets its contract.
-use mathlib.Core.List.{[], ◌∷◌}
-use Rattle.lexemes.specs.Classes.{«INTERACTIVE», READ_ONLY, RESET_REQUIRED}
-use Rattle.lexemes.specs.Classes.{NUMERIC_SIZE_1, NUMERIC_SIZE_2, NUMERIC_SIZE_4, NUMERIC_SIZE_8}
-use Rattle.lexemes.specs.Classes.{DISPLAY_INT_DEC, DISPLAY_UINT_DEC, DISPLAY_UINT_HEX}
-use Rattle.elements.proofs.KindLaws.{one_of}
+-- `elements::kinds::is_numeric_flag` meets its contract: a flag, a size or a display.
+use Rattle.elements.proofs.WordValues.{numeric_word}
 use Rattle.elements.proofs.kinds.is_numeric_flag.Goals as goal
 
 pub returns : goal.returns
-returns c =
-    one_of c.args.class READ_ONLY
-    («INTERACTIVE» ∷ RESET_REQUIRED ∷ NUMERIC_SIZE_1 ∷ NUMERIC_SIZE_2 ∷ NUMERIC_SIZE_4 ∷ NUMERIC_SIZE_8
-    ∷ DISPLAY_INT_DEC ∷ DISPLAY_UINT_DEC ∷ DISPLAY_UINT_HEX ∷ [])
+returns c = rw (c.is_flag.ensures, c.is_some.ensures, c.is_some-2.ensures, c.size.ensures, c.display.ensures) (numeric_word c.args.class)

@@ -1,36 +1,50 @@
--- `phrases::reader::read_phrase` meets its contract. The loop's invariant: k elements are read, and the kept slice has its length; the measure is the elements left.
+-- `phrases::reader::read_phrase` meets its contract.
 use mathlib.Core.Path.{refl, ◌∙◌}
+use native.Mathlib.Omega.{arith}
+use Rattle.std.proofs.lemmas.Option.{unwrap_or-slice_get}
+use Rattle.std.proofs.lemmas.Result.{err_from_is_err_and}
 use Rattle.phrases.proofs.PhraseLoop.{turns_none, turns_all, turns_word, refused_word, turns_group, turns_absent, turns_taken, refused_element}
 use Rattle.phrases.proofs.reader.read_phrase.Goals as goal
 
-pub loop-k-init : goal.loop-k-init
-loop-k-init c = (turns_none _ _ _ c.requires, refl)
+pub loop-want-init : goal.loop-want-init
+loop-want-init c = (turns_none _ _ _ c.requires, refl)
 
-pub returns-then-token-want : goal.returns-then-token-want
-returns-then-token-want c = rw c.standing.ensures (refused_word c.loop-k.invariant.0 c.loop-k-test.true c.if-want-lt-NAME.true c.if-token-want.true)
+pub returns-then-at-want-clause-reads : goal.returns-then-at-want-clause-reads
+returns-then-at-want-clause-reads c = refused_word (rw c.in-Some.ensures.cases.0 at c.loop-want.invariant.0) c.if-want-lt-NAME.true c.if-at-want.true
 
-pub loop-k-preserved-then-want-lt-NAME : goal.loop-k-preserved-then-want-lt-NAME
-loop-k-preserved-then-want-lt-NAME c = (turns_word c.loop-k.invariant.0 c.loop-k-test.true c.if-want-lt-NAME.true c.if-token-want.false c.token_at-token.ensures, c.loop-k.invariant.1)
+pub loop-want-preserved-then-want-lt-NAME : goal.loop-want-preserved-then-want-lt-NAME
+loop-want-preserved-then-want-lt-NAME c =
+    let left = rw c.in-Some.ensures.cases.0 at c.loop-want.invariant.0 in
+    (turns_word left c.if-want-lt-NAME.true c.if-at-want.false c.token_at-at.ensures, c.loop-want.invariant.1)
 
-pub loop-k-preserved-then-token-element_at : goal.loop-k-preserved-then-token-element_at
-loop-k-preserved-then-token-element_at c = (turns_group c.loop-k.invariant.0 c.loop-k-test.true c.if-want.true c.element_at.ensures c.if-token-element_at.true, c.loop-k.invariant.1)
+pub loop-want-preserved-then-at-next : goal.loop-want-preserved-then-at-next
+loop-want-preserved-then-at-next c =
+    let left = rw c.in-Some.ensures.cases.0 at c.loop-want.invariant.0 in
+    let next = rw (c.copied.ensures, c.first.ensures.value) at c.unwrap_or-next.ensures ∙ unwrap_or-slice_get c.in-Some.rest.now 0 0 in
+    (turns_absent left c.if-want.true next c.if-at-next.true c.push.ensures.kept c.min.ensures, c.push.ensures.lent ∙ c.loop-want.invariant.1)
 
-pub loop-k-preserved-else-token-element_at : goal.loop-k-preserved-else-token-element_at
-loop-k-preserved-else-token-element_at c = (turns_absent c.loop-k.invariant.0 c.loop-k-test.true c.if-want.true c.element_at.ensures c.if-token-element_at.false c.keep-count.ensures, c.keep-count.auto.kept ∙ c.loop-k.invariant.1)
+pub loop-want-preserved-else-at-next : goal.loop-want-preserved-else-at-next
+loop-want-preserved-else-at-next c =
+    let left = rw c.in-Some.ensures.cases.0 at c.loop-want.invariant.0 in
+    let next = rw (c.copied.ensures, c.first.ensures.value) at c.unwrap_or-next.ensures ∙ unwrap_or-slice_get c.in-Some.rest.now 0 0 in
+    (turns_group left c.if-want.true next c.if-at-next.false, c.loop-want.invariant.1)
 
-pub read_element-c-requires : goal.read_element-c-requires
-read_element-c-requires c = rw c.standing-else-want.ensures c.loop-k.invariant.0.within
+pub read_element-requires : goal.read_element-requires
+read_element-requires c = c.loop-want.invariant.0.within
 
-pub returns-then-c-ne0 : goal.returns-then-c-ne0
-returns-then-c-ne0 c = refused_element c.loop-k.invariant.0 c.loop-k-test.true _ _ c.if-want.false (rw c.standing-else-want.ensures at c.read_element-c.ensures) c.if-c-ne0.true
+pub returns-in_err-at-clause-reads : goal.returns-in_err-at-clause-reads
+returns-in_err-at-clause-reads c =
+    let left = rw c.in-Some.ensures.cases.0 at c.loop-want.invariant.0 in
+    let p = err_from_is_err_and c.from_residual.result c.from_residual.ensures.1 in
+    rw (p.1, p.2) (refused_element left c.if-want.false c.in_err-at.ensures.reads refl (λ z. omega arith))
 
-pub loop-k-preserved : goal.loop-k-preserved
-loop-k-preserved c =
-    let call = c in
-    let turn = call in
-    let i = turn.loop-k.invariant in
-    let read = rw call.standing-else-want.ensures at call.read_element-c.ensures in
-    (turns_taken i.0 turn.loop-k-test.true _ _ call.if-want.false read c.if-c-ne0.false c.token_at-token-else-want.ensures, call.read_element-c.auto.kept ∙ i.1)
+pub returns-in_err-at-clause-lent : goal.returns-in_err-at-clause-lent
+returns-in_err-at-clause-lent c = c.in_err-at.ensures.lent ∙ c.loop-want.invariant.1
 
-pub returns : goal.returns
-returns c = rw c.standing-2.ensures (turns_all c.loop-k.invariant.0 c.loop-k-test.false)
+pub loop-want-preserved : goal.loop-want-preserved
+loop-want-preserved c =
+    let left = rw c.in-Some.ensures.cases.0 at c.loop-want.invariant.0 in
+    (turns_taken left c.if-want.false c.in_ok-at.ensures.reads, c.in_ok-at.ensures.lent ∙ c.loop-want.invariant.1)
+
+pub returns-clause-reads : goal.returns-clause-reads
+returns-clause-reads c = turns_all c.in_default.ensures.cases c.loop-want.invariant.0

@@ -6,13 +6,13 @@ use lib.ListN.{length}
 use Rattle.ll1.specs.ParseTable.{member}
 use Rattle.elements.specs.Kinds.{starts_of}
 use Rattle.phrases.specs.Stream.{stream, Within}
-use Rattle.phrases.specs.Phrase.{reader}
+use Rattle.phrases.specs.Phrase.{stands}
 use Rattle.phrases.proofs.FlagLoop.{Going}
 use Rattle.phrases.proofs.reader.take_flags.Given as goal
 
-abbrev pub invariant-loop-bar : goal.invariant-loop-bar
-invariant-loop-bar l =
-    (l.kept ≡ l.initial.kept) × Going l.src (reader l.c l.initial.kept) l.want l.word l.words × (member l.word.class (starts_of l.want) ≡ true) × Within l.src l.word
+abbrev pub invariant-loop-kept : goal.invariant-loop-kept
+invariant-loop-kept l =
+    (l.kept ≡ l.initial.kept) × Going l.src (stands l.at l.initial.kept) l.want l.word l.words × (member l.word.class (starts_of l.want) ≡ true) × Within l.src l.word
 
-abbrev pub decreases-loop-bar : goal.decreases-loop-bar
-decreases-loop-bar l = length (stream l.src l.word)
+abbrev pub decreases-loop-kept : goal.decreases-loop-kept
+decreases-loop-kept l = length (stream l.src l.word)

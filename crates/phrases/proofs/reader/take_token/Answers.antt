@@ -3,17 +3,18 @@ use Rattle.phrases.specs.Phrase.{taking}
 use Rattle.phrases.proofs.reader.take_token.Goals as goal
 
 pub note_range-noted-requires : goal.note_range-noted-requires
-unfolding taking
 note_range-noted-requires c = c.requires c.if-want.true
 
-pub keep_element-count-requires : goal.keep_element-count-requires
-unfolding taking
-keep_element-count-requires c = c.requires c.if-want.true
+pub push_element-requires : goal.push_element-requires
+push_element-requires c = c.requires c.if-want.true
 
-pub returns-then-want : goal.returns-then-want
+pub returns-then-want-clause-reads : goal.returns-then-want-clause-reads
 unfolding taking
-returns-then-want c = rw (c.standing.ensures, c.if-want.true, ← c.note_range-noted.ensures, ← c.keep_element-count.ensures)
+returns-then-want-clause-reads c = rw (c.token_at-token.ensures, c.if-want.true, ← c.note_range-noted.ensures, ← c.push_element.ensures.kept)
 
-pub returns : goal.returns
+pub returns-then-want-clause-lent : goal.returns-then-want-clause-lent
+returns-then-want-clause-lent c = c.push_element.ensures.lent
+
+pub returns-clause-reads : goal.returns-clause-reads
 unfolding taking
-returns c = rw (c.standing-2.ensures, c.if-want.false)
+returns-clause-reads c = rw (c.token_at-token.ensures, c.if-want.false)

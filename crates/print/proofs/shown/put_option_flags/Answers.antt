@@ -6,8 +6,8 @@ use Rattle.print.proofs.shown.put_option_flags.Goals as goal
 
 pub returns-then-is_set : goal.returns-then-is_set
 unfolding option_flags
-returns-then-is_set c = rw (sym c.is_set.ensures ∙ c.if-is_set.true) c.put_word.ensures
+returns-then-is_set c = rw (sym c.is_set.ensures ∙ c.if-is_set.true) c.word.ensures
 
 pub returns : goal.returns
 unfolding option_flags
-returns c = rw (sym c.is_set.ensures ∙ c.if-is_set.false) c.put_decimal.ensures
+returns c = rw (sym c.is_set.ensures ∙ c.if-is_set.false) c.decimal.ensures

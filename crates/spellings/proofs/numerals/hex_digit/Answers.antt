@@ -1,11 +1,11 @@
 -- `spellings::numerals::hex_digit` meets its contract.
 -- Assumes nothing.
 use native.Mathlib.Omega.{arith}
-use borrow.Author.Tests.{lt-ltb, le-ltb}
+use Rattle.spellings.proofs.DigitLaws.{hex_shifted, hex_past}
 use Rattle.spellings.proofs.numerals.hex_digit.Goals as goal
 
-pub returns-then-d-lt10 : goal.returns-then-d-lt10
-returns-then-d-lt10 c = rw (lt-ltb _ 10 c.if-d-lt10.true) (omega arith)
+pub returns-then-later-ge16 : goal.returns-then-later-ge16
+returns-then-later-ge16 c = hex_past c.args.n c.args.later (omega (arith, c.ranges.n)) c.if-later-ge16.true
 
 pub returns : goal.returns
-returns c = rw (le-ltb _ 10 c.if-d-lt10.false) (omega arith)
+returns c = hex_shifted c.args.n c.args.later

@@ -1,8 +1,0 @@
--- `fields::phrase::rule_row` meets its contract.
--- Assumes nothing.
-use Rattle.answers.specs.Drafts.{encoded}
-use Rattle.fields.proofs.phrase.rule_row.Goals as goal
-
-pub returns : goal.returns
-unfolding encoded
-returns c = rw c.plain_row-r.ensures

@@ -1,8 +1,0 @@
--- `spellings::bytes::store` meets its contract: past the end nothing is written.
--- Assumes nothing.
-use mathlib.Core.Path.{sym}
-use lib.Seq.{set_out}
-use Rattle.spellings.proofs.bytes.store.Goals as goal
-
-pub returns-else-at-out : goal.returns-else-at-out
-returns-else-at-out c = sym (set_out _ _ _ c.if-at-out.false)

@@ -25,16 +25,14 @@ module _ (s es t : List ℕ) (i : ℕ) {n : ℕ} (e : n ≡ cell_at t i column.A
   unfolding number_found
   number_written z = rw (← e, ne_eqb n 0 z)
 
-  module _ (z : n ≡ 0) {k m at : ℕ} (c : k ≡ cell_at t i column.CODE) (f : m ≡ (decoded (row_at t i)).own_at) (g : at ≡ find_in s es m (eqb k code.RULE_REF)) where
-    by_name : cond (eqb at 0) 0 (cell_at t (at - 1) column.OWN) ≡ number_found s es t (row_at t i)
+  module _ (z : n ≡ 0) {k m : ℕ} (c : k ≡ cell_at t i column.CODE) (f : m ≡ (decoded (row_at t i)).own_at) where
+    pub number_none : 0 ≡ find_in s es m (eqb k code.RULE_REF) → 0 ≡ number_found s es t (row_at t i)
     unfolding number_found
-    by_name = rw (← e, eq-eqb n 0 z, ← c, ← f, ← g)
+    number_none g = rw (← e, eq-eqb n 0 z, ← c, ← f, ← g)
 
-    pub number_none : at ≡ 0 → 0 ≡ number_found s es t (row_at t i)
-    number_none y = rw (eq-eqb at 0 y) at by_name
-
-    pub number_named : (at ≡ 0 → ⊥) → {o : ℕ} → o ≡ cell_at t (at - 1) column.OWN → o ≡ number_found s es t (row_at t i)
-    number_named y h = h ∙ (rw (ne_eqb at 0 y) at by_name)
+    pub number_named : (at : ℕ) → at + 1 ≡ find_in s es m (eqb k code.RULE_REF) → {o : ℕ} → o ≡ cell_at t at column.OWN → o ≡ number_found s es t (row_at t i)
+    unfolding number_found
+    number_named at g h = let q : at + 1 - 1 ≡ at = omega arith in rw (← e, eq-eqb n 0 z, ← c, ← f, ← g, ne_eqb (at + 1) 0 (λ y. omega arith), q) h
 
 -- it is told by the own numbers of the table
 same_number : (s es t t₀ r : List ℕ) → ((k : ℕ) → cell_at t k column.OWN ≡ cell_at t₀ k column.OWN) → number_found s es t r ≡ number_found s es t₀ r

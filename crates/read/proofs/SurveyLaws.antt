@@ -7,14 +7,14 @@ use mathlib.Core.Logic.{◌≢◌}
 use mathlib.Core.List.{List, [], ◌∷◌}
 use mathlib.Core.Option.{Option}
 use lib.ListN.{length}
-use Rattle.std.specs.Prelude.{Ok, Err, Some, None}
+use Rattle.std.specs.Prelude.{Option as Optional, Ok, Err, Some, None}
 use Rattle.refusals.specs.declared.Reason.{Reason}
 use Rattle.refusals.specs.declared.Reason.TheVariants.{SourceTooLong, OutOfRange, SecondWord}
 use Rattle.refusals.specs.Numbers.{number_of}
 use Rattle.lex.specs.Tokens.{first_bad}
 use Rattle.rows.specs.Table.{cleared}
 use Rattle.rows.proofs.ClearLaws.{cleared_whole}
-use Rattle.ll1.specs.Trees.{Token, Trees}
+use Rattle.ll1.specs.Trees.{Trees}
 use Rattle.ll1.specs.Verdict.{Verdict, accepted, ends_early, refused, Accepted, is_text, is_unfinished, no_text_starts_so, opens_too_many}
 use Rattle.grammar.specs.Derivation.{too_deep, NowhereTooDeep, SourceSays}
 use Rattle.grammar.specs.Grammar.{rules}
@@ -54,9 +54,6 @@ parsed_refusal s ends_early o h = refl
 parsed_refusal s (refused n p) o h = refl
 
 module _ {s t t' : List ℕ} (short : length s ≤ LONGEST) where
-  abbrev tokens_verdict : Verdict
-  tokens_verdict = verdict (source_tokens s)
-
   -- 2 to 4: the first bad token, or else the refusal of the grammar or of a depth
   pub walk_stops : (f : Fault) → Walks s (outcome (Err f)) t t' → Surveyed s (Err (unless_bad (first_bad s) f)) t t'
   walk_stops f v = by (first_bad s) refl
@@ -64,14 +61,14 @@ module _ {s t t' : List ℕ} (short : length s ≤ LONGEST) where
       h : number_of f.reason ≢ 0
       h q = let n = (number_bounds f.reason).0 in absurd (omega arith)
 
-      number : refusal_number tokens_verdict ≢ 0
+      number : refusal_number (verdict (source_tokens s)) ≢ 0
       number z = h (v.number ∙ z)
 
-      by : (b : Option ℕ) → first_bad s ≡ b → Surveyed s (Err (unless_bad b f)) t t'
+      by : (b : Optional ℕ) → first_bad s ≡ b → Surveyed s (Err (unless_bad b f)) t t'
       by (Some p) e = (checked_2 s p short e, v.zeros h)
       by None e = (
-        checked_parsed s tokens_verdict short e (verdict_right (source_tokens s))
-            ∙ (parsed_refusal s tokens_verdict (derivation (source_tokens s)) number ∙ rw (v.number, v.place)),
+        checked_parsed s (verdict (source_tokens s)) short e (verdict_right (source_tokens s))
+            ∙ (parsed_refusal s (verdict (source_tokens s)) (derivation (source_tokens s)) number ∙ rw (v.number, v.place)),
         v.zeros h,
       )
 

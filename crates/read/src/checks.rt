@@ -30,7 +30,10 @@ pub fn survey(src: &[u8], table: &mut [u64]) -> Result<usize, Fault>
     if LONGEST < src.len() {
         return refuse(table, Reason::SourceTooLong, 0);
     }
-    let walked = walk::walk(src, table).map_err(|fault| unless_bad(src, fault))?;
+    let walked = match walk::walk(src, table) {
+        Ok(walked) => walked,
+        Err(fault) => return Err(unless_bad(src, fault)),
+    };
     if let Some(place) = walked.noted.second {
         return refuse(table, Reason::SecondWord, place);
     }

@@ -4,6 +4,7 @@ ghost use Rattle.lex.specs.Tokens.{first_bad};
 ghost use Rattle.read.specs.Surveyed.{unless_bad, Surveyed};
 
 use crate::refuse;
+use elements::noted::Noted;
 use refusals::Reason;
 use walk::Fault;
 
@@ -34,11 +35,12 @@ pub fn survey(src: &[u8], table: &mut [u64]) -> Result<usize, Fault>
         Ok(walked) => walked,
         Err(fault) => return Err(unless_bad(src, fault)),
     };
-    if let Some(place) = walked.noted.second {
-        return refuse(table, Reason::SecondWord, place);
+    let Noted { second, outside } = walked.noted;
+    if let Some(word) = second {
+        return refuse(table, Reason::SecondWord, word);
     }
-    if let Some(place) = walked.noted.outside {
-        return refuse(table, Reason::OutOfRange, place);
+    if let Some(number) = outside {
+        return refuse(table, Reason::OutOfRange, number);
     }
     Ok(walked.rows)
 }

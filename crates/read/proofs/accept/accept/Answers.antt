@@ -13,7 +13,7 @@ returns-in-Some c =
     let place = ap marked c.in-Some.is in
     let refuse = c.refuse.ensures in record { result_value = rw refuse.0 (circle_answer pre settled circle _ place); table_after = circle_table pre settled circle _ place refuse.1 }
 
-pub overflow_sub-free-in-None : goal.overflow_sub-free-2
+pub overflow_sub-free-in-None : goal.overflow_sub-free-in-None
 overflow_sub-free-in-None c = used_few c.requires c.settle.ensures.used_after c.used_count.ensures
 
 pub returns-in-None : goal.returns-in-None

@@ -30,8 +30,12 @@ use Rattle.answers.proofs.Demand3 as Demand3
 use Rattle.replies.specs.Replies.{Reply, position_of, accepting, read_replied, read_reply}
 use Rattle.replies.specs.Lines.{Unplaced, GivesLine}
 use Rattle.replies.proofs.Laws.{gives_line}
-use Rattle.read.specs.declared.Answer.{Answer}
-use Rattle.read.specs.Answers.{told}
+use Rattle.std.specs.Prelude.{Result}
+use Rattle.read.specs.declared.Accepted.{Accepted}
+use Rattle.read.specs.declared.Refusal.{Refusal}
+use Rattle.read.specs.Answers as reading
+use Rattle.family.specs.declared.BadFamily.{BadFamily}
+use Rattle.family.specs.Answers.{told}
 use Rattle.read.proofs.Demands.{Reading}
 use Rattle.family.specs.Family.{WORDS, sources_of, rows_with, all_rows, all_words, six_words, rows_taken, members, is_bad, not_read}
 use Rattle.family.specs.Family.{readings, family_reply, family_table, family_answers}
@@ -46,14 +50,14 @@ use Rattle.family.proofs.read_family.Reads as promise
 
 -- what a call of `read_family` does: the sources that the ends part in the buffer are read into a table of n numbers, with m words lent for answers; r is
 -- the call's own answer, t' the table and a' the answers afterwards
-pub record ReadingFamily (buffer ends : List ℕ) (n m : ℕ) (r : Answer) (t' a' : List ℕ) : Type 0 where
+pub record ReadingFamily (buffer ends : List ℕ) (n m : ℕ) (r : Result Accepted BadFamily) (t' a' : List ℕ) : Type 0 where
   pub answer : told r ≡ family_reply buffer ends n m
   pub table : t' ≡ family_table buffer ends n m
   pub answers : a' ≡ family_answers buffer ends n m
 
 -- every call does so: what the contract of `read_family` promises a caller who lends a and finds e lent back
 pub reading_family :
-    (κs : Lfts 4) (a : Dens κs kinds.ps) (r : Answer) (e : AtExit (ended_of 4 kinds.ps kinds.r) κs)
+    (κs : Lfts 4) (a : Dens κs kinds.ps) (r : Result Accepted BadFamily) (e : AtExit (ended_of 4 kinds.ps kinds.r) κs)
     → promise.Learnt κs a r e
     → ReadingFamily a.0.now a.1.0.now (length a.1.1.0.now) (length a.1.1.1.0.now) r e.1.1.0.now e.1.1.1.0.now
 reading_family κs a r e p = record { answer = p.0; table = p.1.0; answers = p.1.1 }
@@ -66,7 +70,7 @@ unplaced_line s q u l c = record { placed = λ h. absurd (h u); unplaced = λ h.
 six_only : (s : List ℕ) {a b : answer.Answer} → six_words (read_replied s a) ≡ six_words (read_replied s b) → a ≡ b
 six_only s e = λ j. record { number = get_or (e j) 0 0; place = get_or (e j) 1 0; rows = get_or (e j) 2 0; free = get_or (e j) 3 0 }
 
-module _ {buffer ends : List ℕ} {n m : ℕ} {r : Answer} {t' a' : List ℕ} (v : ReadingFamily buffer ends n m r t' a') where
+module _ {buffer ends : List ℕ} {n m : ℕ} {r : Result Accepted BadFamily} {t' a' : List ℕ} (v : ReadingFamily buffer ends n m r t' a') where
   -- ---- "Refusals: 17 for the whole call"
 
   abbrev bad : Bool
@@ -188,16 +192,16 @@ module _ {buffer ends : List ℕ} {n m : ℕ} {r : Answer} {t' a' : List ℕ} (v
       rows_left = rw (answers_are, ← source_is, table_is) (Each.rows_alone whole sources m i inside' n)
 
       -- any call of `read` on it alone, with as many whole rows
-      module _ {k : ℕ} {r₁ : Answer} {t₁ : List ℕ} (w : Reading s k r₁ t₁) (rows_lent : k / ROW ≡ left) where
-        same_reply : told r₁ ≡ read_reply s (left * ROW)
+      module _ {k : ℕ} {r₁ : Result Accepted Refusal} {t₁ : List ℕ} (w : Reading s k r₁ t₁) (rows_lent : k / ROW ≡ left) where
+        same_reply : reading.told r₁ ≡ read_reply s (left * ROW)
         same_reply = w.answer ∙ ap (read_replied s) (answer_by_rows s k left rows_lent)
 
-        pub answer_alone : words_at a' i ≡ six_words (told r₁)
+        pub answer_alone : words_at a' i ≡ six_words (reading.told r₁)
         answer_alone = words_left ∙ ap six_words (sym same_reply)
 
-        pub rows_alone : rows_from t' (taken_before a' i) (rows_taken (told r₁)) ≡ rows_from t₁ 0 (rows_taken (told r₁))
+        pub rows_alone : rows_from t' (taken_before a' i) (rows_taken (reading.told r₁)) ≡ rows_from t₁ 0 (rows_taken (reading.told r₁))
         rows_alone =
-            let taken : rows_taken (told r₁) ≡ length (rows_with s left) = ap rows_taken same_reply ∙ rows_taken_lem s left in
+            let taken : rows_taken (reading.told r₁) ≡ length (rows_with s left) = ap rows_taken same_reply ∙ rows_taken_lem s left in
             rw (taken, w.table) (rows_left ∙ sym (table_by_rows s left k rows_lent))
 
       -- ---- demand 1 of the source: "A refusal carries number and place", exactly when a line of document 01's table says so

@@ -1,5 +1,6 @@
 -- The definitions that the contract of `read_family` cites.
 pub mod Family
+pub mod Answers
 -- What its theorems say of refusal 17, and of the sources one by one.
 pub mod Bad
 pub mod Each

@@ -5,14 +5,16 @@ ghost use Rattle.std.specs.Prelude.{◌≡◌, ◌++◌, ◌+◌, ◌-◌, ◌*�
 ghost use Rattle.rows.specs.Columns.{ROW};
 ghost use Rattle.rows.specs.Table.{whole_rows};
 ghost use Rattle.rows.specs.Rows.{rows_from, laid};
-ghost use Rattle.read.specs.Answers.{told};
+ghost use Rattle.read.specs.Answers as reading;
 ghost use Rattle.lent.specs.Numbers.{in_lent, reply_numbers};
-ghost use Rattle.replies.specs.Replies.{read_reply};
+ghost use Rattle.replies.specs.Replies.{Reply, read_reply};
+ghost use Rattle.family.specs.Answers.{not_read_told, told};
 ghost use Rattle.family.specs.Family.{bad_ends, is_bad, rows_taken, rows_with, readings, family_reply, family_table, family_answers};
 ghost use Rattle.family.specs.Steps.{Free, Blank, Written};
 
-use lent::put_answer;
-use read::{Answer, read_over};
+use lent::{Numbers, put_answer};
+use read::{Accepted, Refusal, read_over};
+use refusals::Reason;
 use rows::columns::ROW;
 use rows::whole_rows;
 
@@ -24,16 +26,24 @@ const LONGEST: usize = 65536;
 // How many words an answer has.
 const WORDS: usize = 6;
 
-// The number of a family that is not read.
-const BAD_FAMILY: u64 = 17;
+// A family that is not read.
+#[derive(Clone, Copy, Debug, PartialEq, Eq)]
+pub struct BadFamily;
+
+impl Numbers for BadFamily {
+    ghost told = { not_read_told };
+
+    fn numbers(&self) -> [u64; 7] {
+        [Reason::BadFamily.into(), 0, 0, 0, 0, 0, 0]
+    }
+}
 
 // Whether an end is below the one before it, or the last (0 if there is none) is not the length.
 fn bad_ends(ends: &[u64], length: usize) -> bool
     ensures { result ≡ bad_ends 0 ends.now length }
 {
     let mut last = 0;
-    for k in 0..ends.len() {
-        let end = ends[k];
+    for &end in ends {
         if end < last {
             return true;
         }
@@ -52,35 +62,13 @@ fn is_bad(buffer: &[u8], ends: &[u64], answers: &[u64]) -> bool
         | (answers.len() / WORDS < ends.len())
 }
 
-// The smaller of two numbers.
-fn smaller(a: usize, b: usize) -> usize
-    ensures { result ≡ min a b }
-{
-    if a < b {
-        return a;
-    }
-    b
-}
-
 // Writes a source's answer: how many rows it uses.
-fn put_taken(out: &mut [u64], answer: Answer) -> usize
-    ensures value { result ≡ rows_taken (told answer) }
-    ensures out_after { out.new ≡ in_lent (length out.old) (reply_numbers (told answer)) }
+fn put_taken(out: &mut [u64], answer: Result<Accepted, Refusal>) -> usize
+    ensures value { result ≡ rows_taken (reading.told answer) }
+    ensures out_after { out.new ≡ in_lent (length out.old) (reply_numbers (reading.told answer)) }
 {
-    match answer {
-        Answer::Accepted(rows, free) => {
-            put_answer(out, Answer::Accepted(rows, free));
-            rows
-        }
-        Answer::Refused(number, place, line, column) => {
-            put_answer(out, Answer::Refused(number, place, line, column));
-            0
-        }
-        Answer::Short(need) => {
-            put_answer(out, Answer::Short(need));
-            0
-        }
-    }
+    put_answer(out, &answer);
+    answer.map_or(0, |accepted| accepted.rows)
 }
 
 // Reads a source behind the rows of a table, so many and then zeros, and writes its answer: how many rows there then are.
@@ -96,7 +84,7 @@ fn read_next(src: &[u8], table: &mut [u64], rows: usize, out: &mut [u64]) -> usi
         ≡ in_lent (length out.old) (reply_numbers (read_reply src.now ((whole_rows table.old - rows) * ROW))) }
 {
     let from = rows * ROW;
-    let to = from + smaller(src.len(), whole_rows(table) - rows) * ROW;
+    let to = from + src.len().min(whole_rows(table) - rows) * ROW;
     let answer = read_over(src, &mut table[from..to]);
     rows + put_taken(out, answer)
 }
@@ -120,7 +108,12 @@ fn read_all(buffer: &[u8], ends: &[u64], table: &mut [u64], answers: &mut [u64])
 }
 
 // Reads the sources of a family, joined in one buffer and parted by their ends, into one table, with six words for each.
-pub fn read_family(buffer: &[u8], ends: &[u64], table: &mut [u64], answers: &mut [u64]) -> Answer
+pub fn read_family(
+    buffer: &[u8],
+    ends: &[u64],
+    table: &mut [u64],
+    answers: &mut [u64],
+) -> Result<Accepted, BadFamily>
     ensures result_value { told result ≡ family_reply buffer.now ends.now (length table.old) (length answers.old) }
     ensures table_after { table.new ≡ family_table buffer.now ends.now (length table.old) (length answers.old) }
     ensures answers_after { answers.new
@@ -129,8 +122,8 @@ pub fn read_family(buffer: &[u8], ends: &[u64], table: &mut [u64], answers: &mut
     rows::clear(table, 0);
     rows::clear(answers, 0);
     if is_bad(buffer, ends, answers) {
-        return Answer::Refused(BAD_FAMILY, 0, 0, 0);
+        return Err(BadFamily);
     }
     let rows = read_all(buffer, ends, table, answers);
-    Answer::Accepted(rows, 0)
+    Ok(Accepted { rows, free: 0 })
 }

@@ -105,9 +105,11 @@ module _ {s es ws t : List ℕ} {count : ℕ} (pre : Ready s es ws t count) wher
       answer_is : answer_past12 s ds ≡ cond (eqb m 0) acceptance (refuses 14 (place_of m))
       answer_is = stage_first first_circle 14 acceptance
 
-      module _ (h : m ≢ 0) where
-        pub circle_answer : refuses 14 (m - 1) ≡ answer_past12 s ds
-        circle_answer = sym (answer_is ∙ rw (ne_eqb m 0 h))
+      module _ {place : ℕ} (h : m ≡ place + 1) where
+        pub circle_answer : refuses 14 place ≡ answer_past12 s ds
+        circle_answer =
+            let at : m - 1 ≡ place = omega (arith, h) in
+            sym (answer_is ∙ rw (ne_eqb m 0 (λ z. omega (arith, h)), at))
 
         pub circle_table : {u : List ℕ} → u ≡ cleared t₁ 0 → u ≡ table_past12 s t count
         unfolding table_past12

@@ -1,25 +1,37 @@
 -- The answer of each outcome: line and column stand beside a place.
 -- Assumes nothing.
 use Prim.Native.Nat.{ℕ}
-use mathlib.Core.Path.{◌≡◌}
+use mathlib.Core.Path.{◌≡◌, refl}
 use mathlib.Core.List.{List}
-use Rattle.positions.specs.declared.Position.{Position}
+use Rattle.std.specs.Prelude.{Result, Ok, Err}
+use Rattle.ll1.proofs.Basics.{clash}
+use Rattle.answers.specs.Answer.{needs}
 use Rattle.replies.specs.Replies.{position_of, read_replied}
-use Rattle.read.specs.declared.Outcome.{Outcome}
-use Rattle.read.specs.declared.Outcome.TheVariants as outcome
-use Rattle.read.specs.declared.Answer.TheVariants.{Accepted, Refused, Short}
-use Rattle.read.specs.Answers.{found, told}
+use Rattle.read.specs.declared.Accepted.{Accepted}
+use Rattle.read.specs.declared.Fault.{Fault}
+use Rattle.read.specs.declared.Refusal.{Refusal}
+use Rattle.read.specs.declared.Refusal.TheVariants.{TooFewRows}
+use Rattle.read.specs.Answers.{refused, found, refusal_told, told, InFull}
 
-module _ (s : List ℕ) {o : Outcome} where
-  pub told_accepted : {rows free : ℕ} → o ≡ outcome.Accepted rows free → told (Accepted rows free) ≡ read_replied s (found o)
+module _ (s : List ℕ) where
+  pub needs_told : (need : ℕ) → refusal_told (TooFewRows need) ≡ read_replied s (needs need)
   unfolding position_of
-  told_accepted e = rw e
+  needs_told need = refl
 
-  pub told_refused :
-      {number place : ℕ} {p : Position} → o ≡ outcome.Refused number place → p ≡ position_of s number place
-      → told (Refused number place p.line p.column) ≡ read_replied s (found o)
-  told_refused e f = rw (e, f)
-
-  pub told_short : {need : ℕ} → o ≡ outcome.Short need → told (Short need) ≡ read_replied s (found o)
+  pub found_told : (o : Result Accepted Fault) (m : Result Accepted Refusal) → InFull s o m → told m ≡ read_replied s (found o)
   unfolding position_of
-  told_short e = rw e
+  found_told (Ok a) m p = rw p
+  found_told (Err f) (Ok a) p = absurd p
+  found_told (Err f) (Err d) p = p
+
+  pub refused_told :
+      {A : Type 0} (o : Result A Fault) (m : Result A Refusal) → InFull s o m → {d : Refusal} → m ≡ Err d
+      → (f : Fault) × (o ≡ Err f) × (refusal_told d ≡ read_replied s (refused f))
+  refused_told (Ok x) m p h = clash cc
+  refused_told (Err f) (Ok x) p h = clash cc
+  refused_told (Err f) (Err e) p {d} h = let same : d ≡ e = cc in (f, refl, rw same p)
+
+  pub passed_on : {A : Type 0} (o : Result A Fault) (m : Result A Refusal) → InFull s o m → {x : A} → m ≡ Ok x → o ≡ Ok x
+  passed_on (Ok y) m p h = cc
+  passed_on (Err f) (Ok y) p h = absurd p
+  passed_on (Err f) (Err e) p h = clash cc

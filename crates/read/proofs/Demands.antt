@@ -12,6 +12,7 @@ use borrow.Author.Tests.{ne_eqb}
 use borrow.Fn.Kinds.{Dens, ended_of}
 use contract.Lifetimes.{Lfts}
 use denote.Triple.Clauses.{AtExit}
+use Rattle.std.specs.Prelude.{Result}
 use Rattle.numbers.specs.Numbers.{numbered, free_count}
 use Rattle.rows.specs.Codes as code
 use Rattle.rows.specs.Columns as column
@@ -38,7 +39,8 @@ use Rattle.sound.proofs.SizedRows as SizedRows
 use Rattle.replies.specs.Replies.{position_of, accepting, read_replied, read_reply}
 use Rattle.replies.specs.Lines.{GivesLine}
 use Rattle.replies.proofs.Laws.{gives_line, read_replied_only}
-use Rattle.read.specs.declared.Answer.{Answer}
+use Rattle.read.specs.declared.Accepted.{Accepted}
+use Rattle.read.specs.declared.Refusal.{Refusal}
 use Rattle.read.specs.Answers.{told}
 use Rattle.read.proofs.read.Kinds as kinds
 use Rattle.read.proofs.read.Reads as promise
@@ -46,17 +48,17 @@ use Rattle.read.proofs.quick_check.Kinds as quick_kinds
 use Rattle.read.proofs.quick_check.Reads as quick_promise
 
 -- what a call of `read` does: the source s is read into a table of n numbers; r is the answer, and t' the table afterwards
-pub record Reading (s : List ℕ) (n : ℕ) (r : Answer) (t' : List ℕ) : Type 0 where
+pub record Reading (s : List ℕ) (n : ℕ) (r : Result Accepted Refusal) (t' : List ℕ) : Type 0 where
   pub answer : told r ≡ read_reply s n
   pub table : t' ≡ read_table s n
 
 -- every call does so: what the contract of `read` promises a caller who lends a and finds e lent back
 pub reading :
-    (κs : Lfts 2) (a : Dens κs kinds.ps) (r : Answer) (e : AtExit (ended_of 2 kinds.ps kinds.r) κs)
+    (κs : Lfts 2) (a : Dens κs kinds.ps) (r : Result Accepted Refusal) (e : AtExit (ended_of 2 kinds.ps kinds.r) κs)
     → promise.Learnt κs a r e → Reading a.0.now (length a.1.0.now) r e.1.0.now
 reading κs a r e p = record { answer = p.0; table = p.1 }
 
-module _ {s : List ℕ} {n : ℕ} {r : Answer} {t' : List ℕ} (v : Reading s n r t') where
+module _ {s : List ℕ} {n : ℕ} {r : Result Accepted Refusal} {t' : List ℕ} (v : Reading s n r t') where
   number : (told r).number ≡ (read_answer s n).number
   number = ap (λ a. a.number) v.answer
 

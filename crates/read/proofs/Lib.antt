@@ -1,8 +1,8 @@
 pub mod AcceptedRows
+pub mod AnswerLaws
 pub mod SurveyLaws
 pub mod FaultLaws
 pub mod AcceptLaws
 pub mod FinishLaws
 pub mod ReadLaws
-pub mod AnswerLaws
 pub mod Demands

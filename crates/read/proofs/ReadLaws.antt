@@ -2,23 +2,24 @@
 -- Assumes nothing.
 use Prim.Native.Nat.{ℕ, ◌+◌, ◌*◌, ◌/◌, ◌%◌, ◌≤◌, ◌<◌, ◌^◌}
 use native.Mathlib.Omega.{arith}
-use mathlib.Core.Path.{◌≡◌, sym, ap, ◌∙◌}
+use mathlib.Core.Path.{◌≡◌, sym, ap, subst, ◌∙◌}
 use mathlib.Core.Logic.{◌≢◌}
 use mathlib.Core.List.{List, map}
 use lib.ListN.{length, replicate, length-map}
-use native.Mathlib.Decide.{ℕ_discrete}
 use borrow.Author.Tests.{eq-eqb, ne_eqb, lt-ltb}
+use Rattle.std.specs.Prelude.{Result, Ok, Err}
+use Rattle.refusals.specs.Numbers.{number_of}
+use Rattle.refusals.proofs.Bounds.{number_bounds}
 use Rattle.rows.specs.Columns.{ROW}
 use Rattle.rows.specs.Table.{whole_rows, cleared}
 use Rattle.rows.specs.Rows.{rows_from, put}
 use Rattle.rows.proofs.ClearLaws.{cleared_whole}
 use Rattle.rows.proofs.RunLaws.{length_put, rows_put, put_twice}
 use Rattle.rows.proofs.LaidLaws.{put_cleared}
-use Rattle.ll1.specs.Trees.{Trees}
 use Rattle.answers.specs.Rows.{Draft}
 use Rattle.answers.specs.Drafts.{encoded, drafts_from}
 use Rattle.answers.specs.Answer.{Answer, refuses, needs, answer_of, drafts}
-use Rattle.answers.specs.WholeAnswer.{Checked, refusal, derived, checked, quick_check, read_answer, rows_of, read_table}
+use Rattle.answers.specs.WholeAnswer.{Checked, refusal, checked, quick_check, read_answer, rows_of, read_table}
 use Rattle.answers.specs.Stages.{finished}
 use Rattle.answers.proofs.FoundRows.{finished_count}
 use Rattle.answers.proofs.Checks.{Decided, stopped, passed, decided, early_bounds}
@@ -26,7 +27,8 @@ use Rattle.drafts.specs.Fits.{AllFit}
 use Rattle.drafts.proofs.CodingLaws.{sound_fit, are_encoded, drafts_held}
 use Rattle.replies.specs.Replies.{accepting, read_reply}
 use Rattle.replies.proofs.Laws.{accepting_only}
-use Rattle.read.specs.declared.Survey.{Survey}
+use Rattle.read.specs.declared.Fault.{Fault}
+use Rattle.read.specs.Answers.{refused}
 use Rattle.read.specs.Surveyed.{SurveyedWhole, Surveyed}
 use Rattle.read.specs.Drafted.{Drafted, table_after}
 use Rattle.read.specs.Over.{read_over}
@@ -38,6 +40,13 @@ use Rattle.read.proofs.AcceptedRows.{derived_rows, accepted_rows}
 abbrev Read : List ℕ → List ℕ → Answer → List ℕ → Type 0
 Read s t a u = (a ≡ read_answer s (length t)) × (u ≡ read_over s t)
 
+-- a survey that refuses, and one that passes
+pub survey_refused : (s t t' : List ℕ) {r : Result ℕ Fault} (f : Fault) → Surveyed s r t t' → r ≡ Err f → Surveyed s (Err f) t t'
+survey_refused s t t' f v e = subst (λ r. Surveyed s r t t') e v
+
+pub survey_passed : (s t t' : List ℕ) {r : Result ℕ Fault} {count : ℕ} → Surveyed s r t t' → r ≡ Ok count → SurveyedWhole s count t t'
+survey_passed s t t' v e = subst (λ r. Surveyed s r t t') e v
+
 refused_table : (s t : List ℕ) {a : Answer} → a ≡ read_answer s (length t) → a.number ≢ 0 → {u : List ℕ} → u ≡ replicate (length t) 0 → u ≡ read_over s t
 unfolding read_over
 refused_table s t e h f = f ∙ rw (← e, ne_eqb _ 0 h)
@@ -46,10 +55,10 @@ refusal_read : (s : List ℕ) (n k p : ℕ) → checked s ≡ refusal k p → re
 unfolding read_answer
 refusal_read s n k p e = sym (rw (e, read_answer))
 
-pub refused_read : {s t t' : List ℕ} {r : Survey} → Surveyed s r t t' → r.number ≢ 0 → Read s t (refuses r.number r.place) t'
-refused_read {s} {t} {r = r} v h =
-    let e = refusal_read s (length t) r.number r.place (v.refused h) in
-    (e, refused_table s t e h (v.zeros h).1)
+pub refused_read : (s t : List ℕ) {t' : List ℕ} (f : Fault) → Surveyed s (Err f) t t' → Read s t (refused f) t'
+refused_read s t f v =
+    let e = refusal_read s (length t) (number_of f.reason) f.place v.0 in
+    (e, refused_table s t e (λ z. omega (arith, number_bounds f.reason)) v.1)
 
 -- ---- stages 1 to 5 passed
 
@@ -125,21 +134,17 @@ module _ (s t : List ℕ) {u : List ℕ} (over : u ≡ read_over s t) where
 
 -- ---- the quick check
 
-quick_refusal : (s : List ℕ) (k p : ℕ) → checked s ≡ refusal k p → k % 2 ^ 32 * 2 ^ 32 + p % 2 ^ 32 ≡ quick_check s
+quick_refusal : (s : List ℕ) (k p : ℕ) → checked s ≡ refusal k p → k * 2 ^ 32 + p % 2 ^ 32 ≡ quick_check s
 unfolding quick_check
 quick_refusal s k p e = by (decided s) e ∙ sym (rw (e, quick_check))
   where
-    by : {c : Checked} → Decided s c → c ≡ refusal k p → k % 2 ^ 32 * 2 ^ 32 + p % 2 ^ 32 ≡ k * 2 ^ 32 + p
+    by : {c : Checked} → Decided s c → c ≡ refusal k p → k * 2 ^ 32 + p % 2 ^ 32 ≡ k * 2 ^ 32 + p
     by (stopped j q h b r) g = let i : j ≡ k = cc in let o : q ≡ p = cc in omega (arith, early_bounds j h)
     by (passed g w o) g' = absurd (let z : ◌≡◌ {A = ℕ} 0 1 = cc in omega arith)
 
-quick_derived : (s : List ℕ) (tree : Trees) → checked s ≡ derived tree → 0 ≡ quick_check s
-unfolding quick_check
-quick_derived s tree e = sym (rw (e, quick_check))
+pub quick_refused : (s : List ℕ) (f : Fault) {n : ℕ} → checked s ≡ refusal (number_of f.reason) f.place → n ≡ number_of f.reason → n * 2 ^ 32 + f.place % 2 ^ 32 ≡ quick_check s
+quick_refused s f e n = rw n (quick_refusal s (number_of f.reason) f.place e)
 
-pub quick_answer : {s t t' : List ℕ} {r : Survey} → Surveyed s r t t' → r.number % 2 ^ 32 * 2 ^ 32 + r.place % 2 ^ 32 ≡ quick_check s
-quick_answer {s} {r = r} v = by (ℕ_discrete r.number 0)
-  where
-    by : Dec (r.number ≡ 0) → r.number % 2 ^ 32 * 2 ^ 32 + r.place % 2 ^ 32 ≡ quick_check s
-    by (yes z) = let w = v.passed z in rw (z, w.0) (quick_derived s w.1.tree w.1.is)
-    by (no h) = quick_refusal s r.number r.place (v.refused h)
+pub quick_passed : {s t t' : List ℕ} {count : ℕ} → SurveyedWhole s count t t' → 0 ≡ quick_check s
+unfolding quick_check
+quick_passed v = sym (rw (v.is, quick_check))

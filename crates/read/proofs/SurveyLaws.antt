@@ -6,14 +6,17 @@ use mathlib.Core.Path.{◌≡◌, refl, sym, ◌∙◌}
 use mathlib.Core.Logic.{◌≢◌}
 use mathlib.Core.List.{List, [], ◌∷◌}
 use mathlib.Core.Option.{Option}
-use lib.ListN.{length, replicate}
-use Rattle.std.specs.Prelude.{Option as Optional, Some, None}
+use lib.ListN.{length}
+use Rattle.std.specs.Prelude.{Ok, Err, Some, None}
+use Rattle.refusals.specs.declared.Reason.{Reason}
+use Rattle.refusals.specs.declared.Reason.TheVariants.{SourceTooLong, OutOfRange, SecondWord}
+use Rattle.refusals.specs.Numbers.{number_of}
 use Rattle.lex.specs.Tokens.{first_bad}
 use Rattle.rows.specs.Table.{cleared}
 use Rattle.rows.proofs.ClearLaws.{cleared_whole}
-use Rattle.ll1.specs.Trees.{Trees}
-use Rattle.ll1.specs.Verdict.{Verdict, accepted, ends_early, refused, Accepted}
-use Rattle.grammar.specs.Derivation.{too_deep, NowhereTooDeep}
+use Rattle.ll1.specs.Trees.{Token, Trees}
+use Rattle.ll1.specs.Verdict.{Verdict, accepted, ends_early, refused, Accepted, is_text, is_unfinished, no_text_starts_so, opens_too_many}
+use Rattle.grammar.specs.Derivation.{too_deep, NowhereTooDeep, SourceSays}
 use Rattle.grammar.specs.Grammar.{rules}
 use Rattle.grammar.specs.Reading.{verdict, derivation}
 use Rattle.grammar.specs.Ranges.{out_of_range, second_words}
@@ -28,12 +31,8 @@ use Rattle.sound.proofs.NameCount.{names_six}
 use Rattle.elements.specs.Marks.{first_mark}
 use Rattle.walk.specs.declared.Outcome.{Outcome}
 use Rattle.walk.specs.Whole.{refusal_number, refusal_place, WalkedWhole, Walks}
-use Rattle.read.specs.declared.Survey.{Survey}
-use Rattle.read.specs.Surveyed.{refusing, unless_bad, Surveyed}
-
--- a survey that refuses
-refuses : {s t t' : List ℕ} (n p : ℕ) → n ≢ 0 → checked s ≡ refusal n p → t' ≡ replicate (length t) 0 → Surveyed s (refusing n p) t t'
-refuses n p h e f = record { refused = λ z. e; zeros = λ z. (refl, f); passed = λ z. absurd (h z) }
+use Rattle.read.specs.Faults.{fault_at}
+use Rattle.read.specs.Surveyed.{walk_reason, unless_bad, Surveyed}
 
 -- places whose first has no mark are none
 none_marked : (l : List ℕ) → first_mark l ≡ 0 → l ≡ []
@@ -41,17 +40,17 @@ none_marked [] e = refl
 none_marked (p ∷ l) e = absurd (omega arith)
 
 -- 1: source over 65,536 bytes
-pub too_long : {s t t' : List ℕ} → LONGEST < length s → t' ≡ cleared t 0 → Surveyed s (refusing 1 0) t t'
-too_long {s} {t} h f = refuses 1 0 (λ z. omega arith) (checked_1 s h) (f ∙ cleared_whole t)
+pub too_long : (s t : List ℕ) {t' : List ℕ} → LONGEST < length s → t' ≡ cleared t 0 → Surveyed s (Err (fault_at SourceTooLong 0)) t t'
+too_long s t h f = (checked_1 s h, f ∙ cleared_whole t)
 
 -- ---- a walk that refuses
 
-module _ (s : List ℕ) (n q : ℕ) {b : Optional ℕ} (e : b ≡ first_bad s) {r : Survey} where
-  pub bad_token : {p : ℕ} → b ≡ Some p → r ≡ refusing 2 p → r ≡ unless_bad (first_bad s) n q
-  bad_token g h = h ∙ rw (sym e ∙ g)
-
-  pub no_bad_token : b ≡ None → r ≡ refusing n q → r ≡ unless_bad (first_bad s) n q
-  no_bad_token g h = h ∙ rw (sym e ∙ g)
+-- the number of its reason
+walk_number : {ts : List Token} {v : Verdict} → SourceSays ts v → refusal_number v ≢ 0 → number_of (walk_reason (refusal_number v)) ≡ refusal_number v
+walk_number (is_text a) h = absurd (h refl)
+walk_number (is_unfinished u none) h = refl
+walk_number (no_text_starts_so before after class place e u none) h = refl
+walk_number (opens_too_many before after class place e u) h = refl
 
 parsed_refusal : (s : List ℕ) (v : Verdict) (o : Option Trees) → refusal_number v ≢ 0 → parsed s v o ≡ refusal (refusal_number v) (refusal_place s v)
 parsed_refusal s accepted o h = absurd (h refl)
@@ -63,19 +62,19 @@ module _ {s t t' : List ℕ} {w : Outcome} (short : length s ≤ LONGEST) (v : W
   tokens_verdict = verdict (source_tokens s)
 
   -- 2 to 4: the first bad token, or else the refusal of the grammar or of a depth
-  pub walk_stops : w.no ≢ 0 → Surveyed s (unless_bad (first_bad s) w.no w.place) t t'
+  pub walk_stops : w.no ≢ 0 → Surveyed s (Err (unless_bad (first_bad s) w.no w.place)) t t'
   walk_stops h = by (first_bad s) refl
     where
       number : refusal_number tokens_verdict ≢ 0
       number z = h (v.number ∙ z)
 
-      by : (b : Optional ℕ) → first_bad s ≡ b → Surveyed s (unless_bad b w.no w.place) t t'
-      by (Some p) e = refuses 2 p (λ z. omega arith) (checked_2 s p short e) (v.zeros h)
-      by None e =
-          refuses w.no w.place h
-          (checked_parsed s tokens_verdict short e (verdict_right (source_tokens s))
-          ∙ (parsed_refusal s tokens_verdict (derivation (source_tokens s)) number ∙ rw (v.number, v.place)))
-          (v.zeros h)
+      by : (b : Option ℕ) → first_bad s ≡ b → Surveyed s (Err (unless_bad b w.no w.place)) t t'
+      by (Some p) e = (checked_2 s p short e, v.zeros h)
+      by None e = (
+        checked_parsed s tokens_verdict short e (verdict_right (source_tokens s))
+            ∙ (parsed_refusal s tokens_verdict (derivation (source_tokens s)) number ∙ rw (v.number, v.place, walk_number (verdict_right (source_tokens s)) number)),
+        v.zeros h,
+      )
 
   -- ---- a walk that accepts
 
@@ -95,18 +94,17 @@ module _ {s t t' : List ℕ} {w : Outcome} (short : length s ≤ LONGEST) (v : W
 
     -- a refusal at the first of some places, by its mark
     at_first :
-        (n m : ℕ) (l : List ℕ) {u : List ℕ} → n ≢ 0 → m ≡ first_mark l → m ≢ 0 → ((p : ℕ) (ps : List ℕ) → l ≡ p ∷ ps → checked s ≡ refusal n p)
-        → length t' ≡ length t → u ≡ cleared t' 0 → Surveyed s (refusing n (m - 1)) t u
-    at_first n m [] k e h c g f = absurd (h e)
-    at_first n m (p ∷ ps) k e h c g f =
+        (r : Reason) (m : ℕ) (l : List ℕ) {u : List ℕ} → m ≡ first_mark l → m ≢ 0 → ((p : ℕ) (ps : List ℕ) → l ≡ p ∷ ps → checked s ≡ refusal (number_of r) p)
+        → length t' ≡ length t → u ≡ cleared t' 0 → Surveyed s (Err (fault_at r (m - 1))) t u
+    at_first r m [] e h c g f = absurd (h e)
+    at_first r m (p ∷ ps) e h c g f =
         let place : m - 1 ≡ p = rw e (omega arith) in
-        rw place (refuses n p k (c p ps refl) (f ∙ (cleared_whole t' ∙ rw g)))
+        (rw place (c p ps refl), f ∙ (cleared_whole t' ∙ rw g))
 
     -- 16: the first second size or display word
     pub second_word :
-        {u : List ℕ} → w.noted.second ≢ 0 → length t' ≡ length t → u ≡ cleared t' 0 → Surveyed s (refusing 16 (w.noted.second - 1)) t u
-    second_word h =
-        at_first 16 w.noted.second (second_words tree) (λ z. omega arith) walked.second h (λ p ps e. checked_16 s tree p ps grammatical e)
+        {u : List ℕ} → w.noted.second ≢ 0 → length t' ≡ length t → u ≡ cleared t' 0 → Surveyed s (Err (fault_at SecondWord (w.noted.second - 1))) t u
+    second_word h = at_first SecondWord w.noted.second (second_words tree) walked.second h (λ p ps e. checked_16 s tree p ps grammatical e)
 
     module _ (none : w.noted.second ≡ 0) where
       no_second : second_words tree ≡ []
@@ -114,27 +112,19 @@ module _ {s t t' : List ℕ} {w : Outcome} (short : length s ≤ LONGEST) (v : W
 
       -- 5: the first number out of its range
       pub number_outside :
-          {u : List ℕ} → w.noted.outside ≢ 0 → length t' ≡ length t → u ≡ cleared t' 0 → Surveyed s (refusing 5 (w.noted.outside - 1)) t u
+          {u : List ℕ} → w.noted.outside ≢ 0 → length t' ≡ length t → u ≡ cleared t' 0 → Surveyed s (Err (fault_at OutOfRange (w.noted.outside - 1))) t u
       number_outside h =
-          at_first 5 w.noted.outside (out_of_range s tree) (λ z. omega arith) walked.outside h
-          (λ p ps e. checked_5 s tree p ps grammatical no_second e)
+          at_first OutOfRange w.noted.outside (out_of_range s tree) walked.outside h (λ p ps e. checked_5 s tree p ps grammatical no_second e)
 
       -- no stage refuses
-      pub walk_passes : w.noted.outside ≡ 0 → Surveyed s (record { number = 0; place = 0; rows = w.rows }) t t'
+      pub walk_passes : w.noted.outside ≡ 0 → Surveyed s (Ok w.rows) t t'
       walk_passes z =
           let in_range : out_of_range s tree ≡ [] = none_marked (out_of_range s tree) (sym walked.outside ∙ z) in
           record {
-            refused = λ n. absurd (n refl);
-            zeros = λ n. absurd (n refl);
-            passed = λ n. (
-              refl,
-              record {
-                tree = tree;
-                is = checked_derived s tree grammatical no_second in_range;
-                sound = drafts_sound s tree short walked.derives in_range;
-                many = walked.rows;
-                few = omega (arith, names_six s tree walked.derives);
-                table = walked.table;
-              },
-            );
+            tree = tree;
+            is = checked_derived s tree grammatical no_second in_range;
+            sound = drafts_sound s tree short walked.derives in_range;
+            many = walked.rows;
+            few = omega (arith, names_six s tree walked.derives);
+            table = walked.table;
           }

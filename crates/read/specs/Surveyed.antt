@@ -1,6 +1,9 @@
 -- What stages 1 to 5 with 16 find: a refusal, or the draft rows of the derivation.
 -- Assumes nothing.
-use Rattle.std.specs.Prelude.{ℕ, ◌≤◌, ◌≡◌, ◌≢◌, List, map, length, replicate, Option, Some, None}
+use Rattle.std.specs.Prelude.{ℕ, ◌≤◌, ◌≡◌, cond, List, map, eqb, length, replicate, Option, Some, None, Result, Ok, Err}
+use Rattle.refusals.specs.Numbers.{number_of}
+use Rattle.refusals.specs.declared.Reason.{Reason}
+use Rattle.refusals.specs.declared.Reason.TheVariants.{BadToken, Syntax, TooDeep}
 use Rattle.rows.specs.Rows.{put}
 use Rattle.ll1.specs.Trees.{Trees}
 use Rattle.answers.specs.Drafts.{encoded}
@@ -8,16 +11,18 @@ use Rattle.answers.specs.Answer.{drafts}
 use Rattle.answers.specs.WholeAnswer.{refusal, derived, checked}
 use Rattle.drafts.specs.Sound.{SoundRows}
 use Rattle.names.specs.Names.{names_in}
-use Rattle.read.specs.declared.Survey.{Survey}
+use Rattle.read.specs.declared.Fault.{Fault}
+use Rattle.read.specs.Faults.{fault_at}
 use Rattle.read.specs.Drafted.{NAMES}
 
-abbrev pub refusing : ℕ → ℕ → Survey
-refusing number place = record { number = number; place = place; rows = 0 }
+-- the grammar's refusals are 3, or 4 at a depth too many
+abbrev pub walk_reason : ℕ → Reason
+walk_reason number = cond (eqb number 4) TooDeep Syntax
 
--- No. 2 where a token is bad, or else the refusal
-abbrev pub unless_bad : Option ℕ → ℕ → ℕ → Survey
-unless_bad (Some p) number place = refusing 2 p
-unless_bad None number place = refusing number place
+-- No. 2 where a token is bad, or else the refusal of a walk
+abbrev pub unless_bad : Option ℕ → ℕ → ℕ → Fault
+unless_bad (Some p) number place = fault_at BadToken p
+unless_bad None number place = fault_at (walk_reason number) place
 
 -- the derivation that the stages pass; its draft rows, so many, written over the table t as far as whole rows fit
 pub record SurveyedWhole (s : List ℕ) (count : ℕ) (t t' : List ℕ) : Type 0 where
@@ -28,8 +33,7 @@ pub record SurveyedWhole (s : List ℕ) (count : ℕ) (t t' : List ℕ) : Type 0
   pub few : names_in (drafts s tree) ≤ NAMES
   pub table : t' ≡ put t 0 (map encoded (drafts s tree))
 
--- what a survey of the source s answers, where the table was t and is t'; where it refuses, there are no rows, and the table is all zeros
-pub record Surveyed (s : List ℕ) (r : Survey) (t t' : List ℕ) : Type 0 where
-  pub refused : r.number ≢ 0 → checked s ≡ refusal r.number r.place
-  pub zeros : r.number ≢ 0 → (r.rows ≡ 0) × (t' ≡ replicate (length t) 0)
-  pub passed : r.number ≡ 0 → (r.place ≡ 0) × SurveyedWhole s r.rows t t'
+-- what a survey of the source s answers, where the table was t and is t': so many rows, or a refusal, and then the table is all zeros
+abbrev pub Surveyed : List ℕ → Result ℕ Fault → List ℕ → List ℕ → Type 0
+Surveyed s (Ok count) t t' = SurveyedWhole s count t t'
+Surveyed s (Err f) t t' = (checked s ≡ refusal (number_of f.reason) f.place) × (t' ≡ replicate (length t) 0)

@@ -1,21 +1,17 @@
 // From draft rows to the outcome: stages 7 to 12, and 14, and where none refuses the finished rows.
 ghost use Rattle.std.specs.Prelude.{◌≡◌, ◌/◌, length};
 ghost use Rattle.rows.specs.Columns.{ROW};
-ghost use Rattle.rows.specs.Table.{cleared};
 ghost use Rattle.answers.specs.Drafts.{drafts_from};
 ghost use Rattle.answers.specs.Answer.{answer_past12, answer_of};
 ghost use Rattle.names.specs.Names.{Indexes};
-ghost use Rattle.read.specs.declared.Outcome.TheVariants.{Refused};
 ghost use Rattle.read.specs.Answers.{found};
 ghost use Rattle.read.specs.Drafted.{Drafted, Ready, table_past12, table_after};
 
-use crate::Outcome;
 use crate::faults::first_fault;
+use crate::{Accepted, Fault, refuse};
 use circle_stage::circular_reference;
 use finish::{settle, strip};
-
-// The number of a rule that reaches itself.
-const CIRCLE: u64 = 14;
+use refusals::Reason;
 
 // An index on the stack: the heads of the buckets, and room for few names, or for as many as a source can declare.
 const FEW: usize = 1024;
@@ -24,14 +20,6 @@ const SMALL: usize = 2048;
 
 const LARGE: usize = 11946;
 
-// A refusal that leaves the table all zeros.
-fn refuse(table: &mut [u64], number: u64, place: usize) -> Outcome
-    ensures { (result ≡ Refused number place) × (table.new ≡ cleared table.old 0) }
-{
-    rows::clear(table, 0);
-    Outcome::Refused(number, place)
-}
-
 // 14, which the settled drafts tell; or the finished rows. What lies past them stays.
 fn accept(
     src: &[u8],
@@ -39,36 +27,40 @@ fn accept(
     count: usize,
     index: &[u64],
     used: &mut [u64; 1024],
-) -> Outcome
+) -> Result<Accepted, Fault>
     requires { Ready src.now index.now used.old table.old count }
     ensures result_value { found result ≡ answer_past12 src.now (drafts_from table.old 0 count) }
     ensures table_after { table.new ≡ table_past12 src.now table.old count }
 {
     settle(src, table, count, index, used);
-    let circle = circular_reference(table, count);
-    if circle != 0 {
-        return refuse(table, CIRCLE, (circle - 1) as usize);
+    if let Some(place) = circular_reference(table, count) {
+        return refuse(table, Reason::RuleInCircle, place);
     }
     strip(table, count);
-    Outcome::Accepted(count, numbers::LIMIT - 1 - numbers::used_count(used))
+    let free = numbers::LIMIT - 1 - numbers::used_count(used);
+    Ok(Accepted { rows: count, free })
 }
 
 // Stages 7 to 12, and 14, and the finished rows, by an index of the declared names.
-fn finish_with(src: &[u8], table: &mut [u64], count: usize, index: &[u64]) -> Outcome
+fn finish_with(
+    src: &[u8],
+    table: &mut [u64],
+    count: usize,
+    index: &[u64],
+) -> Result<Accepted, Fault>
     requires { Drafted table.old count × Indexes src.now (drafts_from table.old 0 count) index.now }
     ensures result_value { found result ≡ answer_of src.now (drafts_from table.old 0 count) (length table.old / ROW) }
     ensures table_after { table.new ≡ table_after src.now table.old count }
 {
     let mut used = numbers::empty();
-    let fault = first_fault(src, table, count, index, &mut used);
-    if fault.number != 0 {
-        return refuse(table, fault.number, fault.place);
+    match first_fault(src, table, count, index, &mut used) {
+        Ok(()) => accept(src, table, count, index, &mut used),
+        Err(fault) => refuse(table, fault.reason, fault.place),
     }
-    accept(src, table, count, index, &mut used)
 }
 
 // With room for as many names as a source can declare.
-fn finish_large(src: &[u8], table: &mut [u64], count: usize) -> Outcome
+fn finish_large(src: &[u8], table: &mut [u64], count: usize) -> Result<Accepted, Fault>
     requires { Drafted table.old count }
     ensures result_value { found result ≡ answer_of src.now (drafts_from table.old 0 count) (length table.old / ROW) }
     ensures table_after { table.new ≡ table_after src.now table.old count }
@@ -79,7 +71,7 @@ fn finish_large(src: &[u8], table: &mut [u64], count: usize) -> Outcome
 }
 
 // Stages 7 to 12, and 14, and the finished rows.
-pub fn finish(src: &[u8], table: &mut [u64], count: usize) -> Outcome
+pub fn finish(src: &[u8], table: &mut [u64], count: usize) -> Result<Accepted, Fault>
     requires { Drafted table.old count }
     ensures result_value { found result ≡ answer_of src.now (drafts_from table.old 0 count) (length table.old / ROW) }
     ensures table_after { table.new ≡ table_after src.now table.old count }

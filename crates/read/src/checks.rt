@@ -1,64 +1,53 @@
 // Stages 1 to 5 with 16, which the quick check and reading share.
 ghost use Rattle.std.specs.Prelude.{◌≡◌};
 ghost use Rattle.lex.specs.Tokens.{first_bad};
-ghost use Rattle.rows.specs.Table.{cleared};
-ghost use Rattle.read.specs.Surveyed.{refusing, unless_bad, Surveyed};
+ghost use Rattle.read.specs.Surveyed.{unless_bad, Surveyed};
 
-use crate::Survey;
+use crate::{Fault, refuse};
+use refusals::Reason;
 
 // The longest source.
 const LONGEST: usize = 65536;
 
-fn refused(number: u64, place: usize) -> Survey
-    ensures { result ≡ refusing number place }
-{
-    Survey {
-        number,
-        place,
-        rows: 0,
-    }
-}
+// The number of a walk's refusal at a depth too many. Its others are the grammar's.
+const DEPTH: u64 = 4;
 
-// The refusal of a walk, unless a token is bad. An accepted walk has met every token, so that none of them is bad.
-fn walk_refused(src: &[u8], number: u64, place: usize) -> Survey
+// The fault of a walk, unless a token is bad. An accepted walk has met every token, so that none of them is bad.
+fn walk_fault(src: &[u8], number: u64, place: usize) -> Fault
     ensures { result ≡ unless_bad (first_bad src.now) number place }
 {
+    let reason = if number == DEPTH {
+        Reason::TooDeep
+    } else {
+        Reason::Syntax
+    };
     match lex::first_bad(src) {
-        Some(at) => refused(2, at),
-        None => refused(number, place),
+        Some(place) => Fault {
+            reason: Reason::BadToken,
+            place,
+        },
+        None => Fault { reason, place },
     }
-}
-
-// A refusal that leaves the table all zeros.
-fn refused_cleared(table: &mut [u64], number: u64, place: usize) -> Survey
-    ensures { (result ≡ refusing number place) × (table.new ≡ cleared table.old 0) }
-{
-    rows::clear(table, 0);
-    refused(number, place)
 }
 
 // The refusal, with the table all zeros; or the rows needed and the draft rows in the table, as far as whole rows fit.
-pub fn survey(src: &[u8], table: &mut [u64]) -> Survey
+pub fn survey(src: &[u8], table: &mut [u64]) -> Result<usize, Fault>
     ensures { Surveyed src.now result table.old table.new }
 {
     if LONGEST < src.len() {
-        return refused_cleared(table, 1, 0);
+        return refuse(table, Reason::SourceTooLong, 0);
     }
     let w = walk::walk(src, table);
     if w.no != 0 {
-        return walk_refused(src, w.no, w.place);
+        return Err(walk_fault(src, w.no, w.place));
     }
     let second = w.noted.second;
     if second != 0 {
-        return refused_cleared(table, 16, second - 1);
+        return refuse(table, Reason::SecondWord, second - 1);
     }
     let outside = w.noted.outside;
     if outside != 0 {
-        return refused_cleared(table, 5, outside - 1);
+        return refuse(table, Reason::OutOfRange, outside - 1);
     }
-    Survey {
-        number: 0,
-        place: 0,
-        rows: w.rows,
-    }
+    Ok(w.rows)
 }

@@ -1,20 +1,19 @@
 // Stages 7 to 12.
-ghost use Rattle.std.specs.Prelude.{◌≡◌};
+ghost use Rattle.std.specs.Prelude.{◌≡◌, Ok};
+ghost use Rattle.rows.specs.Marks.{marked};
 ghost use Rattle.answers.specs.Drafts.{drafts_from};
-ghost use Rattle.read.specs.Faults.{fault_at, first_fault_of, written_after};
+ghost use Rattle.read.specs.Faults.{stage_fault, first_fault_of, written_after};
 
 use crate::Fault;
+use refusals::Reason;
 
-// The fault at a mark, a place plus one.
-fn fault(number: u64, mark: u64) -> Fault
-    ensures { result ≡ fault_at number mark }
+// A stage's fault, at the place that it finds.
+fn stage(reason: Reason, found: Option<usize>) -> Result<(), Fault>
+    ensures { result ≡ stage_fault reason (marked found) (Ok tt) }
 {
-    if mark == 0 {
-        return Fault { number, place: 0 };
-    }
-    Fault {
-        number,
-        place: (mark - 1) as usize,
+    match found {
+        Some(place) => Err(Fault { reason, place }),
+        None => Ok(()),
     }
 }
 
@@ -26,37 +25,27 @@ pub fn first_fault(
     count: usize,
     index: &[u64],
     used: &mut [u64; 1024],
-) -> Fault
+) -> Result<(), Fault>
     ensures value { result ≡ first_fault_of src.now index.now used.old (drafts_from table.now 0 count) }
     ensures used_after { used.new ≡ written_after used.old (drafts_from table.now 0 count) }
 {
     let mut forms = numbers::empty();
-    let form = stages::repeated_form(table, count, &mut forms);
-    if form != 0 {
-        return fault(7, form);
-    }
-    let question = stages::repeated_question(table, count, used);
-    if question != 0 {
-        return fault(8, question);
-    }
-    let name = names::repeated_name(src, table, count, index);
-    if name != 0 {
-        return fault(9, name);
-    }
-    let rule = stages::rule_over_limit(table, count);
-    if rule != 0 {
-        return fault(10, rule);
-    }
-    let reference = stages::unfound(src, table, count, index, &forms, used);
-    if reference != 0 {
-        return fault(11, reference);
-    }
-    let choice = stages::bad_choice(table, count);
-    if choice != 0 {
-        return fault(12, choice);
-    }
-    Fault {
-        number: 0,
-        place: 0,
-    }
+    stage(
+        Reason::FormRepeated,
+        stages::repeated_form(table, count, &mut forms),
+    )?;
+    stage(
+        Reason::QuestionRepeated,
+        stages::repeated_question(table, count, used),
+    )?;
+    stage(
+        Reason::NameRepeated,
+        names::repeated_name(src, table, count, index),
+    )?;
+    stage(Reason::TooManyRules, stages::rule_over_limit(table, count))?;
+    stage(
+        Reason::FindsNothing,
+        stages::unfound(src, table, count, index, &forms, used),
+    )?;
+    stage(Reason::BadChoice, stages::bad_choice(table, count))
 }

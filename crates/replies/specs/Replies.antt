@@ -1,6 +1,6 @@
 -- What a call answers in full: document 01's number, place and counts, and the line and column beside the place (document 02, W-201, W-202, W-206).
 -- Assumes nothing.
-use Rattle.std.specs.Prelude.{ℕ, Bool, cond, not, ◌||◌, List, eqb}
+use Rattle.std.specs.Prelude.{ℕ, Bool, cond, not, ◌||◌, List, eqb, Result, Ok, Err}
 use Rattle.positions.specs.declared.Position.{Position}
 use Rattle.positions.specs.Positions.{position_at}
 use Rattle.answers.specs.Answer.{Answer}
@@ -35,6 +35,11 @@ replied s number place rows free written =
 -- that of a call which accepts
 abbrev pub accepting : ℕ → ℕ → ℕ → Reply
 accepting rows free written = record { number = 0; place = 0; rows = rows; free = free; line = 0; column = 0; written = written }
+
+-- that of a call which accepts or refuses, by what each of the two tells
+abbrev pub answered : {T E : Type 0} → (T → Reply) → (E → Reply) → Result T E → Reply
+answered accepted refused (Ok x) = accepted x
+answered accepted refused (Err e) = refused e
 
 -- ---- reading
 

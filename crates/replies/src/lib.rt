@@ -10,13 +10,7 @@ use positions::Position;
 fn has_place(number: u64) -> bool
     ensures { result ≡ has_place number }
 {
-    !((number == 0)
-        | (number == 1)
-        | (number == 6)
-        | (number == 13)
-        | (number == 15)
-        | (number == 17)
-        | (number == 30))
+    !matches!(number, 0 | 1 | 6 | 13 | 15 | 17 | 30)
 }
 
 // Line and column of an answer's place, or 0 and 0 where it has none.

@@ -29,8 +29,10 @@ use Rattle.answers.proofs.Demand3 as Demand3
 use Rattle.replies.specs.Replies.{Reply, position_of, read_replied, read_reply}
 use Rattle.replies.specs.Lines.{GivesLine}
 use Rattle.replies.proofs.Laws.{gives_line}
-use Rattle.read.specs.declared.Answer.{Answer}
-use Rattle.read.specs.Answers.{told}
+use Rattle.std.specs.Prelude.{Result}
+use Rattle.read.specs.declared.Accepted.{Accepted}
+use Rattle.show.specs.declared.Refusal.{Refusal}
+use Rattle.show.specs.Answers.{told}
 use Rattle.operators.specs.declared.Scalar.{Scalar}
 use Rattle.operators.specs.declared.Scalar.TheVariants.{Boolean, Undefined}
 use Rattle.formulas.specs.Formula.{Formula}
@@ -56,19 +58,19 @@ use Rattle.show.proofs.show.Reads as promise
 
 -- what a call of `show` does: the source s is shown by these answers through a table of n numbers into m bytes; r is the answer, t' the table and o'
 -- the output afterwards
-pub record Showing (s answers : List ℕ) (n m : ℕ) (r : Answer) (t' o' : List ℕ) : Type 0 where
+pub record Showing (s answers : List ℕ) (n m : ℕ) (r : Result Accepted Refusal) (t' o' : List ℕ) : Type 0 where
   pub answer : told r ≡ show_reply s answers n m
   pub table : t' ≡ show_table s answers n m
   pub output : o' ≡ show_output s answers n m
 
 -- every call does so: what the contract of `show` promises a caller who lends a and finds e lent back
 pub showing :
-    (κs : Lfts 4) (a : Dens κs kinds.ps) (r : Answer) (e : AtExit (ended_of 4 kinds.ps kinds.r) κs)
+    (κs : Lfts 4) (a : Dens κs kinds.ps) (r : Result Accepted Refusal) (e : AtExit (ended_of 4 kinds.ps kinds.r) κs)
     → promise.Learnt κs a r e
     → Showing a.0.now a.1.0.now (length a.1.1.0.now) (length a.1.1.1.0.now) r e.1.1.0.now e.1.1.1.0.now
 showing κs a r e p = record { answer = p.0; table = p.1.0; output = p.1.1 }
 
-module _ {s answers : List ℕ} {n m : ℕ} {r : Answer} {t' o' : List ℕ} (v : Showing s answers n m r t' o') where
+module _ {s answers : List ℕ} {n m : ℕ} {r : Result Accepted Refusal} {t' o' : List ℕ} (v : Showing s answers n m r t' o') where
   number : (told r).number ≡ (show_answer s answers n m).number
   number = ap (λ (a : Reply). a.number) v.answer
 

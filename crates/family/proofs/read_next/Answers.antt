@@ -16,7 +16,7 @@ overflow_add-result c =
     let pre = c.requires in
     let room = c in
     let whole = room.whole_rows.ensures in
-    let smaller = room.smaller.ensures ∙ ap (λ (w : ℕ). min (length args.src.now) (w - args.rows)) whole in
+    let smaller = room.min.ensures ∙ ap (λ (w : ℕ). min (length args.src.now) (w - args.rows)) whole in
     let read = c.read_over-answer.ensures in
     let put = c.put_taken.ensures in
     search (rules, few_rows args.src.now (whole_rows args.table.now - args.rows), next_count args.src.now pre smaller read.result_value put.value)
@@ -27,6 +27,6 @@ returns c =
     let pre = c.requires in
     let room = c in
     let whole = room.whole_rows.ensures in
-    let smaller = room.smaller.ensures ∙ ap (λ (w : ℕ). min (length args.src.now) (w - args.rows)) whole in
+    let smaller = room.min.ensures ∙ ap (λ (w : ℕ). min (length args.src.now) (w - args.rows)) whole in
     let read = c.read_over-answer.ensures in
     let put = c.put_taken.ensures in record { value = ap (λ (n : ℕ). args.rows + n) (next_count args.src.now pre smaller read.result_value put.value); table_after = next_table args.src.now pre smaller read.table_after; out_after = put.out_after ∙ ap (λ (r : Reply). in_lent (length args.out.now) (reply_numbers r)) (next_reply args.src.now pre smaller read.result_value) }

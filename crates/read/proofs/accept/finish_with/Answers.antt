@@ -3,24 +3,22 @@
 use Rattle.read.proofs.FinishLaws.{refused_answer, refused_table, ready, answer_past_12, table_past_12}
 use Rattle.read.proofs.accept.finish_with.Goals as goal
 
-pub returns-then-fault-ne0 : goal.returns-then-fault-ne0
-returns-then-fault-ne0 c =
-    let start = c.empty-used in
+pub returns-in-Err : goal.returns-in-Err
+returns-in-Err c =
     let pre = c.requires in
-    let fault = c.first_fault-fault.ensures.value in
-    let h = c.if-fault-ne0.true in
-    let refuse = c.refuse.ensures in record { result_value = rw refuse.0 (refused_answer pre.0 pre.1 start.ensures fault h); table_after = refused_table pre.0 pre.1 start.ensures fault h refuse.1 }
+    let fault = c.first_fault.ensures.value in
+    let h = c.in-Err.is in
+    let refuse = c.refuse.ensures in record { result_value = rw refuse.0 (refused_answer pre.0 pre.1 c.empty-used.ensures fault h); table_after = refused_table pre.0 pre.1 c.empty-used.ensures fault h refuse.1 }
 
 pub accept-requires : goal.accept-requires
 accept-requires c =
     let pre = c.requires in
-    let fault = c.first_fault-fault.ensures in
-    ready pre.0 pre.1 c.empty-used.ensures fault.value c.if-fault-ne0.false fault.used_after
+    let fault = c.first_fault.ensures in
+    ready pre.0 pre.1 c.empty-used.ensures fault.value c.in-Ok.is fault.used_after
 
-pub returns : goal.returns
-returns c =
-    let start = c.empty-used in
+pub returns-in-Ok : goal.returns-in-Ok
+returns-in-Ok c =
     let pre = c.requires in
-    let fault = c.first_fault-fault.ensures.value in
-    let z = c.if-fault-ne0.false in
-    let accept = c.accept.ensures in record { result_value = answer_past_12 pre.0 pre.1 start.ensures fault z accept.result_value; table_after = table_past_12 pre.0 pre.1 start.ensures fault z accept.table_after }
+    let fault = c.first_fault.ensures.value in
+    let z = c.in-Ok.is in
+    let accept = c.accept.ensures in record { result_value = answer_past_12 pre.0 pre.1 c.empty-used.ensures fault z accept.result_value; table_after = table_past_12 pre.0 pre.1 c.empty-used.ensures fault z accept.table_after }

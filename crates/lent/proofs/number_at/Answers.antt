@@ -1,8 +1,0 @@
--- `lent::number_at` meets its contract: past the end stands 0.
--- Assumes nothing.
-use mathlib.Core.Path.{sym}
-use lib.ListN.{get_or-eq_default}
-use Rattle.lent.proofs.number_at.Goals as goal
-
-pub returns : goal.returns
-returns c = sym (get_or-eq_default c.args.numbers.now 0 c.if-k-numbers.false)

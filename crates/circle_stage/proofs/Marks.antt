@@ -6,6 +6,7 @@ use mathlib.Core.List.{List}
 use Rattle.rows.specs.Columns as column
 use Rattle.rows.specs.Table.{row_at, cell_at}
 use Rattle.rows.specs.Rows.{rows_from}
+use Rattle.circles.proofs.Steps.{circular_none}
 use Rattle.circles.specs.Circles.{circular_in}
 use Rattle.rule_steps.specs.Steps.{rule_round, rule_found, rule_steps, table_steps}
 use Rattle.rule_steps.proofs.Same.{SameCells, SameRows, no_rows, add_row, round_same, steps_same}
@@ -52,3 +53,7 @@ module _ (t : List ℕ) (n : ℕ) where
       pub mark_off : r ≡ false → 0 ≡ mark_if (circular_in words) rows (draft_at t i)
       unfolding mark_if
       mark_off h = rw (← test_is g, h)
+
+    -- it stands in no rule
+    pub mark_none : a ≡ 0 → 0 ≡ mark_if (circular_in words) rows (draft_at t i)
+    mark_none z = mark_off (rw z (circular_none words 0 b refl)) refl

@@ -20,7 +20,8 @@ use rule_steps::{add_steps, rule_round};
 fn place_in(table: &[u64], count: usize, row: usize, map: &Map) -> Option<usize>
     ensures { marked result ≡ mark_if (circular_in map.now) (draft_rows (drafts_from table.now 0 count)) (draft_at table.now row) }
 {
-    if circular(map, rule_round(table, count, row), cell(table, row, A)) {
+    let from = rule_round(table, count, row)?;
+    if circular(map, from, cell(table, row, A)) {
         own_mark(table, row)
     } else {
         None
@@ -39,10 +40,7 @@ pub fn circular_reference(table: &[u64], count: usize) -> Option<usize>
     ensures { marked result ≡ first_by circle_fault (drafts_from table.now 0 count) }
 {
     let mut map = numbers::empty();
-    let last = add_steps(table, count, &mut map);
-    if last == 0 {
-        return None;
-    }
+    let last = add_steps(table, count, &mut map)?;
     close(&mut map, last);
     first_place(table, count, &map)
 }

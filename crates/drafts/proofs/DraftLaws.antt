@@ -6,13 +6,16 @@ use mathlib.Core.Bool.{Bool, true, false, ◌||◌}
 use mathlib.Core.List.{List, [], ◌∷◌, ◌++◌}
 use native.Mathlib.Nat.{add-zero}
 use native.Mathlib.Omega.{arith}
-use borrow.Author.Tests.{ltb-true}
+use borrow.Author.Tests.{ltb-true, lt-ltb}
 use lib.Dec.{ltb}
 use lib.ListN.{get_or, set}
 use lib.Seq.{get_or-set_other}
 use Rattle.rows.specs.Columns as column
 use Rattle.rows.specs.Draft.{low_of}
+use Rattle.rows.specs.Marks.{marked}
 use Rattle.rows.specs.Table.{cell_at}
+use Rattle.std.specs.Prelude.{Option, Some, None}
+use Rattle.std.specs.Option.{is_some}
 use Rattle.answers.specs.Rows.{Draft}
 use Rattle.answers.specs.Stages.{cell}
 use Rattle.answers.specs.Drafts.{decoded, drafts_from}
@@ -45,6 +48,11 @@ module _ (t : List ℕ) (i : ℕ) where
   -- what code reads in an unmarked column
   pub cell_read : (c : ℕ) → unmarked c ≡ true → {v : ℕ} → v ≡ cell_at t i c → v ≡ cell c (draft_at t i)
   cell_read c e r = r ∙ cell_decoded _ c e
+
+-- a mark that is there
+pub marked_some : (place : Option ℕ) → is_some place ≡ ltb 0 (marked place)
+marked_some None = refl
+marked_some (Some p) = sym (lt-ltb 0 (p + 1) (omega arith))
 
 -- ---- runs of rows, as a loop over the rows below n has them
 

@@ -1,15 +1,17 @@
 -- The loops over rows that look for a fault, or for any row that passes a test.
 use Prim.Native.Nat.{ℕ, zero, suc, ◌+◌, ◌-◌, ◌≤◌, ◌<◌}
 use mathlib.Core.Path.{◌≡◌, refl, sym, ap, subst, ◌∙◌}
-use mathlib.Core.Bool.{Bool, true, false, ◌||◌}
+use mathlib.Core.Bool.{Bool, true, false, ◌||◌, or-true}
 use mathlib.Core.List.{List, [], ◌∷◌}
 use Rattle.std.proofs.Common.{add-one}
 use native.Mathlib.Omega.{arith}
 use borrow.Author.Tests.{eq-eqb, ne_eqb}
 use denote.Param.Members.{Mut, Called}
+use native.Mathlib.Decide.{ℕ_discrete}
+use Rattle.std.specs.Bool.{MatchBool}
 use Rattle.std.specs.Prelude.{Option, Some, None, IsTrue, IfSome, IsSomeAnd, MatchOption}
 use Rattle.std.specs.Option.{option_map}
-use Rattle.std.specs.Iterator.Runs.{SomeRun, AllItemsGive, IsFirstToGive, CallKeepsClosure}
+use Rattle.std.specs.Iterator.Runs.{SomeRun, AllItemsGive, AnyItemGives, IsFirstToGive, CallKeepsClosure}
 use Rattle.std.specs.declared.ops.Range.{Range}
 use Rattle.std.proofs.iter.Yields.{nat_range_steps}
 use Rattle.std.proofs.iter.runs.Sources.{range_runs}
@@ -139,3 +141,41 @@ module _ {p : Draft → Bool} {t : List ℕ} {f n i : ℕ} (v : Looking p t f n 
 
   pub looking_end : n ≤ i → any p (drafts_from t f (n - f)) ≡ false
   looking_end h = v.same ∙ ap (any p) (drafts_end t i n h) ∙ any_none p
+
+-- what `(f..n).any(..)` answers, where the closure tells the test of each row
+module _ (p : Draft → Bool) (t : List ℕ) where
+  any_there : (m i row : ℕ) → i ≤ row → row < i + m → p (draft_at t row) ≡ true → any p (drafts_from t i m) ≡ true
+  unfolding any drafts_from
+  any_there zero i row l h e = absurd (omega arith)
+  any_there (suc m) i row l h e = go (ℕ_discrete i row) (any_there m (i + 1) row)
+    where
+      go : Dec (i ≡ row) → (i + 1 ≤ row → row < i + 1 + m → p (draft_at t row) ≡ true → any p (drafts_from t (i + 1) m) ≡ true) → (p (draft_at t i) || any p (drafts_from t (i + 1) m)) ≡ true
+      go (yes q) f = rw (q, e)
+      go (no q) f = rw (f (omega (arith, q)) (omega arith) e) (or-true (p (draft_at t i)))
+
+  any_nowhere : (m i : ℕ) → ((row : ℕ) → i ≤ row → row < i + m → p (draft_at t row) ≡ false) → any p (drafts_from t i m) ≡ false
+  unfolding any drafts_from
+  any_nowhere zero i none = refl
+  any_nowhere (suc m) i none = rw (none i (omega arith) (omega arith)) (any_nowhere m (i + 1) (λ row l h. none row (omega arith) (omega arith)))
+
+  module _ {F : Type 0} {g : Mut F (ℕ × Unit {0}) Bool} {f : F} (first n : ℕ) (still : CallKeepsClosure g f)
+      (told : (row : ℕ) (b : Bool) → row < n → Called g f (row, tt) b f → b ≡ p (draft_at t row)) where
+    pub any_found : (r : Bool)
+        → SomeRun nat_range_steps (record { start = first; end = n })
+        (λ u. MatchBool r (AnyItemGives u g f true) (IsTrue u.whole × AllItemsGive u g f false))
+        → r ≡ any p (drafts_from t first (n - first))
+    any_found true (u, e, some) =
+        let counts = range_runs u u.seen in
+        let from : u.from.start ≡ first = ap (λ (s : Range ℕ). s.start) e in
+        let end : u.from.end ≡ n = ap (λ (s : Range ℕ). s.end) e in
+        let (k, inside, here) = some still in
+        let at : option_map (λ y. y) (u.at k) ≡ Some (first + k) = counts.3 k inside ∙ ap Some (omega arith) in
+        let few : first + k < n = omega (arith, counts.0) in
+        sym (any_there (n - first) first (first + k) (omega arith) (omega arith) (sym (told (first + k) true few (row_found _ (λ x. Called g f (x, tt) true f) at here))))
+    any_found false (u, e, (whole, all)) =
+        let counts = range_runs u u.seen in
+        let from : u.from.start ≡ first = ap (λ (s : Range ℕ). s.start) e in
+        let end : u.from.end ≡ n = ap (λ (s : Range ℕ). s.end) e in
+        let at : (row : ℕ) → first ≤ row → row < n → option_map (λ y. y) (u.at (row - first)) ≡ Some row =
+        λ row l h. counts.3 (row - first) (omega (arith, counts.1 whole)) ∙ ap Some (omega arith) in
+        sym (any_nowhere (n - first) first (λ row l h. sym (told row false (omega arith) (row_given _ (λ x. Called g f (x, tt) false f) (at row l (omega arith)) (all still (row - first))))))

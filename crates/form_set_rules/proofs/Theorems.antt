@@ -83,7 +83,7 @@ module _ (s : List ℕ) (tree : Trees) (n : ℕ) (lent : List ℕ) where
   places = placed_rows (table s tree n) lent 0 (count s tree)
 
   -- the values of rules, found in an order of them
-  abbrev pub rule_values : (values order answers gotos checkboxes : List ℕ) → List ℕ
+  abbrev pub rule_values : (values : List Scalar) (order answers gotos checkboxes : List ℕ) → List Scalar
   rule_values values order answers gotos checkboxes =
       with_rules answers gotos checkboxes (table s tree n) (count s tree) places values (take (length (source_rules s tree)) order)
 
@@ -183,7 +183,7 @@ module _ (s : List ℕ) (tree : Trees) (derives : Derives (source_tokens s) tree
       module _ (deep : NowhereTooDeep tree)
           {order : List ℕ} (follows : InOrder (rule_steps (rows s tree)) (length (source_rules s tree)) order)
           (whole : length (source_rules s tree) ≤ length order)
-          (n : ℕ) (lent : List ℕ) (long : 256 ≤ length lent) (values : List ℕ) (fits : length (source_rules s tree) < room values)
+          (n : ℕ) (lent : List ℕ) (long : 256 ≤ length lent) (values : List Scalar) (fits : length (source_rules s tree) < room values)
           (answers gotos checkboxes : List ℕ) (worth : ℕ → Scalar) (solves : Solves (source_rules s tree) (question_value answers gotos checkboxes) worth) where
         -- each is what the rule is worth
         pub values_found :

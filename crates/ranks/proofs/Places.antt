@@ -1,15 +1,15 @@
 -- The loops of `all_ranks`, `put_rank` and `order`: places filled with a list, one after another.
 use mathlib.Core.Path.{◌≡◌, refl, sym, ap, ◌∙◌}
-use mathlib.Core.Bool.{Bool, true, false, not, cond}
+use mathlib.Core.Bool.{Bool, true, false, cond}
 use mathlib.Core.List.{List, [], ◌∷◌, ◌++◌, append-nil, append_assoc}
 use Prim.Native.Nat.{ℕ, zero, suc, ◌+◌, ◌-◌, ◌≤◌, ◌<◌}
 use native.Mathlib.Omega.{arith}
 use native.Mathlib.Numerals.{add-one}
-use borrow.Author.Tests.{eqb-true, eqb-false, ltb-true, ltb-false, not-true, not-false}
+use borrow.Author.Tests.{ltb-true, ltb-false}
 use lib.Dec.{ltb, eqb}
-use lib.ListN.{length, get_or, set, replicate, length-append, length-take, length-set, length-replicate}
+use lib.ListN.{length, get_or, replicate, length-append, length-take, length-replicate}
 use lib.ListN.{get_or-replicate, get_or-append, get_or-eq_default}
-use lib.Seq.{get_or-append_seam, get_or-append-add, get_or-set_same, get_or-set_other, get_or-take, ext_get_or}
+use lib.Seq.{get_or-append-add, get_or-take, ext_get_or}
 use Rattle.numbers.specs.Numbers.{picked}
 use Rattle.numbers.proofs.Ranges.{pick_same}
 use Rattle.circles.specs.Circles.{last}

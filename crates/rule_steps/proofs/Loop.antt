@@ -3,9 +3,14 @@ use Prim.Native.Nat.{ℕ, suc, ◌+◌, ◌-◌, ◌≤◌, ◌<◌, max}
 use mathlib.Core.Path.{◌≡◌, refl, sym, ap, ◌∙◌}
 use mathlib.Core.List.{List, [], ◌∷◌, ◌++◌}
 use native.Mathlib.Omega.{arith}
+use Rattle.std.specs.Prelude.{Option, Some, None, cond}
+use Rattle.std.specs.Cmp.{ranks}
+use Rattle.std.specs.Option.{option_cmp}
+use Rattle.std.proofs.Common.{Ordering, Less, Equal, Greater}
+use Rattle.std.specs.Ordering.{MatchOrdering, is_lt, nat_cmp, ord_max}
 use Rattle.rows.specs.Rows.{rows_from}
 use Rattle.circles.specs.Circles.{Step, added}
-use Rattle.rule_steps.specs.Steps.{steps_among, table_steps, step_at, greatest, all_added}
+use Rattle.rule_steps.specs.Steps.{steps_among, table_steps, step_at, greatest, all_added, rule_or_zero}
 
 -- ---- lists of steps, one after the other
 
@@ -18,6 +23,19 @@ pub greatest_append : (l m : List Step) → greatest (l ++ m) ≡ max (greatest 
 unfolding greatest
 greatest_append [] m = omega arith
 greatest_append (s ∷ l) m = omega (arith, greatest_append l m)
+
+-- ---- the greater of two rules that may be absent
+
+pub greater_or_zero : (x y : Option ℕ) → rule_or_zero (ord_max (option_cmp nat_cmp) x y) ≡ max (rule_or_zero x) (rule_or_zero y)
+greater_or_zero None None = refl
+greater_or_zero None (Some b) = omega arith
+greater_or_zero (Some a) None = omega arith
+greater_or_zero (Some a) (Some b) = go (nat_cmp b a) (ranks b a)
+  where
+    go : (o : Ordering) → MatchOrdering o (b < a) (b ≡ a) (a < b) → rule_or_zero (cond (is_lt o) (Some a) (Some b)) ≡ max a b
+    go Less h = omega (arith, h)
+    go Equal h = omega (arith, h)
+    go Greater h = omega (arith, h)
 
 -- ---- the loop
 

@@ -1,16 +1,16 @@
 -- What the code tells of one row: the rule that it stands in, and its step.
 use Prim.Native.Nat.{ℕ, zero, suc, ◌+◌, ◌≤◌, ◌<◌, max}
-use mathlib.Core.Path.{◌≡◌, refl, sym, ◌∙◌}
-use mathlib.Core.Bool.{Bool, true, false, cond, not, ◌&&◌}
+use mathlib.Core.Path.{◌≡◌, refl, ◌∙◌}
+use mathlib.Core.Bool.{true, false, ◌&&◌}
 use mathlib.Core.List.{List, [], ◌∷◌}
 use native.Mathlib.Omega.{arith}
-use borrow.Author.Tests.{ne_eqb, not-true, not-false}
+use borrow.Author.Tests.{ne_eqb}
 use lib.ListN.{get_or}
 use Rattle.rows.specs.Codes as code
 use Rattle.rows.specs.Columns as column
 use Rattle.rows.specs.Table.{row_at, cell_at}
 use Rattle.rows.specs.Rows.{rows_from}
-use Rattle.circles.specs.Circles.{is_rule, added}
+use Rattle.circles.specs.Circles.{is_rule, Step, added}
 use Rattle.rule_steps.specs.Steps.{rule_round, rule_found, step_in, greatest, all_added}
 
 -- ---- row p of a table's n rows from i on
@@ -53,27 +53,36 @@ module _ (t : List ℕ) (n : ℕ) (r : List ℕ) {k : ℕ} (e : k ≡ get_or r c
 
 -- ---- its step
 
--- the greater of two rule numbers, by the test of the code
-module _ (a b : ℕ) {t : Bool} (e : t ≡ (is_rule a && is_rule b)) where
-  pub greater_none : not t ≡ true → 0 ≡ cond (is_rule a && is_rule b) (max a b) 0
-  greater_none h = rw (← e, not-true t h)
+module _ (rows : List (List ℕ)) (r : List ℕ) {a : ℕ} (e : a ≡ rule_round rows r) where
+  -- it stands in no rule
+  pub no_step : a ≡ 0 → step_in rows r ≡ []
+  unfolding step_in
+  no_step z = rw (← e, z)
 
-  pub greater_both : not t ≡ false → max a b ≡ cond (is_rule a && is_rule b) (max a b) 0
-  greater_both h = rw (← e, not-false t h)
+  module _ {b : ℕ} (f : b ≡ rule_found rows r) where
+    pub not_step : (is_rule a && is_rule b) ≡ false → step_in rows r ≡ []
+    unfolding step_in
+    not_step h = rw (← e, ← f, h)
 
-module _ (rows : List (List ℕ)) (r : List ℕ) {a b : ℕ} (e : a ≡ rule_round rows r) (f : b ≡ rule_found rows r) where
-  pub step_added : (words : List ℕ) {now : List ℕ} → now ≡ added words a b → now ≡ all_added words (step_in rows r)
-  unfolding step_in all_added added
-  step_added words {now} g = rw (← e, ← f) (go (is_rule a && is_rule b) refl g)
-    where
-      go : (t : Bool) → (is_rule a && is_rule b) ≡ t → now ≡ added words a b → now ≡ all_added words (cond t (record { from = a; to = b } ∷ []) [])
-      go true i h = h
-      go false i h = h ∙ rw i
+    pub one_step : (is_rule a && is_rule b) ≡ true → step_in rows r ≡ record { from = a; to = b } ∷ []
+    unfolding step_in
+    one_step h = rw (← e, ← f, h)
 
-  pub step_greatest : {m : ℕ} → m ≡ cond (is_rule a && is_rule b) (max a b) 0 → m ≡ greatest (step_in rows r)
-  unfolding step_in greatest
-  step_greatest {m} g = g ∙ rw (← e, ← f) (go (is_rule a && is_rule b))
-    where
-      go : (t : Bool) → cond t (max a b) 0 ≡ greatest (cond t (record { from = a; to = b } ∷ []) [])
-      go true = let z : max (max a b) 0 ≡ max a b = omega arith in sym z
-      go false = refl
+-- no step, or one, to be added
+module _ {l : List Step} (e : l ≡ []) where
+  pub added_nothing : (words : List ℕ) → words ≡ all_added words l
+  unfolding all_added
+  added_nothing words = rw e
+
+  pub greatest_nothing : 0 ≡ greatest l
+  unfolding greatest
+  greatest_nothing = rw e
+
+module _ {l : List Step} {a b : ℕ} (e : l ≡ record { from = a; to = b } ∷ []) where
+  pub added_one : (words : List ℕ) {now : List ℕ} → now ≡ added words a b → now ≡ all_added words l
+  unfolding all_added
+  added_one words h = rw e h
+
+  pub greatest_one : {m : ℕ} → m ≡ max a b → m ≡ greatest l
+  unfolding greatest
+  greatest_one h = rw e (omega (arith, h))

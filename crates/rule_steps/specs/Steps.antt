@@ -1,6 +1,6 @@
 -- The references between rules in rows, as steps (document 02, W-202, refusal 14).
 -- Assumes nothing.
-use Rattle.std.specs.Prelude.{ℕ, max, Bool, cond, ◌&&◌, List, [], ◌∷◌, ◌++◌, eqb, get_or}
+use Rattle.std.specs.Prelude.{ℕ, max, Bool, cond, ◌&&◌, List, [], ◌∷◌, ◌++◌, eqb, get_or, Option, Some, None}
 use Rattle.rows.specs.Codes as code
 use Rattle.rows.specs.Columns as column
 use Rattle.rows.specs.Table.{row_at}
@@ -47,6 +47,11 @@ step_at t count row = step_in (rows_from t 0 count) (row_at t row)
 unfoldable pub greatest : List Step → ℕ
 greatest [] = 0
 greatest (s ∷ l) = max (max s.from s.to) (greatest l)
+
+-- a rule that may be absent, as a number: 0 for none
+abbrev pub rule_or_zero : Option ℕ → ℕ
+rule_or_zero None = 0
+rule_or_zero (Some rule) = rule
 
 -- the map with some steps more
 unfoldable pub all_added : List ℕ → List Step → List ℕ

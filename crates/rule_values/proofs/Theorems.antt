@@ -29,12 +29,12 @@ module _ (rules : List Formula) (answers gotos checkboxes t : List ℕ) (count :
     (placed : (i : ℕ) → i < length order → Placed rules t count places (get_or order i 0)) (ordered : Ordered rules order)
     (values : ℕ → Scalar) (solves : Solves rules (question_value answers gotos checkboxes) values) where
   -- the rules at the first i places have their values, and there is room for those of all
-  record Found (i : ℕ) (found : List ℕ) : Type 0 where
+  record Found (i : ℕ) (found : List Scalar) : Type 0 where
     fits : (j : ℕ) → j < length order → get_or order j 0 < room found
     have : (j : ℕ) → j < i → value_at found (get_or order j 0) ≡ values (get_or order j 0)
 
   -- the rows of the next rule give its value
-  gives : (i : ℕ) (found : List ℕ) → i < length order → Found i found
+  gives : (i : ℕ) (found : List Scalar) → i < length order → Found i found
       → value_after answers gotos checkboxes found t count (get_or places (get_or order i 0) 0) ≡ values (get_or order i 0)
   gives i found h f =
       let k = get_or order i 0 in
@@ -46,7 +46,7 @@ module _ (rules : List Formula) (answers gotos checkboxes t : List ℕ) (count :
       earlier : (m : ℕ) → ((j : ℕ) × (j < i) × (get_or order j 0 ≡ m)) → value_at found m ≡ values m
       earlier m u = rw u.2 at (f.have u.0 u.1)
 
-  next : (i : ℕ) (found : List ℕ) → i < length order → Found i found → Found (suc i) (with_rule answers gotos checkboxes t count places found (get_or order i 0))
+  next : (i : ℕ) (found : List Scalar) → i < length order → Found i found → Found (suc i) (with_rule answers gotos checkboxes t count places found (get_or order i 0))
   unfolding with_rule
   next i found h f =
       record {
@@ -66,7 +66,7 @@ module _ (rules : List Formula) (answers gotos checkboxes t : List ℕ) (count :
       earlier : (j : ℕ) → j < suc i → (get_or order j 0 ≡ k → ⊥) → j < i
       earlier j l d = elim (ℕ_discrete j i) [ yes e ↦ absurd (d (ap (λ (x : ℕ). get_or order x 0) e)) | no e ↦ omega arith ]
 
-  all : (n i : ℕ) (found : List ℕ) → i + n ≡ length order → Found i found
+  all : (n i : ℕ) (found : List Scalar) → i + n ≡ length order → Found i found
       → Found (length order) (with_rules answers gotos checkboxes t count places found (drop i order))
   unfolding with_rules
   all zero i found e f = let z : i ≡ length order = omega arith in rw (z, drop-length order) (rw z at f)
@@ -76,7 +76,7 @@ module _ (rules : List Formula) (answers gotos checkboxes t : List ℕ) (count :
 
   -- every rule of the order has the value that solves the rules' equations
   pub values_found :
-      (found : List ℕ) → ((j : ℕ) → j < length order → get_or order j 0 < room found)
+      (found : List Scalar) → ((j : ℕ) → j < length order → get_or order j 0 < room found)
       → (j : ℕ) → j < length order
       → value_at (with_rules answers gotos checkboxes t count places found order) (get_or order j 0) ≡ values (get_or order j 0)
   values_found found fits j h =
@@ -101,7 +101,7 @@ module _ (rules : List Formula) {l : List Step} {n : ℕ} {order : List ℕ} (fo
 
   -- every rule 1 to n has the value that solves the rules' equations
   pub rule_values_found :
-      (answers gotos checkboxes t : List ℕ) (count : ℕ) (places found : List ℕ) (values : ℕ → Scalar)
+      (answers gotos checkboxes t : List ℕ) (count : ℕ) (places : List ℕ) (found : List Scalar) (values : ℕ → Scalar)
       → ((a : ℕ) → 0 < a → a ≤ n → Placed rules t count places a) → Solves rules (question_value answers gotos checkboxes) values → n < room found
       → (a : ℕ) → 0 < a → a ≤ n
       → value_at (with_rules answers gotos checkboxes t count places found (take n order)) a ≡ values a

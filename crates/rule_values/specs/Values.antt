@@ -4,6 +4,7 @@ use Rattle.std.specs.Prelude.{ℕ, zero, suc, cond, List, [], ◌∷◌, eqb, ge
 use Rattle.rows.specs.Codes as code
 use Rattle.rows.specs.Columns as column
 use Rattle.rows.specs.Table.{cell_at}
+use Rattle.operators.specs.declared.Scalar.{Scalar}
 use Rattle.stored.specs.Stored.{with_value}
 use Rattle.expression_rows.specs.Ends.{value_after}
 
@@ -22,10 +23,10 @@ placed_rows t places i (suc n) = placed_rows t (placed_row t places i) (suc i) n
 
 module _ (answers gotos checkboxes t : List ℕ) (count : ℕ) (places : List ℕ) where
   -- the values with that of rule k, by those that are there
-  unfoldable pub with_rule : List ℕ → ℕ → List ℕ
+  unfoldable pub with_rule : List Scalar → ℕ → List Scalar
   with_rule values k = with_value values k (value_after answers gotos checkboxes values t count (get_or places k 0))
 
   -- and of one rule after another
-  unfoldable pub with_rules : List ℕ → List ℕ → List ℕ
+  unfoldable pub with_rules : List Scalar → List ℕ → List Scalar
   with_rules values [] = values
   with_rules values (k ∷ order) = with_rules (with_rule values k) order

@@ -2,13 +2,15 @@
 // after those that it refers to.
 #![tactic(auto)]
 
-ghost use Rattle.std.specs.Prelude.{◌≡◌, get_or};
-ghost use Rattle.rule_values.specs.Values.{placed_row, placed_rows, with_rule, with_rules};
+ghost use Rattle.std.specs.Prelude.{◌≡◌};
+ghost use Rattle.rule_values.specs.Values.{placed_row, placed_rows, with_rules};
 
+use evaluate::Known;
 use expression_rows::value_after;
-use numbers::Map;
+use operators::Scalar;
 use rows::columns::{CODE, OWN};
 use rows::{cell, codes};
+use saved_answers::Answers;
 use stored::put_value;
 
 // ---- the rows of rules
@@ -36,56 +38,28 @@ pub fn place_rows(places: &mut [u64], table: &[u64], count: usize)
     }
 }
 
-// The row of rule k; 0 where it has no place.
-fn place_of(places: &[u64], k: usize) -> usize
-    ensures { result ≡ get_or places.now k 0 }
-{
-    if places.len() <= k {
-        return 0;
-    }
-    places[k] as usize
-}
-
 // ---- their values
-
-// Finds the value of rule k.
-fn find_value(
-    values: &mut [u64],
-    k: u64,
-    places: &[u64],
-    table: &[u64],
-    count: usize,
-    answers: &[u64],
-    gotos: &Map,
-    checkboxes: &Map,
-)
-    ensures { values.new
-        ≡ with_rule answers.now gotos.now checkboxes.now table.now count places.now
-        values.old k }
-{
-    let row = place_of(places, k as usize);
-    let v = value_after(table, count, row, answers, gotos, checkboxes, values);
-    put_value(values, k as usize, v);
-}
 
 // Finds the values of rules, in the order given: `places` has the row of each rule, by its number.
 pub fn find_values(
-    values: &mut [u64],
+    values: &mut [Scalar],
     order: &[u64],
     places: &[u64],
     table: &[u64],
     count: usize,
-    answers: &[u64],
-    gotos: &Map,
-    checkboxes: &Map,
+    answers: Answers,
 )
     ensures { values.new
-        ≡ with_rules answers.now gotos.now checkboxes.now table.now count places.now
-        values.old order.now }
+        ≡ with_rules answers.entry.saved.now answers.entry.gotos.now answers.entry.checkboxes.now
+        table.now count places.now values.old order.now }
 {
-    for i in 0..order.len() {
-        find_value(
-            values, order[i], places, table, count, answers, gotos, checkboxes,
-        );
+    for &k in order {
+        let row = places.get(k as usize).copied().unwrap_or(0) as usize;
+        let known = Known {
+            answers,
+            rules: values,
+        };
+        let v = value_after(table, count, row, known);
+        put_value(values, k as usize, v);
     }
 }

@@ -8,7 +8,7 @@ use Rattle.rows.specs.Codes.{member, expressions, is_expression}
 use Rattle.rows.specs.Table.{row_at}
 use Rattle.numbers.specs.Numbers.{used}
 use Rattle.operators.specs.Values.{applied, operations, constants, found, sum}
-use Rattle.stored.specs.Stored.{NUMBER, scalar_of, value_at}
+use Rattle.operators.specs.declared.Scalar.TheVariants.{Number, Undefined}
 use Rattle.saved_answers.specs.Answers.{by_kind}
 use Rattle.saved_answers.specs.Search.{halved, lowest, searched, question_value}
 use Rattle.answers.proofs.Computed.{rows_read}
@@ -27,7 +27,7 @@ source =
 
 -- the checkbox is answered 2; 5 is the number of a checkbox and no goto; the first rule is worth 7
 worked :
-    shown (5 ∷ 2 ∷ []) [] (32 ∷ []) (0 ∷ 0 ∷ NUMBER ∷ 7 ∷ []) (flatten (rows_read source)) 18
+    shown (5 ∷ 2 ∷ []) [] (32 ∷ []) (Undefined ∷ Number 7 ∷ []) (flatten (rows_read source)) 18
     ≡ 0 ∷ 0 ∷ 0 ∷ 0 ∷ 0
     -- suppressif and grayoutif with their expressions, and the first label
     ∷ 0 ∷ 0 ∷ 0 ∷ 0 ∷ 0 ∷ 0 ∷ 0 ∷ 0 ∷ 3
@@ -35,5 +35,5 @@ worked :
     ∷ 1 ∷ 0 ∷ 0 ∷ 0 ∷ []
 unfolding source rows_read flatten row_at shown items_only all_flags flags_in is_item hides greys items hiding greying member
     end_of is_expression expressions evaluated after_rows stepped pushed is_binary operand_value applied operations constants found sum
-    question_value searched lowest halved by_kind used value_at scalar_of
+    question_value searched lowest halved by_kind used
 worked = refl

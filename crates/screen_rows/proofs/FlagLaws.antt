@@ -1,17 +1,14 @@
 -- The flags in a row, by the code's tests.
 -- Assumes nothing.
-use Prim.Native.Nat.{ℕ, ◌≤◌, ◌<◌}
+use Prim.Native.Nat.{ℕ}
 use mathlib.Core.Path.{◌≡◌, refl, sym, ap, ap₂, ◌∙◌}
-use mathlib.Core.Bool.{Bool, true, false, not, ◌||◌, and-false}
+use mathlib.Core.Bool.{true, false}
 use mathlib.Core.List.{List}
 use lib.Bits.{bit_or, or_zero_r}
-use lib.ListN.{length, get_or, take, get_or-eq_default}
-use lib.Seq.{get_or-take, length-take-le}
-use borrow.Author.Tests.{not-true, not-false}
+use lib.ListN.{get_or}
 use Rattle.rows.specs.Columns as column
 use Rattle.rows.specs.Table.{cell_at}
 use Rattle.operators.specs.declared.Scalar.{Scalar}
-use Rattle.ll1.proofs.Basics.{clash}
 use Rattle.screen.specs.Kinds.{hides, greys, is_true}
 use Rattle.screen.proofs.KindLaws.{hides_only}
 use Rattle.screen_rows.specs.Passes.{own_flags, flags_in}
@@ -19,48 +16,26 @@ use Rattle.screen_rows.specs.Passes.{own_flags, flags_in}
 -- ---- what a condition does itself, by what the code's calls give
 
 module _ (code : ℕ) (v : Scalar) where
-  pub flags_false : {holds : Bool} → holds ≡ is_true v → not holds ≡ true → 0 ≡ own_flags code v
-  flags_false t e = rw (sym t ∙ not-true _ e, and-false (hides code), and-false (greys code))
+  pub flags_hiding : true ≡ is_true v → true ≡ hides code → 1 ≡ own_flags code v
+  flags_hiding t h = rw (sym t, sym h, hides_only code (sym h)) refl
 
-  module _ {holds hiding : Bool} (t : holds ≡ is_true v) (e : not holds ≡ false) (h : hiding ≡ hides code) where
-    pub flags_hiding : hiding ≡ true → 1 ≡ own_flags code v
-    flags_hiding d = let z : hides code ≡ true = sym h ∙ d in rw (sym t ∙ not-false _ e, z, hides_only code z)
-
-    pub flags_greying : hiding ≡ false → {greying : Bool} → greying ≡ greys code → greying ≡ true → 2 ≡ own_flags code v
-    flags_greying d g k = rw (sym t ∙ not-false _ e, sym h ∙ d, sym g ∙ k)
-
-  pub flags_none : hides code ≡ false → greys code ≡ false → 0 ≡ own_flags code v
-  flags_none h g = rw (h, g)
-
--- ---- the byte of a row before this one
-
-module _ (l : List ℕ) (row parent : ℕ) where
-  pub before_in : parent < row → get_or l parent 0 ≡ get_or (take row l) parent 0
-  before_in h = sym (get_or-take row l parent 0 h)
-
-  pub before_out : row ≤ length l → row ≤ parent → 0 ≡ get_or (take row l) parent 0
-  before_out h p = sym (get_or-eq_default (take row l) 0 (rw (length-take-le row l h) p))
+  flags_none : false ≡ hides code → false ≡ greys code → 0 ≡ own_flags code v
+  flags_none h g = rw (sym h, sym g) refl
 
 -- ---- the flags in a row, by what the code's calls give
-
-neither : (a b : Bool) → (a || b) ≡ false → (a ≡ false) × (b ≡ false)
-neither true b e = clash cc
-neither false b e = (refl, e)
 
 module _ (t : List ℕ) (value : ℕ → Scalar) (before : List ℕ) (i : ℕ) {code parent flags : ℕ}
     (c : code ≡ cell_at t i column.CODE) (p : parent ≡ cell_at t i column.PARENT) (f : flags ≡ get_or before parent 0) where
   outer : flags ≡ get_or before (cell_at t i column.PARENT) 0
   outer = f ∙ ap (λ (n : ℕ). get_or before n 0) p
 
-  pub flags_plain :
-      {hiding greying : Bool} → hiding ≡ hides code → greying ≡ greys code → not (hiding || greying) ≡ true → flags ≡ flags_in t value before i
+  pub flags_plain : false ≡ hides code → false ≡ greys code → flags ≡ flags_in t value before i
   unfolding flags_in
-  flags_plain h g n =
-      let u = neither _ _ (not-true _ n) in
+  flags_plain h g =
       let around : ℕ = get_or before (cell_at t i column.PARENT) 0 in
       outer
       ∙ sym (or_zero_r around)
-      ∙ ap (bit_or around) (flags_none code (value i) (sym h ∙ u.0) (sym g ∙ u.1) ∙ ap (λ (k : ℕ). own_flags k (value i)) c)
+      ∙ ap (bit_or around) (flags_none code (value i) h g ∙ ap (λ (k : ℕ). own_flags k (value i)) c)
 
   pub flags_condition : {v : Scalar} {own : ℕ} → v ≡ value i → own ≡ own_flags code v → bit_or flags own ≡ flags_in t value before i
   unfolding flags_in

@@ -64,7 +64,7 @@ own_item k h g x =
 
 -- ---- the expression of a statement
 
-module _ (answers gotos checkboxes rules t : List ℕ) (count : ℕ) (found : ℕ → List ℕ) where
+module _ (answers gotos checkboxes : List ℕ) (rules : List Scalar) (t : List ℕ) (count : ℕ) (found : ℕ → List ℕ) where
   abbrev questions : ℕ → Scalar
   questions = question_value answers gotos checkboxes
 

@@ -2,7 +2,7 @@
 -- Assumes nothing.
 use Prim.Native.Nat.{ℕ, suc, ◌+◌, ◌≤◌, ◌<◌}
 use mathlib.Core.Path.{◌≡◌, refl, sym, ap, ap₂, ◌∙◌}
-use mathlib.Core.Bool.{cond}
+use mathlib.Core.Bool.{true, false, cond}
 use mathlib.Core.List.{List, [], ◌∷◌, ◌++◌, append_assoc, append-nil}
 use native.Mathlib.Numerals.{add-one}
 use native.Mathlib.Omega.{arith}
@@ -74,6 +74,13 @@ module _ (t : List ℕ) where
               ∙ ap (λ (z : List ℕ). take row out ++ z) (sym rest)
               ∙ k.same);
         }
+
+    -- a row that is no item's, and one that is
+    pub keeping_none : row < length out₀ → false ≡ is_item (cell_at t row column.CODE) → Keeping out₀ (set out row 0) (row + 1)
+    keeping_none h e = keeping_next h (rw (sym e) refl)
+
+    pub keeping_item : row < length out₀ → true ≡ is_item (cell_at t row column.CODE) → Keeping out₀ (set out row (get_or out row 0)) (row + 1)
+    keeping_item h e = keeping_next h (rw (sym e) refl)
 
     pub keeping_end : length out₀ ≤ row → out ≡ items_only t 0 out₀
     unfolding items_only

@@ -72,7 +72,7 @@ module _ (t : List ℕ) (count : ℕ) (found : ℕ → List ℕ) {tree : Trees} 
   laid_items row = (λ i. let r = laid_statement i.stands in (r.inside, rw r.code_is i.item), item_row row)
 
 -- its bytes are those of the screen
-module _ (answers gotos checkboxes rules t : List ℕ) (count : ℕ) (found : ℕ → List ℕ) {tree : Trees} (laid : FormSetLaid t count found tree) where
+module _ (answers gotos checkboxes : List ℕ) (rules : List Scalar) (t : List ℕ) (count : ℕ) (found : ℕ → List ℕ) {tree : Trees} (laid : FormSetLaid t count found tree) where
   abbrev value : ℕ → Scalar
   value = value_after answers gotos checkboxes rules t count
 
@@ -110,7 +110,7 @@ module _ (s : List ℕ) (n : ℕ) (accepted : (read_answer s n).number ≡ 0) (t
 
   -- the bytes by the answers and the rules' values as the code has them
   pub accepted_shown :
-      (answers gotos checkboxes rules : List ℕ)
+      (answers gotos checkboxes : List ℕ) (rules : List Scalar)
       → shown answers gotos checkboxes rules (read_table s n) (read_answer s n).rows
       ≡ bytes (question_value answers gotos checkboxes) (value_at rules) false false screen_read
   accepted_shown answers gotos checkboxes rules =
@@ -136,7 +136,7 @@ module _ (s : List ℕ) (n : ℕ) (accepted : (read_answer s n).number ≡ 0) (t
 
   -- ---- where the answers ascend, and `values` are those of the rules that the source refers to
 
-  module _ (answers gotos checkboxes rules : List ℕ) (ascending : Ascending answers)
+  module _ (answers gotos checkboxes : List ℕ) (rules : List Scalar) (ascending : Ascending answers)
       (values : ℕ → Scalar) (valued : EachExpression (λ e. Agree (references e) (value_at rules) values) screen_read) where
     abbrev questions : ℕ → Scalar
     questions = answered answers gotos checkboxes

@@ -33,5 +33,5 @@ items_only t i (b ∷ bytes) = cond (is_item (cell_at t i column.CODE)) b 0 ∷ 
 
 -- ---- both, over the first `count` rows
 
-unfoldable pub shown : (answers gotos checkboxes rules t : List ℕ) (count : ℕ) → List ℕ
+unfoldable pub shown : (answers gotos checkboxes : List ℕ) (rules : List Scalar) (t : List ℕ) (count : ℕ) → List ℕ
 shown answers gotos checkboxes rules t count = items_only t 0 (all_flags t (value_after answers gotos checkboxes rules t count) count)

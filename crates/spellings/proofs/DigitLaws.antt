@@ -19,11 +19,11 @@ use Rattle.answers.specs.Text.{gap_after, decimal_digits, hex_digits}
 
 -- ---- a test over the first numbers
 
-abbrev up_to : ℕ → (ℕ → Bool) → Bool
+abbrev pub up_to : ℕ → (ℕ → Bool) → Bool
 up_to zero p = true
 up_to (suc n) p = p n && up_to n p
 
-below : (p : ℕ → Bool) (n k : ℕ) → up_to n p ≡ true → k < n → p k ≡ true
+pub below : (p : ℕ → Bool) (n k : ℕ) → up_to n p ≡ true → k < n → p k ≡ true
 below p zero k t h = absurd (omega arith)
 below p (suc n) k t h =
     let both = and_true (p n) (up_to n p) t in

@@ -1,12 +1,14 @@
 -- What is added to an output: bytes after bytes and words after words.
 -- Assumes nothing.
-use Prim.Native.Nat.{ℕ}
+use Prim.Native.Nat.{ℕ, ◌-◌}
+use native.Mathlib.Omega.{arith}
 use mathlib.Core.Path.{◌≡◌, refl, sym, ◌∙◌}
+use lib.ListN.{length}
 use mathlib.Core.List.{List, [], ◌∷◌, ◌++◌, append_assoc, append-nil}
 use Rattle.answers.specs.Text.{Word, gap_after, text_of}
 use Rattle.spellings.specs.declared.output.Output.{Output}
-use Rattle.spellings.specs.Printed.{Written, Printed}
-use Rattle.spellings.proofs.Outputs.{puts_none, puts_then, prints_none, prints_then, print_word}
+use Rattle.spellings.specs.Printed.{Written, WrittenBefore, Printed, PrintedBefore}
+use Rattle.spellings.proofs.Outputs.{few_bytes, print_before, puts_none, puts_then, prints_none, prints_then, print_word}
 
 module _ {o o₁ o₂ : Output} where
   pub written_then : {xs ys : List ℕ} → Written o xs o₁ → Written o₁ ys o₂ → Written o (xs ++ ys) o₂
@@ -49,3 +51,17 @@ partly_more {xs = xs} {ys = ys} p e q =
 
 pub partly_all : {o o₁ : Output} {whole left : List ℕ} → Partly o whole o₁ left → left ≡ [] → Written o whole o₁
 partly_all p e = rw (p.split, e, append-nil p.done) p.written
+
+-- ---- from the end
+
+-- bytes that are written from a place on, of which there are as many before the end
+pub started_before : {o o₁ : Output} {start : ℕ} (bs : List ℕ) → start ≡ o.at - length bs → Written (record { bytes = o.bytes; at = start }) bs o₁
+    → WrittenBefore o bs (record { bytes = o₁.bytes; at = start })
+started_before {o} {start = start} bs e p =
+    record { puts = record { fit = λ h l. (omega arith, p.puts.stored ∙ few_bytes o.bytes.now start bs (omega arith)) }; lent = p.lent }
+
+pub words_before : {o o₁ : Output} {ws : List Word} → WrittenBefore o (text_of ws) o₁ → PrintedBefore o ws o₁
+words_before p = record { prints = record { puts = p.puts }; lent = p.lent }
+
+pub printed_before : {o o₁ o₂ : Output} {a b : List Word} → PrintedBefore o b o₁ → PrintedBefore o₁ a o₂ → PrintedBefore o (a ++ b) o₂
+printed_before p q = record { prints = print_before p.prints q.prints; lent = q.lent ∙ p.lent }

@@ -5,6 +5,10 @@ use native.Mathlib.Omega.{arith}
 use mathlib.Core.Path.{◌≡◌, refl}
 use mathlib.Core.List.{List, [], ◌∷◌}
 use lib.ListN.{length, get_or, get_or-eq_default}
+use mathlib.Core.Bool.{true}
+use lib.Dec.{leb}
+use borrow.Author.Tests.{leb-true}
+use Rattle.spellings.proofs.DigitLaws.{up_to, below}
 use Rattle.lexemes.specs.Words.{same}
 use Rattle.lexemes.specs.Classes.{NAME}
 use Rattle.lexemes.specs.Lexemes.{signs, reserved, lexemes}
@@ -39,3 +43,17 @@ spells e same = rw e same
 pub no_word : (k : ℕ) → NAME ≤ k → text_of (lexeme k) ≡ 32 ∷ []
 unfolding text_of same
 no_word k h = rw (no_lexeme k h)
+
+-- no word has more bytes, with what stands after it
+abbrev pub ROOM : ℕ
+ROOM = 24
+
+short_checked : up_to NAME (λ k. leb (length (text_of (lexeme k))) ROOM) ≡ true
+unfolding text_of lexemes signs reserved same
+short_checked = refl
+
+pub lexeme_short : (k : ℕ) → length (text_of (lexeme k)) ≤ ROOM
+unfolding text_of
+lexeme_short k =
+    either_less k NAME (λ l. leb-true _ _ (below (λ k. leb (length (text_of (lexeme k))) ROOM) NAME k short_checked l))
+    (λ l. rw (no_lexeme k l) (omega arith))

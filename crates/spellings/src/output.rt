@@ -1,8 +1,9 @@
 // A lent output, and bytes that are added to it.
 ghost use Rattle.std.specs.Prelude.{◌≡◌, [], ◌∷◌};
-ghost use Rattle.spellings.specs.Printed.{Written};
+ghost use Rattle.spellings.specs.Printed.{Written, WrittenBefore};
 
-// An output with the count of its bytes so far: they are written where they fit, and all are counted.
+// An output with the count of its bytes so far: they are written where they fit, and all are counted. An output that is
+// written from its end has the count of the bytes before.
 #[derive(Drop)]
 pub struct Output<'a> {
     pub bytes: &'a mut [u8],
@@ -30,5 +31,15 @@ impl Output<'_> {
         let end = next.min(room);
         self.bytes[start..end].copy_from_slice(&text[..end - start]);
         self.at = next;
+    }
+
+    // The bytes of a text before those that are written; the count then is that of the bytes before them.
+    pub fn write_before(&mut self, text: &[u8])
+        ensures { WrittenBefore self.old text.now self.new }
+    {
+        let start = self.at.saturating_sub(text.len());
+        self.at = start;
+        self.write(text);
+        self.at = start;
     }
 }

@@ -1,7 +1,7 @@
 // Signs and reserved words.
 ghost use Rattle.std.specs.Prelude.{cond, []};
 ghost use Rattle.answers.specs.Text.{lexeme};
-ghost use Rattle.spellings.specs.Printed.{Printed};
+ghost use Rattle.spellings.specs.Printed.{Printed, PrintedBefore};
 
 use crate::output::Output;
 use crate::spelling::spelling;
@@ -21,5 +21,12 @@ impl Output<'_> {
         if there {
             self.word(class);
         }
+    }
+
+    // The same before what is written.
+    pub fn word_before(&mut self, class: u8)
+        ensures { PrintedBefore self.old (lexeme class) self.new }
+    {
+        self.write_before(spelling(class));
     }
 }

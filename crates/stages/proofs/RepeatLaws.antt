@@ -13,25 +13,24 @@ use Rattle.answers.specs.Rows.{Draft}
 use Rattle.answers.specs.Stages.{cell}
 use Rattle.answers.specs.Drafts.{drafts_from}
 use Rattle.drafts.specs.Faults.{draft_at}
-use Rattle.stages.specs.Repeats.{number_of, repeated_mark, map_after}
+use Rattle.stages.specs.Repeats.{form_number, written_number, repeated_mark, map_after}
 use Rattle.drafts.proofs.DraftLaws.{drafts_start, drafts_next, drafts_end}
 
--- ---- the number of a row, by its code k and own number n
+-- ---- the number of a row, by its code k
 
 module _ (d : Draft) {k : ℕ} (e : k ≡ cell column.CODE d) where
-  module _ {b : Bool} (f : b ≡ true) where
-    pub number_form : {n : ℕ} → n ≡ cell column.OWN d → k ≡ code.FORM → n ≡ number_of b d
-    number_form g h = rw (f, ← e, ← g, eq-eqb k code.FORM h)
+  pub number_form : {n : ℕ} → n ≡ cell column.OWN d → k ≡ code.FORM → n ≡ form_number d
+  number_form g h = rw (← e, ← g, eq-eqb k code.FORM h)
 
-    pub number_no_form : (k ≡ code.FORM → ⊥) → 0 ≡ number_of b d
-    number_no_form h = rw (f, ← e, ne_eqb k code.FORM h)
+  pub number_no_form : (k ≡ code.FORM → ⊥) → 0 ≡ form_number d
+  number_no_form h = rw (← e, ne_eqb k code.FORM h)
 
-  module _ {b q : Bool} (f : b ≡ false) (h : q ≡ is_question k) where
-    pub number_question : {n : ℕ} → n ≡ cell column.OWN d → q ≡ true → n ≡ number_of b d
-    number_question g y = rw (f, ← e, ← g, ← h, y)
+  module _ {q : Bool} (h : q ≡ is_question k) where
+    pub number_question : {n : ℕ} → n ≡ cell column.OWN d → q ≡ true → n ≡ written_number d
+    number_question g y = rw (← e, ← g, ← h, y)
 
-    pub number_no_question : q ≡ false → 0 ≡ number_of b d
-    number_no_question y = rw (f, ← e, ← h, y)
+    pub number_no_question : q ≡ false → 0 ≡ written_number d
+    number_no_question y = rw (← e, ← h, y)
 
 -- ---- the first row
 

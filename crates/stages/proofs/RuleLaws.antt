@@ -1,12 +1,13 @@
 -- Stage 10 as the code does it, and that it finds the first of the faults that grammar lists.
-use Prim.Native.Nat.{ℕ, ◌+◌, ◌%◌}
+use Prim.Native.Nat.{ℕ, ◌+◌, ◌%◌, ◌<◌, ◌≤◌}
 use mathlib.Core.Path.{◌≡◌}
-use mathlib.Core.Bool.{true, false, ◌&&◌}
+use mathlib.Core.Bool.{◌&&◌, and-false}
 use mathlib.Core.List.{List}
 use native.Mathlib.Nat.{mod-eq_of_lt}
 use native.Mathlib.Numerals.{add-one}
 use native.Mathlib.Omega.{arith}
-use lib.Dec.{eqb, ltb}
+use borrow.Author.Tests.{eq-eqb, ne_eqb, lt-ltb, le-ltb}
+use lib.Dec.{ltb}
 use Rattle.rows.specs.Codes as code
 use Rattle.rows.specs.Columns as column
 use Rattle.rows.specs.Draft.{HALF}
@@ -17,14 +18,18 @@ use Rattle.stages.specs.Rules.{rule_fault}
 use Rattle.drafts.specs.Sound.{SoundRows, First}
 use Rattle.drafts.proofs.Firsts.{first_if, first_each}
 
-module _ (d : Draft) {k n : ℕ} (e : k ≡ cell column.CODE d) (f : n ≡ cell column.OWN d) where
-  pub rule_over : {p : ℕ} → p ≡ cell column.PLACE d → (eqb k code.RULE && ltb 255 n) ≡ true → p % HALF + 1 ≡ rule_fault d
+module _ (d : Draft) {k : ℕ} (e : k ≡ cell column.CODE d) where
+  pub rule_over : {n p : ℕ} → n ≡ cell column.OWN d → p ≡ cell column.PLACE d → k ≡ code.RULE → 255 < n → p % HALF + 1 ≡ rule_fault d
   unfolding rule_fault
-  rule_over {p} g h = rw (← e, ← f, ← g, h) (add-one (p % HALF))
+  rule_over {n} {p} f g h l = rw (← e, ← f, ← g, eq-eqb k code.RULE h, lt-ltb 255 n l) (add-one (p % HALF))
 
-  pub rule_within : (eqb k code.RULE && ltb 255 n) ≡ false → 0 ≡ rule_fault d
+  pub rule_within : {n : ℕ} → n ≡ cell column.OWN d → n ≤ 255 → 0 ≡ rule_fault d
   unfolding rule_fault
-  rule_within h = rw (← e, ← f, h)
+  rule_within {n} f l = rw (← f, le-ltb 255 n l, and-false (is code.RULE d))
+
+  pub no_rule : (k ≡ code.RULE → ⊥) → 0 ≡ rule_fault d
+  unfolding rule_fault
+  no_rule h = rw (← e, ne_eqb k code.RULE h)
 
 -- stage 10 answers grammar's first fault
 pub rules_first : {ds : List Draft} → SoundRows ds → First (first_fault (alone rule_fault) ds) (rules_over_limit ds)

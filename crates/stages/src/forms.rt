@@ -16,20 +16,18 @@ const CONDITIONS: usize = 16;
 fn is_form(table: &[u64], count: usize, row: usize) -> bool
     ensures { result ≡ is code.FORM (row_among (drafts_from table.now 0 count) row) }
 {
-    if count <= row {
-        return false;
-    }
-    cell(table, row, CODE) == codes::FORM
+    row < count && cell(table, row, CODE) == codes::FORM
 }
 
 // The parent of a row of the first `count`; 0 of any other.
 pub fn parent(table: &[u64], count: usize, row: usize) -> usize
     ensures { result ≡ cell column.PARENT (row_among (drafts_from table.now 0 count) row) }
 {
-    if count <= row {
-        return 0;
+    if row < count {
+        cell(table, row, PARENT) as usize
+    } else {
+        0
     }
-    cell(table, row, PARENT) as usize
 }
 
 // The form round what a rule or condition holds: from its parent up, past as many conditions as may be open.
@@ -37,13 +35,11 @@ pub fn form_round(table: &[u64], count: usize, row: usize) -> usize
     ensures { result ≡ form_round (drafts_from table.now 0 count) (draft_at table.now row) }
 {
     let mut at = cell(table, row, PARENT) as usize;
-    let mut left = CONDITIONS;
-    while 0 < left {
+    for _ in 0..CONDITIONS {
         if is_form(table, count, at) {
             return at;
         }
         at = parent(table, count, at);
-        left -= 1;
     }
     at
 }

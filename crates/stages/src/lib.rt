@@ -1,4 +1,4 @@
-// Stages 7 to 12 over the draft rows: each answers the mark of the first fault, or 0 (document 01, Refusal numbers).
+// Stages 7 to 12 over the draft rows: each answers the place of the first fault (document 01, Refusal numbers).
 #![tactic(auto)]
 
 mod choices;

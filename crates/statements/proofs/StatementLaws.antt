@@ -2,6 +2,7 @@
 -- Assumes nothing.
 use Prim.Native.Nat.{ℕ}
 use mathlib.Core.Path.{◌≡◌, refl, sym, ap, ◌∙◌}
+use mathlib.Core.Logic.{◌⊎◌, inl, inr}
 use mathlib.Core.Bool.{Bool, true, false, cond, ◌||◌, false≢true}
 use mathlib.Core.List.{List, [], ◌∷◌, ◌++◌, append_assoc, append-nil}
 use lib.Dec.{eqb}
@@ -274,16 +275,22 @@ module _ (r : List ℕ) where
   unfolding phrase_words phrase_from added skip_after passed_after lexemes signs reserved
   expression_close_words = refl
 
-pub no_closing : (k : ℕ) → ((((((Unit {0}) × (k ≡ 14 → ⊥)) × (k ≡ 1 → ⊥)) × (k ≡ 5 → ⊥)) × (k ≡ 10 → ⊥)) × (k ≡ 25 → ⊥)) × (k ≡ 30 → ⊥) → [] ≡ closing k
+pub condition_closes : (r : List ℕ) {k : ℕ} → (k ≡ 10) ⊎ ((k ≡ 25) ⊎ (k ≡ 30)) → phrase_words phrase.condition_close_elements [] r ≡ closing k
 unfolding closing
-no_closing k h =
+condition_closes r (inl e) = rw e (condition_close_words r)
+condition_closes r (inr (inl e)) = rw e (condition_close_words r)
+condition_closes r (inr (inr e)) = rw e (condition_close_words r)
+
+pub no_closing : (k : ℕ) → (((Unit {0}) × (k ≡ 14 → ⊥)) × (k ≡ 1 → ⊥)) × (k ≡ 5 → ⊥) → ((k ≡ 10) ⊎ ((k ≡ 25) ⊎ (k ≡ 30)) → ⊥) → [] ≡ closing k
+unfolding closing
+no_closing k h g =
     rw (
-      ne_eqb k 14 h.0.0.0.0.0.1,
-      ne_eqb k 1 h.0.0.0.0.1,
-      ne_eqb k 5 h.0.0.0.1,
-      ne_eqb k 10 h.0.0.1,
-      ne_eqb k 25 h.0.1,
-      ne_eqb k 30 h.1,
+      ne_eqb k 14 h.0.0.1,
+      ne_eqb k 1 h.0.1,
+      ne_eqb k 5 h.1,
+      ne_eqb k 10 (λ e. g (inl e)),
+      ne_eqb k 25 (λ e. g (inr (inl e))),
+      ne_eqb k 30 (λ e. g (inr (inr e))),
     )
 
 pub no_condition : (k : ℕ) → (((Unit {0}) × (k ≡ 10 → ⊥)) × (k ≡ 25 → ⊥)) × (k ≡ 30 → ⊥) → [] ≡ condition_words k

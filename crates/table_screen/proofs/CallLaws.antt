@@ -7,6 +7,7 @@ use mathlib.Core.List.{List}
 use lib.ListN.{length, take}
 use lib.Seq.{length-take-le}
 use Rattle.numbers.specs.Numbers.{empty_map}
+use Rattle.operators.specs.declared.Scalar.{Scalar}
 use Rattle.rows.specs.Rows.{rows_from}
 use Rattle.circles.specs.Circles.{Step, last, Maps, Closed}
 use Rattle.ranks.specs.Ranks.{order_of, order_in}
@@ -34,13 +35,13 @@ rules_whole l m {n} {order} e f =
 
 module _ (answers gotos checkboxes t : List ℕ) (count : ℕ) {n m : ℕ} (counted : m ≡ rule_count t count) (cut : n ≡ last m) where
   -- no rules, no values
-  pub values_none : {r : List ℕ} → n ≡ 0 → r ≡ no_values → r ≡ rule_values answers gotos checkboxes t count
+  pub values_none : {r : List Scalar} → n ≡ 0 → r ≡ no_values → r ≡ rule_values answers gotos checkboxes t count
   unfolding rule_values rule_order with_rules
   values_none z h = h ∙ rw (← counted, ← cut, z)
 
   -- the values in the order
   pub values_all :
-      {order places before r : List ℕ}
+      {order places : List ℕ} {before r : List Scalar}
       → order ≡ order_of (table_steps t count) n → places ≡ rule_places t count → before ≡ no_values
       → r ≡ with_rules answers gotos checkboxes t count places before (take n order)
       → r ≡ rule_values answers gotos checkboxes t count
@@ -49,7 +50,7 @@ module _ (answers gotos checkboxes t : List ℕ) (count : ℕ) {n m : ℕ} (coun
 
 -- the bytes by these values
 pub screen_by :
-    (answers gotos checkboxes t : List ℕ) (count : ℕ) {values r : List ℕ}
+    (answers gotos checkboxes t : List ℕ) (count : ℕ) {values : List Scalar} {r : List ℕ}
     → values ≡ rule_values answers gotos checkboxes t count → r ≡ shown answers gotos checkboxes values t count
     → r ≡ table_screen answers gotos checkboxes t count
 unfolding table_screen

@@ -33,7 +33,7 @@ module _ (t : List ℕ) where
   unfolding own_in
   one_other i {k} e h = rw (← e, ne_eqb k RULE h)
 
-  pub one_most : (i : ℕ) {m : ℕ} → m ≡ one i → m ≤ 1
+  one_most : (i : ℕ) {m : ℕ} → m ≡ one i → m ≤ 1
   unfolding own_in
   one_most i e = rw e (go (is_rule_row (cell_at t i column.CODE)))
     where
@@ -68,8 +68,15 @@ module _ (t : List ℕ) where
     counting_start = record { few = omega arith; same = omega (arith, left_all) }
 
     module _ {rules i : ℕ} (v : Counting rules i) where
-      pub counting_next : {m : ℕ} → i < count → m ≡ one i → Counting (rules + m) (i + 1)
+      counting_next : {m : ℕ} → i < count → m ≡ one i → Counting (rules + m) (i + 1)
       counting_next h e = record { few = omega (arith, one_most i e, v.few); same = omega (arith, left_next i h, v.same) }
+
+      -- a row that is a rule's, and one that is not
+      pub counting_rule : i < count → {k : ℕ} → k ≡ cell_at t i column.CODE → k ≡ RULE → Counting (rules + 1) (i + 1)
+      counting_rule h e f = counting_next h (one_rule i e f)
+
+      pub counting_other : i < count → {k : ℕ} → k ≡ cell_at t i column.CODE → k ≢ RULE → Counting rules (i + 1)
+      counting_other h e f = let same : rules + 0 ≡ rules = omega arith in rw same at (counting_next {m = 0} h (one_other i e f))
 
       pub counting_end : count ≤ i → rules ≡ rule_count t count
       counting_end h = omega (arith, left_end i h, v.same)

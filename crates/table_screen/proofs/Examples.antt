@@ -9,7 +9,6 @@ use Rattle.rows.specs.Table.{row_at}
 use Rattle.rows.specs.Rows.{rows_from}
 use Rattle.numbers.specs.Numbers.{used, picked}
 use Rattle.operators.specs.Values.{applied, operations, constants, found, sum}
-use Rattle.stored.specs.Stored.{scalar_of, value_at, with_value}
 use Rattle.circles.specs.Circles.{leads, closure}
 use Rattle.ranks.specs.Ranks.{rank, by_rank, padded, order_of}
 use Rattle.rule_steps.specs.Steps.{rule_round, step_in, steps_among}
@@ -41,7 +40,7 @@ order = refl
 worked : table_screen (5 ∷ 2 ∷ []) [] (32 ∷ []) (flatten (rows_read source)) 13 ≡ 0 ∷ 0 ∷ 0 ∷ 0 ∷ 0 ∷ 0 ∷ 0 ∷ 0 ∷ 0 ∷ 0 ∷ 0 ∷ 1 ∷ 0 ∷ []
 unfolding source rows_read flatten row_at rows_from shown items_only all_flags flags_in is_item hides greys items hiding greying member
     end_of is_expression expressions evaluated after_rows stepped pushed is_binary operand_value applied operations constants found sum
-    question_value searched lowest halved by_kind used value_at scalar_of with_value
+    question_value searched lowest halved by_kind used
     own_in owns_in rule_order rule_round step_in steps_among leads closure picked rank by_rank padded order_of
     placed_row placed_rows with_rule with_rules rule_places no_values rule_values table_screen
 worked = refl

@@ -109,7 +109,7 @@ module _ (s : List ℕ) (n : ℕ) (accepted : (read_answer s n).number ≡ 0) (t
   -- The answers ascend, and the rules are worth what solves their equations.
   module _ (answers gotos checkboxes : List ℕ) (ascending : Ascending answers)
       (worth : ℕ → Scalar) (solves : Solves (source_rules s tree) (answered answers gotos checkboxes) worth) where
-    abbrev values : List ℕ
+    abbrev values : List Scalar
     values = rule_values answers gotos checkboxes (read_table s n) (read_answer s n).rows
 
     valued : EachExpression (λ e. Agree (references e) (value_at values) worth) (statements s tree)

@@ -2,6 +2,8 @@
 -- Assumes nothing.
 use Rattle.std.specs.Prelude.{ℕ, Bool, List, eqb, length, take, replicate}
 use Rattle.rows.specs.Codes.{RULE}
+use Rattle.operators.specs.declared.Scalar.{Scalar}
+use Rattle.operators.specs.declared.Scalar.TheVariants.{Undefined}
 use Rattle.circles.specs.Circles.{last}
 use Rattle.ranks.specs.Ranks.{order_of}
 use Rattle.question_kinds.specs.Kinds.{table_owns}
@@ -29,13 +31,13 @@ module _ (t : List ℕ) (count : ℕ) where
 
 -- ---- their values, and the bytes of the rows
 
--- room for the values of 256 rules, two numbers each: all are undefined
-unfoldable pub no_values : List ℕ
-no_values = replicate 512 0
+-- the values of 256 rules: all are undefined
+unfoldable pub no_values : List Scalar
+no_values = replicate 256 Undefined
 
 module _ (answers gotos checkboxes t : List ℕ) (count : ℕ) where
   -- the values of the rules, by their numbers
-  unfoldable pub rule_values : List ℕ
+  unfoldable pub rule_values : List Scalar
   rule_values = with_rules answers gotos checkboxes t count (rule_places t count) no_values (rule_order t count)
 
   -- the bytes of the rows

@@ -4,41 +4,32 @@
 #![tactic(auto)]
 
 ghost use Rattle.std.specs.Prelude.{◌≡◌, length};
-ghost use Rattle.question_kinds.specs.Kinds.{own_at};
 ghost use Rattle.ranks.specs.Ranks.{order_of};
 ghost use Rattle.rule_steps.specs.Steps.{table_steps};
-ghost use Rattle.table_screen.specs.TableScreen.{is_rule_row, rule_count, rule_places, no_values, rule_values, table_screen};
+ghost use Rattle.table_screen.specs.TableScreen.{rule_count, rule_places, no_values, rule_values, table_screen};
 
 use circles::{close, last_rule};
-use numbers::Map;
+use evaluate::Known;
+use operators::Scalar;
 use ranks::{PerRule, order};
 use rows::columns::CODE;
 use rows::{cell, codes};
 use rule_steps::add_steps;
 use rule_values::{find_values, place_rows};
+use saved_answers::Answers;
 use screen_rows::show_rows;
 
 // ---- the rules of a table's first rows
-
-// 1 for a row that is a rule's, 0 for any other.
-fn rules_in(table: &[u64], row: usize) -> u64
-    ensures { result ≡ length (own_at is_rule_row table.now row) }
-{
-    if cell(table, row, CODE) == codes::RULE {
-        return 1;
-    }
-    0
-}
 
 // How many rules the first `count` rows have.
 fn count_rules(table: &[u64], count: usize) -> u64
     ensures { result ≡ rule_count table.now count }
 {
-    let mut rules: u64 = 0;
-    let mut row = 0;
-    while row < count {
-        rules += rules_in(table, row);
-        row += 1;
+    let mut rules = 0;
+    for row in 0..count {
+        if cell(table, row, CODE) == codes::RULE {
+            rules += 1;
+        }
     }
     rules
 }
@@ -64,19 +55,21 @@ fn find_places(table: &[u64], count: usize) -> PerRule
     places
 }
 
-// The values of 256 rules, two numbers each.
-type Values = [u64; 512];
+// The values of rules, by their numbers.
+type Values = [Scalar; 256];
 
 // All undefined.
 fn no_values() -> Values
     ensures { result ≡ no_values }
 {
-    [0; 512]
+    [Scalar::Undefined; 256]
 }
 
-// The values of the rules in the first `count` rows, by their numbers; a table without rules has none to order.
-fn values_of(table: &[u64], count: usize, answers: &[u64], gotos: &Map, checkboxes: &Map) -> Values
-    ensures { result ≡ rule_values answers.now gotos.now checkboxes.now table.now count }
+// The values of the rules in the first `count` rows; a table without rules has none to order.
+fn values_of(table: &[u64], count: usize, answers: Answers) -> Values
+    ensures { result
+        ≡ rule_values answers.entry.saved.now answers.entry.gotos.now
+        answers.entry.checkboxes.now table.now count }
 {
     let mut values = no_values();
     let n = last_rule(count_rules(table, count)) as usize;
@@ -85,26 +78,22 @@ fn values_of(table: &[u64], count: usize, answers: &[u64], gotos: &Map, checkbox
     }
     let rules = order_rules(table, count, n as u64);
     let places = find_places(table, count);
-    find_values(
-        &mut values,
-        &rules[..n],
-        &places,
-        table,
-        count,
-        answers,
-        gotos,
-        checkboxes,
-    );
+    find_values(&mut values, &rules[..n], &places, table, count, answers);
     values
 }
 
 // ---- the bytes
 
 // The bytes of a table's first rows, as many as there are bytes.
-pub fn show_table(out: &mut [u8], table: &[u64], answers: &[u64], gotos: &Map, checkboxes: &Map)
+pub fn show_table(out: &mut [u8], table: &[u64], answers: Answers)
     ensures { out.new
-        ≡ table_screen answers.now gotos.now checkboxes.now table.now (length out.old) }
+        ≡ table_screen answers.entry.saved.now answers.entry.gotos.now
+        answers.entry.checkboxes.now table.now (length out.old) }
 {
-    let values = values_of(table, out.len(), answers, gotos, checkboxes);
-    show_rows(out, table, answers, gotos, checkboxes, &values);
+    let values = values_of(table, out.len(), answers);
+    let known = Known {
+        answers,
+        rules: &values,
+    };
+    show_rows(out, table, known);
 }

@@ -13,6 +13,7 @@ use Rattle.answers.specs.Answer as answers
 use Rattle.answers.specs.Answer.{accepts}
 use Rattle.answers.specs.Resolution.{room, resolved_into}
 use Rattle.replies.specs.Replies.{position_of, resolve_replied}
+use Rattle.spellings.specs.declared.output.Output.{Output}
 use Rattle.spellings.specs.Output.{MOST}
 use Rattle.spellings.proofs.Outputs.{few_bytes}
 use Rattle.text.specs.declared.Answer.TheVariants.{Resolved, Long}
@@ -34,35 +35,36 @@ module _ (s : List ℕ) (m need : ℕ) where
   unfolding position_of
   into_room rows free h = rw (le-ltb (room m) need h, resolved_into)
 
-module _ {t : List ℕ} {count : ℕ} {o o₁ : List ℕ} {bytes : ℕ} (p : TextPrinted t count o o₁ bytes) where
+-- the output o, of which nothing is written yet, with the text
+module _ {t : List ℕ} {count : ℕ} {o o₁ : Output} (none : o.at ≡ 0) (p : TextPrinted t count o o₁) where
   -- how many bytes, and where they are
-  written : (text : List ℕ) → HasText t count text → length text ≤ MOST → (bytes ≡ 0 + length text) × (o₁ ≡ sets o 0 text)
+  written : (text : List ℕ) → HasText t count text → length text ≤ MOST → (o₁.at ≡ length text) × (o₁.bytes.now ≡ sets o.bytes.now 0 text)
   written text h l =
-      let w = rw (← h.is) at ((p.prints h.found h.place h.forms h.end h.row h.laid h.stops).prints (omega (arith, rw h.is at l))).puts in
-      (omega (arith, w.end), w.stored ∙ few_bytes o 0 text (omega arith))
+      let w = rw (none, ← h.is) at ((p.prints h.found h.place h.forms h.end h.row h.laid h.stops).prints (omega (arith, none, rw h.is at l))).puts in
+      (omega (arith, w.end), w.stored ∙ few_bytes o.bytes.now 0 text (omega arith))
 
-  pub too_long : {free : ℕ} {t₂ o₂ : List ℕ} → length o₁ ≡ length o → room (length o₁) < bytes → t₂ ≡ cleared t 0 → o₂ ≡ cleared o₁ 0 → RowsPrinted t count free o (Long bytes) t₂ o₂
-  too_long {free = free} n h a b =
-      record {
-        answer = λ text x l s.
-            let w = written text x l in
-            let e : bytes ≡ length text = omega (arith, w.0) in
-            sym (rw (← e) (into_long s (length o) bytes (accepts count free) (rw n at h)));
-        table = λ text x l. a ∙ cleared_whole t;
-        output = λ text x l. b ∙ cleared_whole o₁ ∙ rw n;
-      }
+  -- `out` is then lent back
+  module _ (out : List ℕ) (n : length out ≡ length o.bytes.now) where
+    pub too_long : {free : ℕ} {t₂ o₂ : List ℕ} → room (length out) < o₁.at → t₂ ≡ cleared t 0 → o₂ ≡ cleared out 0 → RowsPrinted t count free o.bytes.now (Long o₁.at) t₂ o₂
+    too_long {free = free} h a b =
+        record {
+          answer = λ text x l s.
+              let w = written text x l in
+              sym (rw (← w.0) (into_long s (length o.bytes.now) o₁.at (accepts count free) (rw n at h)));
+          table = λ text x l. a ∙ cleared_whole t;
+          output = λ text x l. b ∙ cleared_whole out ∙ rw n;
+        }
 
-  pub long_enough : {free : ℕ} {t₂ o₂ : List ℕ} → length o₁ ≡ length o → bytes ≤ room (length o₁) → t₂ ≡ t → o₂ ≡ cleared o₁ bytes → RowsPrinted t count free o (Resolved count free bytes) t₂ o₂
-  long_enough {free = free} n h a b =
-      record {
-        answer = λ text x l s.
-            let w = written text x l in
-            let e : bytes ≡ length text = omega (arith, w.0) in
-            sym (rw (← e) (into_room s (length o) bytes count free (rw n at h)));
-        table = λ text x l. a;
-        output = λ text x l.
-            let w = written text x l in
-            let e : bytes ≡ length text = omega (arith, w.0) in
-            let f : length text ≤ length o = omega (arith, e, n) in
-            b ∙ rw (e, w.1) (fits_cleared o text f);
-      }
+    pub long_enough : {free : ℕ} {t₂ o₂ : List ℕ} → o₁.at ≤ room (length out) → t₂ ≡ t → o₂ ≡ cleared out o₁.at → out ≡ o₁.bytes.now
+        → RowsPrinted t count free o.bytes.now (Resolved count free o₁.at) t₂ o₂
+    long_enough {free = free} h a b e =
+        record {
+          answer = λ text x l s.
+              let w = written text x l in
+              sym (rw (← w.0) (into_room s (length o.bytes.now) o₁.at count free (rw n at h)));
+          table = λ text x l. a;
+          output = λ text x l.
+              let w = written text x l in
+              let f : length text ≤ length o.bytes.now = omega (arith, w.0) in
+              b ∙ rw (e, w.0, w.1) (fits_cleared o.bytes.now text f);
+        }

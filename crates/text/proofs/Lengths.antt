@@ -23,10 +23,9 @@ use Rattle.answers.specs.Text.{opening, text_of, Phrase, ◌prints◌, phrase_am
 use Rattle.print.specs.Phrase.{set_words, numeric_flags, option_flags, element_words, GUID, value_from, element_of}
 use Rattle.print.specs.Phrase.{added, skip_after, passed_after, phrase_from, shown_in, element_in, phrase_words}
 use Rattle.statements.specs.Statements.{closing, expression_end}
-use Rattle.spellings.specs.Spelling.{ROOM}
 use Rattle.spellings.proofs.Outputs.{text_append}
 use Rattle.spellings.proofs.DigitLaws.{digits_few}
-use Rattle.spellings.proofs.SpellingLaws.{lexeme_short}
+use Rattle.spellings.proofs.SpellingLaws.{ROOM, lexeme_short}
 use Rattle.elements.specs.Kinds.{OPTION_FLAGS, TRUTH, FLAG_LIST, NUMERIC_FLAGS, H8, H4, H2, MAYBE}
 use Rattle.elements.specs.Symbols as phrase
 use Rattle.statements.proofs.Sources as source

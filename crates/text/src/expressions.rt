@@ -3,93 +3,78 @@
 ghost use Rattle.std.specs.Prelude.{◌≡◌, ◌≤◌};
 ghost use Rattle.rows.specs.Columns.{CODE};
 ghost use Rattle.rows.specs.Table.{row_at, cell_at};
-ghost use Rattle.answers.specs.Text.{lexeme};
 ghost use Rattle.fields.specs.Operators.{LEVELS, code_class};
-ghost use Rattle.spellings.specs.Output.{Prints};
+ghost use Rattle.spellings.specs.Printed.{Printed, PrintedBefore};
 ghost use Rattle.text.specs.Operators.{atom_words};
-ghost use Rattle.text.specs.Before.{WordBefore, AtomBefore, ExpressionBefore, ExpressionCounted, ExpressionPrinted};
+ghost use Rattle.text.specs.Before.{ExpressionBefore, ExpressionCounted, ExpressionPrinted};
 
 use fields::operators::{LEVELS, class_of, level_of};
 use lexemes::classes::*;
 use rows::columns::CODE;
 use rows::{cell, codes};
-use spellings::bytes::{MOST, end_of, start_of};
-use spellings::words::{put_word, word_length};
+use spellings::output::Output;
 use statements::put_operand;
 
-// Where printing from the end stands: the rows and the bytes before.
-#[derive(Clone, Copy)]
-pub struct Ahead {
-    pub row: usize,
-    pub at: usize,
-}
-
-// A word before what is printed.
-fn put_word_before(out: &mut [u8], a: Ahead, class: u8) -> Ahead
-    ensures { WordBefore out.old a (lexeme class) out.new result }
-{
-    let at = start_of(a.at, word_length(class));
-    put_word(out, at, class);
-    Ahead { row: a.row, at }
-}
-
 // An operand that is no operator's: a constant's word, a number or a reference, by the class of its row's code.
-fn put_atom(out: &mut [u8], at: usize, table: &[u64], row: usize, class: u8) -> usize
+fn put_atom(out: &mut Output<'_>, table: &[u64], row: usize, class: u8)
     requires { class ≡ code_class (cell_at table.now row CODE) }
-    ensures { Prints out.old at (atom_words (row_at table.now row)) out.new result }
+    ensures { Printed out.old (atom_words (row_at table.now row)) out.new }
 {
     if class < NAME {
-        return put_word(out, at, class);
+        return out.word(class);
     }
-    put_operand(out, at, table, row)
+    put_operand(out, table, row)
 }
 
-// The operand whose row is the last one before, and which is no operator's.
-fn put_atom_before(out: &mut [u8], a: Ahead, table: &[u64]) -> Ahead
-    ensures { AtomBefore table.now out.old a out.new result }
+// The same before what is written.
+fn put_atom_before(out: &mut Output<'_>, table: &[u64], row: usize, class: u8)
+    requires { class ≡ code_class (cell_at table.now row CODE) }
+    ensures { PrintedBefore out.old (atom_words (row_at table.now row)) out.new }
 {
-    let row = start_of(a.row, 1);
-    let class = class_of(cell(table, row, CODE));
-    let mut none = [0u8; 0];
-    let at = start_of(a.at, put_atom(&mut none, 0, table, row, class));
-    put_atom(out, at, table, row, class);
-    Ahead { row, at }
+    let mut counted = Output {
+        bytes: &mut [],
+        at: 0,
+    };
+    put_atom(&mut counted, table, row, class);
+    let start = out.at.saturating_sub(counted.at);
+    out.at = start;
+    put_atom(out, table, row, class);
+    out.at = start;
 }
 
-// The expression whose row is the last one before, where parentheses stand round an operator of a level looser than
-// `least`. Left operands are printed in the loop.
-fn put_before(out: &mut [u8], a: Ahead, table: &[u64], least: u8) -> Ahead
+// The expression whose row is the last one before the row `end`, where parentheses stand round an operator of a level
+// looser than `least`; its first row. Left operands are printed in the loop.
+fn put_before(out: &mut Output<'_>, table: &[u64], end: usize, least: u8) -> usize
     requires { least ≤ LEVELS }
-    ensures { ExpressionBefore table.now least out.old a out.new result }
+    ensures { ExpressionBefore table.now end least out.old out.new result }
 {
-    let mut a = a;
+    let mut end = end;
     let mut least = least;
     loop {
-        let row = a.row;
-        if row == 0 {
-            return a;
+        if end == 0 {
+            return end;
         }
-        let code = cell(table, row - 1, CODE);
+        let row = end - 1;
+        let code = cell(table, row, CODE);
         let class = class_of(code);
         let level = level_of(class);
-        let inner = Ahead {
-            row: row - 1,
-            at: a.at,
-        };
         if code == codes::NOT {
-            let operand = put_before(out, inner, table, LEVELS);
-            return put_word_before(out, operand, NOT);
+            let first = put_before(out, table, row, LEVELS);
+            out.word_before(NOT);
+            return first;
         }
         if LEVELS <= level {
-            return put_atom_before(out, a, table);
+            put_atom_before(out, table, row, class);
+            return row;
         }
         if level < least {
-            let closed = put_word_before(out, a, CLOSE_PAREN);
-            let whole = put_before(out, closed, table, 0);
-            return put_word_before(out, whole, OPEN_PAREN);
+            out.word_before(CLOSE_PAREN);
+            let first = put_before(out, table, end, 0);
+            out.word_before(OPEN_PAREN);
+            return first;
         }
-        let right = put_before(out, inner, table, level + 1);
-        a = put_word_before(out, right, class);
+        end = put_before(out, table, row, level + 1);
+        out.word_before(class);
         least = level;
     }
 }
@@ -98,16 +83,20 @@ fn put_before(out: &mut [u8], a: Ahead, table: &[u64], least: u8) -> Ahead
 fn expression_length(table: &[u64], end: usize) -> usize
     ensures { ExpressionCounted table.now end result }
 {
-    let mut none = [0u8; 0];
-    let a = put_before(&mut none, Ahead { row: end, at: MOST }, table, 0);
-    start_of(MOST, a.at)
+    let mut counted = Output {
+        bytes: &mut [],
+        at: usize::MAX,
+    };
+    put_before(&mut counted, table, end, 0);
+    usize::MAX.saturating_sub(counted.at)
 }
 
 // The expression whose last row stands before the row `end`.
-pub fn put_expression(out: &mut [u8], at: usize, table: &[u64], end: usize) -> usize
-    ensures { ExpressionPrinted table.now end out.old at out.new result }
+pub fn put_expression(out: &mut Output<'_>, table: &[u64], end: usize)
+    ensures { ExpressionPrinted table.now end out.old out.new }
 {
-    let last = end_of(at, expression_length(table, end));
-    put_before(out, Ahead { row: end, at: last }, table, 0);
-    last
+    let last = out.at.saturating_add(expression_length(table, end));
+    out.at = last;
+    put_before(out, table, end, 0);
+    out.at = last;
 }

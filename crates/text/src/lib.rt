@@ -10,6 +10,7 @@ ghost use Rattle.replies.specs.Replies.{resolve_reply};
 ghost use Rattle.text.specs.Answers.{told, RowsPrinted};
 
 use crate::items::put_text;
+use spellings::output::Output;
 
 // The longest text.
 const LONGEST: usize = 65536;
@@ -45,7 +46,9 @@ fn room(lent: usize) -> usize
 fn print_rows(table: &mut [u64], out: &mut [u8], rows: usize, free: u64) -> Answer
     ensures { RowsPrinted table.old rows free out.old result table.new out.new }
 {
-    let bytes = put_text(out, table, rows);
+    let mut text = Output { bytes: out, at: 0 };
+    put_text(&mut text, table, rows);
+    let bytes = text.at;
     if room(out.len()) < bytes {
         rows::clear(table, 0);
         rows::clear(out, 0);

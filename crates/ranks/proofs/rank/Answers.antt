@@ -2,7 +2,7 @@
 use Rattle.std.proofs.Common.{ℕ, ◌+◌, ◌-◌, ◌*◌, ◌<◌, ◌≤◌, ◌≡◌, ◌∙◌, ap, List, length, get_or, take, drop, arith, length-take, length-drop}
 use lib.Count.{ones}
 use lib.Seq.{get_or-take, get_or-drop}
-use Rattle.ranks.proofs.Ranks.{rank_none, ranking_start, ranking_next, ranking_end}
+use Rattle.ranks.proofs.Ranks.{rank_none, ranking_next, ranking_end}
 use Rattle.ranks.proofs.rank.Goals as goal
 
 -- the four words from n on

@@ -1,5 +1,7 @@
 -- `rule_steps::add_steps` meets its contract: what is left of the rows is still to be added.
-use Rattle.rule_steps.proofs.Loop.{adding_start, adding_next, adding_end}
+use Rattle.std.proofs.Common.{◌∙◌, ap, arith}
+use Rattle.rule_steps.specs.Steps.{rule_or_zero}
+use Rattle.rule_steps.proofs.Loop.{adding_start, adding_next, adding_end, greater_or_zero}
 use Rattle.rule_steps.proofs.add_steps.Goals as goal
 
 pub loop-row-init : goal.loop-row-init
@@ -7,9 +9,12 @@ loop-row-init c = adding_start _ _ _
 
 pub loop-row-preserved : goal.loop-row-preserved
 loop-row-preserved c =
-    let l = c in
-    let step = c.add_step-rule.ensures in
-    adding_next _ _ l.loop-row.invariant c.loop-row-test.true step.adds step.tells c.greater-last.ensures
+    let step = c.add_step.ensures in
+    adding_next _ _ c.loop-row.invariant (omega arith) step.adds step.tells
+    (ap rule_or_zero c.max-last.ensures ∙ greater_or_zero c.loop-row.last c.add_step.result)
 
-pub returns : goal.returns
-returns c = let it = adding_end _ _ c.loop-row.invariant c.loop-row-test.false in record { adds = it.0; tells = it.1 }
+pub returns-clause-adds : goal.returns-clause-adds
+returns-clause-adds c = (adding_end _ _ c.loop-row.invariant (omega arith)).0
+
+pub returns-clause-tells : goal.returns-clause-tells
+returns-clause-tells c = (adding_end _ _ c.loop-row.invariant (omega arith)).1

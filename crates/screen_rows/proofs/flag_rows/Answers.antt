@@ -6,7 +6,7 @@ pub loop-row-init : goal.loop-row-init
 loop-row-init c = flagging_start _ _ _
 
 pub loop-row-preserved : goal.loop-row-preserved
-loop-row-preserved c = flagging_next _ _ c.loop-row.invariant c.loop-row-test.true c.flags_in-flags.ensures
+loop-row-preserved c = flagging_next _ _ c.loop-row.invariant c.loop-row-test.true c.flags_in.ensures
 
 pub returns : goal.returns
 returns c = flagging_end _ _ c.loop-row.invariant c.loop-row-test.false

@@ -1,8 +1,8 @@
--- `print::statements::put_closing` meets its contract.
+-- `statements::put_closing` meets its contract.
 -- Assumes nothing.
 use Rattle.statements.specs.Statements.{closing}
-use Rattle.spellings.proofs.Outputs.{as_words, prints_none}
-use Rattle.statements.proofs.StatementLaws.{form_set_close_words, form_close_words, one_of_close_words, condition_close_words, no_closing}
+use Rattle.spellings.proofs.Printing.{as_words, printed_none}
+use Rattle.statements.proofs.StatementLaws.{form_set_close_words, form_close_words, one_of_close_words, no_closing, condition_closes}
 use Rattle.statements.proofs.put_closing.Goals as goal
 
 pub returns-in-14 : goal.returns-in-14
@@ -18,16 +18,7 @@ unfolding closing
 returns-in-5 c = rw c.in-5.is (as_words (one_of_close_words _) c.put_plain-in-5.ensures)
 
 pub returns-in-10 : goal.returns-in-10
-unfolding closing
-returns-in-10 c = rw c.in-10.is (as_words (condition_close_words _) c.put_plain-in-10.ensures)
-
-pub returns-in-25 : goal.returns-in-25
-unfolding closing
-returns-in-25 c = rw c.in-25.is (as_words (condition_close_words _) c.put_plain-in-25.ensures)
-
-pub returns-in-30 : goal.returns-in-30
-unfolding closing
-returns-in-30 c = rw c.in-30.is (as_words (condition_close_words _) c.put_plain-in-30.ensures)
+returns-in-10 c = as_words (condition_closes _ c.in-10.is) c.put_plain-in-10.ensures
 
 pub returns-in_default : goal.returns-in_default
-returns-in_default c = as_words (no_closing _ c.in_default.in_default-own.rest) (prints_none _ _)
+returns-in_default c = as_words (no_closing _ c.in_default.in_default-own.rest.0 c.in_default.in_default-own.rest.1) printed_none

@@ -1,8 +1,8 @@
--- `print::statements::put_expression_end` meets its contract.
+-- `statements::put_expression_end` meets its contract.
 -- Assumes nothing.
 use borrow.Author.Tests.{eq-eqb, ne_eqb}
 use Rattle.statements.specs.Statements.{expression_end}
-use Rattle.spellings.proofs.Outputs.{as_words}
+use Rattle.spellings.proofs.Printing.{as_words}
 use Rattle.statements.proofs.StatementLaws.{rule_close_words, expression_close_words}
 use Rattle.statements.proofs.put_expression_end.Goals as goal
 

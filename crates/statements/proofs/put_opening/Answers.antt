@@ -1,8 +1,8 @@
--- `print::statements::put_opening` meets its contract.
+-- `statements::put_opening` meets its contract.
 -- Assumes nothing.
 use mathlib.Core.Path.{sym, ◌∙◌}
 use Rattle.rows.specs.Table.{row_at}
-use Rattle.spellings.proofs.Outputs.{as_words}
+use Rattle.spellings.proofs.Printing.{as_words}
 use Rattle.statements.proofs.StatementLaws.{form_words, rule_words, subtitle_words, text_words, label_words, option_words, opens, opens_condition}
 use Rattle.statements.proofs.put_opening.Goals as goal
 

@@ -1,8 +1,8 @@
--- `print::statements::put_question` meets its contract.
+-- `statements::put_question` meets its contract.
 -- Assumes nothing.
 use mathlib.Core.Path.{sym, ◌∙◌}
 use Rattle.rows.specs.Table.{row_at}
-use Rattle.spellings.proofs.Outputs.{as_words}
+use Rattle.spellings.proofs.Printing.{as_words}
 use Rattle.statements.proofs.StatementLaws.{goto_opens, checkbox_opens, numeric_opens, one_of_opens, question_rest}
 use Rattle.statements.proofs.put_question.Goals as goal
 

@@ -1,4 +1,4 @@
--- `stages::choices::bad_option` meets its contract: up to the row of the outer loop no option is at fault, and up to that of the
+-- `choices::bad_option` meets its contract: up to the row of the outer loop no option is at fault, and up to that of the
 -- inner one none has the row's value.
 use mathlib.Core.Path.{refl, ◌∙◌}
 use Rattle.rows.specs.Columns as column
@@ -29,7 +29,7 @@ search-preserved c =
     (choosing_next c.search.invariant.0 c.search-test.true none c.repeats_default.ensures c.if-repeats_default.false, c.loop-earlier.invariant.1 ∙ c.search.invariant.1)
 
 pub returns-after-search : goal.returns-after-search
-returns-after-search c = c.search.invariant.1 ∙ choosing_end c.search.invariant.0 c.search-test.false
+returns-after-search c = rw c.search.invariant.1 (choosing_end c.search.invariant.0 c.search-test.false)
 
 pub returns-then-cell-value : goal.returns-then-cell-value
 returns-then-cell-value c =

@@ -1,7 +1,7 @@
--- `stages::choices::bad_option` meets its contract: up to the row of the outer loop no option is at fault, and up to that of the
+-- `choices::bad_option` meets its contract: up to the row of the outer loop no option is at fault, and up to that of the
 -- inner one none has the row's value.
-use Prim.Native.Nat.{◌-◌}
 use mathlib.Core.Path.{◌≡◌}
+use Rattle.std.specs.Prelude.{None}
 use Rattle.drafts.specs.Faults.{draft_at}
 use Rattle.drafts.proofs.FaultLaws.{Looking}
 use Rattle.stages.proofs.ChoiceLaws.{same_value, Choosing}
@@ -10,11 +10,5 @@ use Rattle.stages.proofs.choices.bad_option.Given as goal
 abbrev pub invariant-loop-earlier : goal.invariant-loop-earlier
 invariant-loop-earlier l = Looking (same_value (draft_at l.table l.row)) l.table l.first l.row l.earlier × (l.fault ≡ l.initial.fault)
 
-abbrev pub decreases-loop-earlier : goal.decreases-loop-earlier
-decreases-loop-earlier l = l.row - l.earlier
-
 abbrev pub invariant-search : goal.invariant-search
-invariant-search l = Choosing l.table l.first l.end l.row × (l.fault ≡ 0)
-
-abbrev pub decreases-search : goal.decreases-search
-decreases-search l = l.end - l.row
+invariant-search l = Choosing l.table l.first l.end l.row × (l.fault ≡ None)

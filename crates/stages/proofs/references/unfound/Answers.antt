@@ -1,15 +1,12 @@
--- `stages::references::unfound` meets its contract: no row before the loop's names anything in vain.
-use Rattle.drafts.proofs.FaultLaws.{searching_start, searching_found, searching_next, searching_end}
+-- `references::unfound` meets its contract: the first row that answers a place is the first fault.
+use Rattle.std.proofs.Common.{rules}
+use Rattle.answers.specs.Drafts.{drafts_from}
+use Rattle.drafts.specs.Faults.{alone}
+use Rattle.drafts.proofs.FaultLaws.{first_answer, first_found}
+use Rattle.stages.specs.References.{reference_fault}
 use Rattle.stages.proofs.references.unfound.Goals as goal
 
-pub loop-row-init : goal.loop-row-init
-loop-row-init c = searching_start _ _ _
-
-pub returns-then-fault-ne0 : goal.returns-then-fault-ne0
-returns-then-fault-ne0 c = searching_found c.loop-row.invariant c.loop-row-test.true c.unfound_in-fault.ensures c.if-fault-ne0.true
-
-pub loop-row-preserved : goal.loop-row-preserved
-loop-row-preserved c = searching_next c.loop-row.invariant c.loop-row-test.true c.unfound_in-fault.ensures c.if-fault-ne0.false
-
 pub returns : goal.returns
-returns c = searching_end c.loop-row.invariant c.loop-row-test.false
+returns c =
+    let fault = reference_fault c.args.src.now c.args.index.now c.args.forms.now c.args.used.now (drafts_from c.args.table.now 0 c.args.count) in
+    first_found (alone fault) _ _ (λ row m l e. search rules) _ (first_answer (λ a r f e. search rules) _ _ c.find_map.ensures.runs)

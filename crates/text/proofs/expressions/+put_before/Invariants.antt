@@ -6,10 +6,10 @@ use Rattle.text.proofs.ExpressionLaws.{Spine}
 use Rattle.text.proofs.expressions.+put_before.Given as goal
 
 abbrev pub decreases-put_before : goal.decreases-put_before
-decreases-put_before l = l.a.row * 10 + l.least
+decreases-put_before l = l.end * 10 + l.least
 
-abbrev pub invariant-loop-a : goal.invariant-loop-a
-invariant-loop-a l = Spine l.table l.initial.least l.initial.out l.initial.a l.least l.out l.a
+abbrev pub invariant-loop-end : goal.invariant-loop-end
+invariant-loop-end l = Spine l.table l.initial.end l.initial.least l.initial.out l.end l.least l.out
 
-abbrev pub decreases-loop-a : goal.decreases-loop-a
-decreases-loop-a l = l.a.row * 10 + l.least
+abbrev pub decreases-loop-end : goal.decreases-loop-end
+decreases-loop-end l = l.end * 10 + l.least

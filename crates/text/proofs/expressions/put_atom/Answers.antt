@@ -7,16 +7,8 @@ use Rattle.text.proofs.expressions.put_atom.Goals as goal
 
 pub returns-then-class-lt-NAME : goal.returns-then-class-lt-NAME
 unfolding atom_words
-returns-then-class-lt-NAME c =
-    let pre = c.requires in
-    let if1 = c.if-class-lt-NAME in
-    let put_word = c.put_word in
-    rw (← pre, lt-ltb _ NAME if1.true) put_word.ensures
+returns-then-class-lt-NAME c = rw (← c.requires, lt-ltb _ NAME c.if-class-lt-NAME.true) c.word.ensures
 
 pub returns : goal.returns
 unfolding atom_words
-returns c =
-    let pre = c.requires in
-    let if1 = c.if-class-lt-NAME in
-    let put-operand = c.put_operand in
-    rw (← pre, le-ltb _ NAME if1.false) put-operand.ensures
+returns c = rw (← c.requires, le-ltb _ NAME c.if-class-lt-NAME.false) c.put_operand.ensures

@@ -3,45 +3,19 @@
 -- Assumes nothing.
 use native.Mathlib.Omega.{arith}
 use Rattle.text.proofs.ItemLaws.{loop_none, loop_more, items_end, items_apart, items_next}
-use borrow.Author.Rules.{rules}
 use Rattle.text.proofs.items.+put_within.Goals as goal
 
-pub loop-p-init : goal.loop-p-init
-loop-p-init t c = loop_none
-
-pub returns-then-count-row : goal.returns-then-count-row
-returns-then-count-row t c = c.loop-p.invariant.rest (items_end c.if-count-row.true)
+pub loop-row-init : goal.loop-row-init
+loop-row-init t c = loop_none
 
 pub returns-then-cell-parent : goal.returns-then-cell-parent
-returns-then-cell-parent t c = c.loop-p.invariant.rest (items_apart c.cell.ensures c.if-cell-parent.true)
+returns-then-cell-parent t c = c.loop-row.invariant.rest (items_apart c.cell.ensures c.if-cell-parent.true)
 
-pub put_statement-opened-requires : goal.put_statement-opened-requires
-put_statement-opened-requires t c = omega (arith, c.if-count-row.false)
+pub returns : goal.returns
+returns t c = c.loop-row.invariant.rest (items_end c.loop-row-test.false)
 
-pub put_within-within-requires : goal.put_within-within-requires
-put_within-within-requires t c =
-    let pre = c.requires in
-    let loop = c.loop-p in
-    let if1 = c.if-count-row in
-    let put-statement = c.put_statement-opened in
-    omega (arith, loop.invariant.more, pre, if1.false, put-statement.ensures.more)
-
-pub loop-p-smaller : goal.loop-p-smaller
-loop-p-smaller t c =
-    let if1 = c.if-count-row in
-    let put-statement = c.put_statement-opened in
-    let put-within = c.put_within-within in
-    omega (arith, if1.false, put-statement.ensures.more, put-within.ensures.more)
-
-pub loop-p-preserved : goal.loop-p-preserved
-loop-p-preserved t c =
-    let loop = c.loop-p in
-    let if1 = c.if-count-row in
-    let cell = c.cell in
-    let if2 = c.if-cell-parent in
-    let put-statement = c.put_statement-opened in
-    let put-within = c.put_within-within in
-    let cell2 = c.cell-in-loop-p in
-    let put-closing = c.put_closing-at in
-    loop_more loop.invariant (search rules) (omega (arith, put-statement.ensures.more, put-within.ensures.more))
-    (λ o r. items_next (omega (arith, if1.false)) cell.ensures if2.false put-statement.ensures put-within.ensures cell2.ensures put-closing.ensures)
+pub loop-row-preserved : goal.loop-row-preserved
+loop-row-preserved t c =
+    loop_more c.loop-row.invariant (omega (arith, c.put_statement-within.ensures.more, c.put_within-next.ensures.more))
+    (λ o r. items_next c.loop-row-test.true c.cell.ensures c.if-cell-parent.false c.put_statement-within.ensures c.put_within-next.ensures
+    c.cell-in-loop-row.ensures c.put_closing.ensures)

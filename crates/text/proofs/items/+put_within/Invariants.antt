@@ -6,10 +6,10 @@ use Rattle.text.proofs.ItemLaws.{ItemLoop}
 use Rattle.text.proofs.items.+put_within.Given as goal
 
 abbrev pub decreases-put_within : goal.decreases-put_within
-decreases-put_within l = l.count - l.p.row
+decreases-put_within l = l.count - l.first
 
-abbrev pub invariant-loop-p : goal.invariant-loop-p
-invariant-loop-p l = ItemLoop l.table l.count l.parent l.initial.out l.initial.p l.out l.p
+abbrev pub invariant-loop-row : goal.invariant-loop-row
+invariant-loop-row l = ItemLoop l.table l.count l.parent l.first l.initial.out l.row l.out
 
-abbrev pub decreases-loop-p : goal.decreases-loop-p
-decreases-loop-p l = l.count - l.p.row
+abbrev pub decreases-loop-row : goal.decreases-loop-row
+decreases-loop-row l = l.count - l.row

@@ -15,11 +15,10 @@ use lex::Token;
 use lexemes::classes::BAD;
 
 // The refusal of a token that does not fit (document 01, No. 3).
-// Stays: a number, since `read` hands on whatever refusal it is given.
+// Stays: a number, as the refusals that `read` takes and `Cursor` holds: `read` hands on whatever number it is given.
 pub const SYNTAX: u64 = 3;
 
 // Where the reader of a phrase stands: the refusal or 0, the token, the faults that are noted, how many entries are kept.
-// Stays: the refusal is a number, since `read` hands on whatever refusal it is given.
 #[derive(Clone, Copy)]
 pub struct Cursor {
     pub no: u64,

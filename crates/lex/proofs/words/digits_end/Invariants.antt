@@ -1,0 +1,10 @@
+-- `lex::words::digits_end` meets its contract. The loop's invariant: the end is the same from here as from the start.
+use mathlib.Core.Path.{◌≡◌}
+use Prim.Native.Nat.{◌+◌, ◌-◌}
+use lib.ListN.{length, drop}
+use Rattle.lexemes.specs.Bytes.{is_digit}
+use Rattle.lexemes.specs.Words.{run}
+use Rattle.lex.proofs.words.digits_end.Given as goal
+
+abbrev pub invariant-loop-i : goal.invariant-loop-i
+invariant-loop-i l = l.at + run is_digit (drop l.at l.src) ≡ l.i + run is_digit (drop l.i l.src)

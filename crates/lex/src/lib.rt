@@ -79,14 +79,23 @@ fn number_token(src: &[u8], at: usize) -> Token
     requires { (at < length src.now) × (is_digit (get_or src.now at 0) ≡ true) }
     ensures { result ≡ word_token (word (drop at src.now)) at }
 {
-    let end = words::digits_end(src, at + 1);
-    if is_word_byte(byte_at(src, end)) {
-        return any_number(src, at);
+    for i in at + 1..src.len() {
+        let b = src[i];
+        if !is_digit(b) {
+            if is_word_byte(b) {
+                return any_number(src, at);
+            }
+            return Token {
+                class: DECIMAL,
+                start: at,
+                end: i,
+            };
+        }
     }
     Token {
         class: DECIMAL,
         start: at,
-        end,
+        end: src.len(),
     }
 }
 

@@ -1,11 +1,10 @@
 // Words and numbers: a guess where a word ends, and the class of a number.
-ghost use Rattle.std.specs.Prelude.{◌≡◌, true, ◌+◌, ◌≤◌, ◌<◌, length, get_or, drop, IfSome};
+ghost use Rattle.std.specs.Prelude.{◌≡◌, true, ◌≤◌, ◌<◌, length, get_or, IfSome};
 ghost use Rattle.lexemes.specs.Bytes.{is_digit};
-ghost use Rattle.lexemes.specs.Words.{run};
 ghost use Rattle.lex.specs.Likely.{LikelyEnd};
 ghost use Rattle.lex.specs.Tokens.{word_class};
 
-use lexemes::bytes::{is_digit, is_word_byte};
+use lexemes::bytes::is_word_byte;
 use lexemes::classes::{BAD, DECIMAL, HEX};
 use values::numerals::{all_digits, is_hex};
 
@@ -48,24 +47,11 @@ pub fn likely_end(src: &[u8], at: usize) -> Option<usize>
     requires { at < length src.now }
     ensures { IfSome result (LikelyEnd src.now at) }
 {
-    let size = likely_length(src[at]);
-    if size < src.len() - at && !is_word_byte(src[at + size]) {
-        Some(at + size)
-    } else {
-        None
+    let end = at + likely_length(src[at]);
+    match src.get(end) {
+        Some(b) if !is_word_byte(*b) => Some(end),
+        _ => None,
     }
-}
-
-// Past the digits from `at` on.
-pub fn digits_end(src: &[u8], at: usize) -> usize
-    ensures { result ≡ at + run is_digit (drop at src.now) }
-{
-    for i in at..src.len() {
-        if !is_digit(src[i]) {
-            return i;
-        }
-    }
-    src.len().max(at)
 }
 
 // The class of a run of letters, digits and `_` that starts with a digit.

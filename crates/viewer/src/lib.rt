@@ -117,7 +117,7 @@ pub fn nth_token(src: &[u8], n: usize) -> Positioned
     let mut at = 0;
     let mut line = 1;
     let mut column = 1;
-    for _ in 0..n {
+    for _i in 0..n {
         let s = view(src, at, line, column);
         at = s.at;
         line = s.line;

@@ -22,8 +22,8 @@ loop-i-preserved c =
     let src = c.args.src.now in
     let short : length src < 2 ^ 63 = omega (arith, c.well_formed.0.1) in
     let l = c.loop-i in
-    let is = nth_seen src short l.i l.at l.line l.column l.invariant.0 l.invariant.1 l.invariant.2 c.view-s.result c.view-s.ensures in
-    let goes = sym (next_place src l.i) in (
+    let is = nth_seen src short l._i l.at l.line l.column l.invariant.0 l.invariant.1 l.invariant.2 c.view-s.result c.view-s.ensures in
+    let goes = sym (next_place src l._i) in (
       ap (λ (v : Seen). v.at) is ∙ goes,
       ap (λ (v : Seen). v.line) is ∙ ap (line_at src) goes,
       ap (λ (v : Seen). v.column) is ∙ ap (column_at src) goes,
@@ -37,6 +37,6 @@ returns c =
     let short : length src < 2 ^ 63 = omega (arith, c.well_formed.0.1) in
     let l = c.loop-i in
     let v = c.view in
-    let all : l.i ≡ args.n = omega arith in
-    ap (λ (w : Seen). w.token) (nth_seen src short l.i l.at l.line l.column l.invariant.0 l.invariant.1 l.invariant.2 v.result v.ensures)
+    let all : l._i ≡ args.n = omega arith in
+    ap (λ (w : Seen). w.token) (nth_seen src short l._i l.at l.line l.column l.invariant.0 l.invariant.1 l.invariant.2 v.result v.ensures)
     ∙ ap (λ k. positioned src (nth_token src k)) all

@@ -8,4 +8,4 @@ use Rattle.viewer.proofs.nth_token.Given as goal
 
 abbrev pub invariant-loop-i : goal.invariant-loop-i
 invariant-loop-i l =
-    (l.at ≡ place_of_nth l.src l.i) × (l.line ≡ line_at l.src (place_of_nth l.src l.i)) × (l.column ≡ column_at l.src (place_of_nth l.src l.i))
+    (l.at ≡ place_of_nth l.src l._i) × (l.line ≡ line_at l.src (place_of_nth l.src l._i)) × (l.column ≡ column_at l.src (place_of_nth l.src l._i))

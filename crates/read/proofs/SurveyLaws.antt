@@ -7,6 +7,7 @@ use mathlib.Core.Logic.{◌≢◌}
 use mathlib.Core.List.{List, [], ◌∷◌}
 use mathlib.Core.Option.{Option}
 use lib.ListN.{length}
+use Rattle.std.specs.Prelude as Std
 use Rattle.std.specs.Prelude.{Ok, Err, Some, None}
 use Rattle.refusals.specs.declared.Reason.{Reason}
 use Rattle.refusals.specs.declared.Reason.TheVariants.{SourceTooLong, OutOfRange, SecondWord}
@@ -68,7 +69,7 @@ module _ {s t t' : List ℕ} {w : Outcome} (short : length s ≤ LONGEST) (v : W
       number : refusal_number tokens_verdict ≢ 0
       number z = h (v.number ∙ z)
 
-      by : (b : Option ℕ) → first_bad s ≡ b → Surveyed s (Err (unless_bad b w.no w.place)) t t'
+      by : (b : Std.Option ℕ) → first_bad s ≡ b → Surveyed s (Err (unless_bad b w.no w.place)) t t'
       by (Some p) e = (checked_2 s p short e, v.zeros h)
       by None e = (
         checked_parsed s tokens_verdict short e (verdict_right (source_tokens s))

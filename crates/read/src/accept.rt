@@ -33,12 +33,14 @@ fn accept(
     ensures table_after { table.new ≡ table_past12 src.now table.old count }
 {
     settle(src, table, count, index, used);
-    if let Some(place) = circular_reference(table, count) {
-        return refuse(table, Reason::RuleInCircle, place);
+    match circular_reference(table, count) {
+        Some(place) => refuse(table, Reason::RuleInCircle, place),
+        None => {
+            strip(table, count);
+            let free = numbers::LIMIT - 1 - numbers::used_count(used);
+            Ok(Accepted { rows: count, free })
+        }
     }
-    strip(table, count);
-    let free = numbers::LIMIT - 1 - numbers::used_count(used);
-    Ok(Accepted { rows: count, free })
 }
 
 // Stages 7 to 12, and 14, and the finished rows, by an index of the declared names.

@@ -14,7 +14,7 @@ loop-i-preserved c =
     let loop = c.loop-i in
     let end = c.min-end.result in
     elim c.if-src-i-eq10.branch [
-      then-src-i-eq10 w ↦ (
+      | then-src-i-eq10 w ↦ (
         ap (λ (n : ℕ). line_from n s (loop.i + 1) end % 2 ^ 64) w.line-is
             ∙ line_wraps s (loop.i + 1) end (loop.line + 1)
             ∙ ap (λ (n : ℕ). n % 2 ^ 64) (sym (line_feed s loop.i end loop.line (omega arith) (omega arith) w.if-src-i-eq10.true))

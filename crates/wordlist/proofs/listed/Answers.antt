@@ -1,5 +1,5 @@
 -- `wordlist::listed` meets its contract: a word that is filled up is filled up already.
-use Rattle.std.proofs.Common.{◌≡◌, ◌∙◌, ap, [], get_or, le_refl, option_map, unwrap_or}
+use Rattle.std.proofs.Common.{◌≡◌, ◌∙◌, ap, [], get_or, le_refl}
 use lib.ListN.{get_or-map}
 use Rattle.wordlist.specs.Filled.{fill_to, filled, pack_of}
 use Rattle.wordlist.specs.Words.{reserved}

@@ -17,7 +17,7 @@ pub returns-then-n-lt2 : goal.returns-then-n-lt2
 returns-then-n-lt2 c =
     let w = c.args.w.now in
     elim c.then-n-lt2.branch [
-      then-n-lt2-via-then-n-lt2 b ↦ sym (unlisted (λ v. leb 2 (length v)) at_least_two w (lt-leb _ _ b.if-n-lt2.true))
+      | then-n-lt2-via-then-n-lt2 b ↦ sym (unlisted (λ v. leb 2 (length v)) at_least_two w (lt-leb _ _ b.if-n-lt2.true))
       | then-n-lt2-via-else-n-lt2+then-n-gt16 b ↦ sym (unlisted (λ v. leb (length v) 16) at_most_sixteen w (lt-leb _ _ b.if-n-gt16.true))
     ]
 

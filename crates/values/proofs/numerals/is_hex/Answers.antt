@@ -14,10 +14,10 @@ unfolding is_hex
 returns-then-w-le2 c =
     let w = c.args.w.now in
     elim c.then-w-le2.branch [
-      then-w-le2-via-then-w-le2 b ↦ rw (le-ltb 2 (length w) b.if-w-le2.true)
+      | then-w-le2-via-then-w-le2 b ↦ rw (le-ltb 2 (length w) b.if-w-le2.true)
       | then-w-le2-via-else-w-le2+then-w-ne48 b ↦ rw (lt-ltb 2 (length w) (omega arith), ne_eqb _ 48 b.if-w-ne48.true)
       | then-w-le2-via-else-w-le2+else-w-ne48+then-w-ne120 b ↦
-        rw (lt-ltb 2 (length w) (omega arith), eq-eqb _ 48 b.if-w-ne48.false, ne_eqb _ 120 b.if-w-ne120.true)
+          rw (lt-ltb 2 (length w) (omega arith), eq-eqb _ 48 b.if-w-ne48.false, ne_eqb _ 120 b.if-w-ne120.true)
     ]
 
 pub returns : goal.returns

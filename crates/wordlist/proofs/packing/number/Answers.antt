@@ -1,7 +1,6 @@
 -- `wordlist::packing::number` meets its contract.
-use Rattle.std.proofs.Common.{◌≡◌, ◌∙◌, ap, sym, rules, ℕ, ◌<◌, get_or, arith}
-use Rattle.std.proofs.lemmas.Grind.{common_steps}
-use Rattle.wordlist.specs.Filled.{fill_to, packed}
+use Rattle.std.proofs.Common.{◌≡◌, ◌∙◌, ap, rules, ℕ, ◌<◌, get_or}
+use Rattle.wordlist.specs.Filled.{packed}
 use Rattle.wordlist.proofs.PackedBytes.{packed_eight}
 use Rattle.wordlist.proofs.Filling.{filled_by}
 use Rattle.wordlist.proofs.packing.number.Goals as goal

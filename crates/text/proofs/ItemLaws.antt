@@ -29,16 +29,6 @@ use Rattle.text.proofs.ExpressionLaws.{counts, counted_then}
 
 -- ---- the end of an expression's rows
 
--- what `find` finds of the rows from `from` on
-pub stretch_found : (t : List ℕ) (count from : ℕ) (r : Option ℕ)
-    → MatchOption r ((k : ℕ) → from ≤ k → k < count → is_expression (cell_at t k column.CODE) ≡ true)
-    (λ i. (from ≤ i) × (i < count) × (is_expression (cell_at t i column.CODE) ≡ false)
-    × ((k : ℕ) → from ≤ k → k < i → is_expression (cell_at t k column.CODE) ≡ true))
-    → Stretch t count from (unwrap_or r (max from count))
-stretch_found t count from (Some i) (up, inside, ends, parts) = record { up = up; within = parts; ends = λ h. ends; below = λ h. omega arith }
-stretch_found t count from None parts =
-    record { up = omega arith; within = λ k a b. parts k a (omega arith); ends = λ h. absurd (omega arith); below = λ h. omega arith }
-
 -- there is one end
 stretch_one : {t : List ℕ} {count i j k : ℕ} → i ≤ count → Stretch t count i j → Stretch t count i k → j ≡ k
 stretch_one {t} {count} {i} {j} {k} h a b =

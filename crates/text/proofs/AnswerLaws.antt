@@ -16,7 +16,8 @@ use Rattle.replies.specs.Replies.{position_of, resolve_replied}
 use Rattle.spellings.specs.declared.output.Output.{Output}
 use Rattle.spellings.specs.Output.{MOST}
 use Rattle.spellings.proofs.Outputs.{few_bytes}
-use Rattle.text.specs.declared.Answer.TheVariants.{Resolved, Long}
+use Rattle.std.specs.Prelude.{Ok, Err}
+use Rattle.text.specs.declared.Refusal.TheVariants.{TooLong}
 use Rattle.text.specs.Printing.{TextPrinted}
 use Rattle.text.specs.Answers.{told, HasText, RowsPrinted}
 
@@ -27,11 +28,11 @@ fits_cleared o text h =
     rw (length-sets o 0 text, sets-eq text o 0 (omega arith)) (ap (λ (l : List ℕ). l ++ replicate (length o - length text) 0) (take-append_seam text (drop (0 + length text) o)))
 
 module _ (s : List ℕ) (m need : ℕ) where
-  into_long : (a : answers.Answer) → room m < need → resolve_replied s (resolved_into m need a) ≡ told (Long need)
+  into_long : (a : answers.Answer) → room m < need → resolve_replied s (resolved_into m need a) ≡ told (Err (TooLong need))
   unfolding position_of
   into_long a h = rw (lt-ltb (room m) need h, resolved_into)
 
-  into_room : (rows free : ℕ) → need ≤ room m → resolve_replied s (resolved_into m need (accepts rows free)) ≡ told (Resolved rows free need)
+  into_room : (rows free : ℕ) → need ≤ room m → resolve_replied s (resolved_into m need (accepts rows free)) ≡ told (Ok (record { rows = rows; free = free; bytes = need }))
   unfolding position_of
   into_room rows free h = rw (le-ltb (room m) need h, resolved_into)
 
@@ -45,7 +46,7 @@ module _ {t : List ℕ} {count : ℕ} {o o₁ : Output} (none : o.at ≡ 0) (p :
 
   -- `out` is then lent back
   module _ (out : List ℕ) (n : length out ≡ length o.bytes.now) where
-    pub too_long : {free : ℕ} {t₂ o₂ : List ℕ} → room (length out) < o₁.at → t₂ ≡ cleared t 0 → o₂ ≡ cleared out 0 → RowsPrinted t count free o.bytes.now (Long o₁.at) t₂ o₂
+    pub too_long : {free : ℕ} {t₂ o₂ : List ℕ} → room (length out) < o₁.at → t₂ ≡ cleared t 0 → o₂ ≡ cleared out 0 → RowsPrinted t count free o.bytes.now (Err (TooLong o₁.at)) t₂ o₂
     too_long {free = free} h a b =
         record {
           answer = λ text x l s.
@@ -56,7 +57,7 @@ module _ {t : List ℕ} {count : ℕ} {o o₁ : Output} (none : o.at ≡ 0) (p :
         }
 
     pub long_enough : {free : ℕ} {t₂ o₂ : List ℕ} → o₁.at ≤ room (length out) → t₂ ≡ t → o₂ ≡ cleared out o₁.at → out ≡ o₁.bytes.now
-        → RowsPrinted t count free o.bytes.now (Resolved count free o₁.at) t₂ o₂
+        → RowsPrinted t count free o.bytes.now (Ok (record { rows = count; free = free; bytes = o₁.at })) t₂ o₂
     long_enough {free = free} h a b e =
         record {
           answer = λ text x l s.

@@ -26,30 +26,33 @@ use Rattle.answers.proofs.MissingStep as MissingStep
 use Rattle.replies.specs.Replies.{Reply, position_of, accepting, read_replied, resolve_replied, resolve_reply}
 use Rattle.replies.specs.Lines.{GivesLine}
 use Rattle.replies.proofs.Laws.{gives_line}
-use Rattle.read.specs.declared.Answer as answer_of_read
+use Rattle.read.specs.declared.Accepted.{Accepted}
+use Rattle.read.specs.declared.Refusal as refusal_of_read
 use Rattle.read.specs.Answers as read_answers
 use Rattle.read.proofs.Demands as read
 use Rattle.roundtrip.specs.Demand2.{ReadsAgain, SameTables}
 use Rattle.roundtrip.proofs.Demand2 as Demand2
-use Rattle.text.specs.declared.Answer.{Answer}
+use Rattle.std.specs.Prelude.{Result}
+use Rattle.text.specs.declared.Resolved.{Resolved}
+use Rattle.text.specs.declared.Refusal.{Refusal}
 use Rattle.text.specs.Answers.{told, resolved_counts}
 use Rattle.text.proofs.resolve.Kinds as kinds
 use Rattle.text.proofs.resolve.Reads as promise
 
 -- what a call of `resolve` does: the source s is resolved through a table of n numbers into m bytes; r is the answer, t' the table and o' the output
 -- afterwards
-pub record Resolving (s : List ℕ) (n m : ℕ) (r : Answer) (t' o' : List ℕ) : Type 0 where
+pub record Resolving (s : List ℕ) (n m : ℕ) (r : Result Resolved Refusal) (t' o' : List ℕ) : Type 0 where
   pub answer : told r ≡ resolve_reply s n m
   pub table : t' ≡ resolved_table s n m
   pub output : o' ≡ resolved_output s n m
 
 -- every call does so: what the contract of `resolve` promises a caller who lends a and finds e lent back
 pub resolving :
-    (κs : Lfts 3) (a : Dens κs kinds.ps) (r : Answer) (e : AtExit (ended_of 3 kinds.ps kinds.r) κs)
+    (κs : Lfts 3) (a : Dens κs kinds.ps) (r : Result Resolved Refusal) (e : AtExit (ended_of 3 kinds.ps kinds.r) κs)
     → promise.Learnt κs a r e → Resolving a.0.now (length a.1.0.now) (length a.1.1.0.now) r e.1.0.now e.1.1.0.now
 resolving κs a r e p = record { answer = p.0; table = p.1.0; output = p.1.1 }
 
-module _ {s : List ℕ} {n m : ℕ} {r : Answer} {t' o' : List ℕ} (v : Resolving s n m r t' o') where
+module _ {s : List ℕ} {n m : ℕ} {r : Result Resolved Refusal} {t' o' : List ℕ} (v : Resolving s n m r t' o') where
   number : (told r).number ≡ (resolution s n m).number
   number = ap (λ a. a.number) v.answer
 
@@ -134,7 +137,7 @@ module _ {s : List ℕ} {n m : ℕ} {r : Answer} {t' o' : List ℕ} (v : Resolvi
 
     -- so a second `read`, of the text, ends with the same counts and leaves the same rows in its table, but the places
     pub read_again :
-        (r₂ : answer_of_read.Answer) (t₂ : List ℕ) → read.Reading (text_of_source s) n r₂ t₂
+        (r₂ : Result Accepted refusal_of_read.Refusal) (t₂ : List ℕ) → read.Reading (text_of_source s) n r₂ t₂
         → (read_answers.told r₂ ≡ accepting (told r).rows (told r).free 0) × SameTables n (told r).rows t₂ t'
     unfolding position_of
     read_again r₂ t₂ w = (w.answer ∙ ap (read_replied (text_of_source s)) (reads_again.same_answer ∙ read_counts), same_tables w.table)
@@ -146,7 +149,7 @@ module _ {s : List ℕ} {n m : ℕ} {r : Answer} {t' o' : List ℕ} (v : Resolvi
 
     -- and a second `resolve`, of the text, ends with the same answer, the same output and the same rows, but the places
     pub resolve_again :
-        (r₂ : Answer) (t₂ o₂ : List ℕ) → Resolving (text_of_source s) n m r₂ t₂ o₂
+        (r₂ : Result Resolved Refusal) (t₂ o₂ : List ℕ) → Resolving (text_of_source s) n m r₂ t₂ o₂
         → (told r₂ ≡ told r) × (o₂ ≡ o') × SameTables n (told r).rows t₂ t'
     resolve_again r₂ t₂ o₂ w =
         let same = Demand2.resolves_again s n m resolved in

@@ -16,8 +16,13 @@ use Rattle.answers.specs.WholeAnswer.{read_answer, read_table, rows_of}
 use Rattle.answers.specs.Resolution.{Resolution, text_of_source, resolved_into, resolution, resolved_table, resolved_output}
 use Rattle.replies.specs.Replies.{Reply, accepting, read_reply, resolve_replied, resolve_reply}
 use Rattle.replies.proofs.Laws.{accepting_only}
-use Rattle.read.proofs.AcceptedRows.{no_rows_refused, short_refused}
-use Rattle.text.specs.declared.Answer as text
+use Rattle.read.specs.declared.Refusal as read
+use Rattle.read.specs.Answers as read_answers
+use Rattle.read.proofs.AcceptedRows.{refusal_refused}
+use Rattle.std.specs.Prelude.{Result, Err}
+use Rattle.text.specs.declared.Resolved.{Resolved}
+use Rattle.text.specs.declared.Refusal.{Refusal}
+use Rattle.text.specs.declared.Refusal.TheVariants.{Reading}
 use Rattle.text.specs.Answers.{told, RowsPrinted}
 use Rattle.text.proofs.AcceptedText.{accepted_text}
 
@@ -47,7 +52,7 @@ unfolding read_table
 accepted_table s n count free e = ap (λ (a : Answer). table_for s n a.number) (sym e)
 
 pub resolved :
-    (s : List ℕ) (n : ℕ) {count free : ℕ} {t o t' o' : List ℕ} {r : text.Answer}
+    (s : List ℕ) (n : ℕ) {count free : ℕ} {t o t' o' : List ℕ} {r : Result Resolved Refusal}
     → accepting count free 0 ≡ read_reply s n → t ≡ read_table s n → length t ≡ n → ((i : ℕ) → get_or t i 0 < 2 ^ 64)
     → RowsPrinted t count free o r t' o' → Resolves s n (length o) (told r) t' o'
 unfolding resolved_table resolved_output
@@ -82,14 +87,8 @@ unresolved s n o e h f g =
       (f ∙ ap (table_for s n) number, g ∙ cleared_whole o ∙ rw (answer, ne_eqb (read_answer s n).number 0 h)),
     )
 
--- a refusal has no rows, as no accepted source has
-pub unresolved_refused :
-    (s : List ℕ) (n : ℕ) (o : List ℕ) {t o' : List ℕ} {r : Reply}
-    → r ≡ read_reply s n → r.rows ≡ 0 → t ≡ read_table s n → o' ≡ cleared o 0 → Resolves s n (length o) r t o'
-unresolved_refused s n o e none f g = unresolved s n o e (no_rows_refused s n e none) f g
-
-pub unresolved_short :
-    (s : List ℕ) (n : ℕ) (o : List ℕ) {t o' : List ℕ} {r : Reply}
-    → r ≡ read_reply s n → r.number ≡ 6 → t ≡ read_table s n → o' ≡ cleared o 0 → Resolves s n (length o) r t o'
-unresolved_short s n o e six f g =
-    unresolved s n o e (short_refused s n e six) f g
+-- a refusal of reading
+pub unread :
+    (s : List ℕ) (n : ℕ) (o : List ℕ) (d : read.Refusal) {t o' : List ℕ}
+    → read_answers.told (Err d) ≡ read_reply s n → t ≡ read_table s n → o' ≡ cleared o 0 → Resolves s n (length o) (told (Err (Reading d))) t o'
+unread s n o d e f g = unresolved s n o e (refusal_refused s n d e) f g

@@ -5,75 +5,90 @@ mod expressions;
 mod items;
 
 ghost use Rattle.std.specs.Prelude.{◌≡◌, length};
-ghost use Rattle.answers.specs.Resolution.{room, resolved_table, resolved_output};
+ghost use Rattle.answers.specs.Resolution.{resolved_table, resolved_output};
 ghost use Rattle.replies.specs.Replies.{resolve_reply};
-ghost use Rattle.text.specs.Answers.{told, RowsPrinted};
+ghost use Rattle.text.specs.Answers.{resolved_told, refusal_told, told, RowsPrinted};
+ghost use Rattle.text.specs.declared.Refusal.TheVariants.{Reading};
 
 use crate::items::put_text;
+use lent::Numbers;
+use read::Accepted;
+use refusals::Reason;
 use spellings::output::Output;
 
 // The longest text.
 const LONGEST: usize = 65536;
 
-// The number of a table with fewer whole rows than are needed, and that of an output or a longest text that is shorter
-// than the text (document 01, Refusal numbers).
-pub const TOO_FEW_ROWS: u64 = read::TOO_FEW_ROWS;
-
-pub const TOO_LONG: u64 = 13;
-
-// What resolving answers: rows, free numbers and bytes; a refusal's number and place, and that place's line and column, as
-// reading tells them; the rows needed, where fewer whole ones are lent (No. 6); the bytes needed, where the output or the
-// longest text is shorter (No. 13).
-#[derive(Clone, Copy)]
-pub enum Answer {
-    Resolved(usize, u64, usize),
-    Refused(u64, usize, usize, usize),
-    Short(usize),
-    Long(usize),
+// What resolving answers: rows, free numbers, and the bytes of the text.
+#[derive(Clone, Copy, Debug, PartialEq, Eq)]
+pub struct Resolved {
+    pub rows: usize,
+    pub free: u64,
+    pub bytes: usize,
 }
 
-// The longest text for so many bytes lent.
-fn room(lent: usize) -> usize
-    ensures { result ≡ room lent }
-{
-    if lent < LONGEST {
-        return lent;
+// Why it refuses: reading does; or the bytes needed, where the output or the longest text is shorter (No. 13).
+#[derive(Clone, Copy, Debug, PartialEq, Eq)]
+pub enum Refusal {
+    Reading(read::Refusal),
+    TooLong(usize),
+}
+
+impl From<read::Refusal> for Refusal {
+    ghost from_gives = { λ refusal r. r ≡ Reading refusal };
+
+    fn from(refusal: read::Refusal) -> Refusal {
+        Refusal::Reading(refusal)
     }
-    LONGEST
+}
+
+impl Numbers for Resolved {
+    ghost told = { resolved_told };
+
+    fn numbers(&self) -> [u64; 7] {
+        [0, 0, self.rows as u64, self.free, 0, 0, self.bytes as u64]
+    }
+}
+
+impl Numbers for Refusal {
+    ghost told = { refusal_told };
+
+    fn numbers(&self) -> [u64; 7] {
+        match self {
+            Refusal::Reading(refusal) => refusal.numbers(),
+            Refusal::TooLong(need) => [Reason::TextTooLong.into(), 0, *need as u64, 0, 0, 0, 0],
+        }
+    }
 }
 
 // The answer for so many finished rows in the table.
-fn print_rows(table: &mut [u64], out: &mut [u8], rows: usize, free: u64) -> Answer
-    ensures { RowsPrinted table.old rows free out.old result table.new out.new }
+fn print_rows(table: &mut [u64], out: &mut [u8], accepted: Accepted) -> Result<Resolved, Refusal>
+    ensures { RowsPrinted table.old accepted.rows accepted.free out.old result table.new out.new }
 {
+    let Accepted { rows, free } = accepted;
     let mut text = Output { bytes: out, at: 0 };
     put_text(&mut text, table, rows);
     let bytes = text.at;
-    if room(out.len()) < bytes {
+    if out.len().min(LONGEST) < bytes {
         rows::clear(table, 0);
         rows::clear(out, 0);
-        return Answer::Long(bytes);
+        return Err(Refusal::TooLong(bytes));
     }
     rows::clear(out, bytes);
-    Answer::Resolved(rows, free, bytes)
+    Ok(Resolved { rows, free, bytes })
 }
 
 // Reads a source into a table and prints its text into an output.
-pub fn resolve(src: &[u8], table: &mut [u64], out: &mut [u8]) -> Answer
+pub fn resolve(src: &[u8], table: &mut [u64], out: &mut [u8]) -> Result<Resolved, Refusal>
     ensures result_value { told result ≡ resolve_reply src.now (length table.old) (length out.old) }
     ensures table_after { table.new ≡ resolved_table src.now (length table.old) (length out.old) }
     ensures out_after { out.new ≡ resolved_output src.now (length table.old) (length out.old) }
 {
-    let answer = read::read(src, table);
-    match answer {
-        read::Answer::Accepted(rows, free) => print_rows(table, out, rows, free),
-        read::Answer::Refused(number, place, line, column) => {
+    match read::read(src, table) {
+        Ok(accepted) => print_rows(table, out, accepted),
+        Err(refusal) => {
             rows::clear(out, 0);
-            Answer::Refused(number, place, line, column)
-        }
-        read::Answer::Short(need) => {
-            rows::clear(out, 0);
-            Answer::Short(need)
+            Err(refusal.into())
         }
     }
 }

@@ -4,7 +4,6 @@ use Prim.Native.Nat.{ℕ, zero, suc}
 use native.Mathlib.Numerals.{add-one}
 use Rattle.std.specs.Prelude.{Option, None, Some}
 use Rattle.std.specs.Option.{is_some, option_or}
-use Rattle.std.specs.Bool.{then_some}
 use Rattle.rows.specs.Marks.{marked}
 use mathlib.Core.Path.{◌≡◌, refl, sym, ap, ap₂, ◌∙◌}
 use mathlib.Core.Bool.{Bool, true, false, cond}
@@ -41,11 +40,6 @@ unfolding mark_or
 place_more (Some p) a b = refl
 place_more None zero b = refl
 place_more None (suc a) b = rw (ne_eqb (suc a) 0 (λ e. omega arith))
-
--- a place that is there or not
-pub place_if : (b : Bool) (p : ℕ) → then_some b p ≡ placed (when b (mark p))
-place_if true p = refl
-place_if false p = refl
 
 mark_stays : (p a : ℕ) → mark_or (mark p) a ≡ mark p
 unfolding mark_or

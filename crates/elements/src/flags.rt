@@ -1,7 +1,7 @@
 // FL: the flag words of a question (document 01, Grammar), with the size and display of a numeric (document 02, W-204).
 ghost use Rattle.std.specs.Prelude.{◌≡◌};
 ghost use Rattle.rows.specs.Marks.{marked};
-ghost use Rattle.grammar.specs.Parts.{mark, when};
+ghost use Rattle.grammar.specs.Parts.{when};
 ghost use Rattle.grammar.specs.Flags.{size_words, display_words};
 ghost use Rattle.elements.specs.Words.{value_of, no_words, repeats, with_word, bits_of, list_entry, list_second};
 
@@ -80,9 +80,16 @@ fn repeats(w: Words, class: u8) -> bool
     (w.size.is_some() & size(class).is_some()) | (w.display.is_some() & display(class).is_some())
 }
 
-// The words with one of the class at a place; a repeated flag adds nothing, and the first size and display stay.
-pub fn with_word(w: Words, class: u8, place: usize) -> Words
-    ensures { result ≡ with_word w class (mark place) }
+// The place of a word of the class, where it is the second of its sort.
+fn second_place(w: Words, class: u8, place: Option<usize>) -> Option<usize>
+    ensures { marked result ≡ when (repeats w class) (marked place) }
+{
+    if repeats(w, class) { place } else { None }
+}
+
+// The words with one of the class at a place, if any; a repeated flag adds nothing, and the first size and display stay.
+pub fn with_word(w: Words, class: u8, place: Option<usize>) -> Words
+    ensures { result ≡ with_word w class (marked place) }
 {
     Words {
         readonly: w.readonly | (class == READ_ONLY),
@@ -90,7 +97,7 @@ pub fn with_word(w: Words, class: u8, place: usize) -> Words
         reset: w.reset | (class == RESET_REQUIRED),
         size: w.size.or(size(class)),
         display: w.display.or(display(class)),
-        second: w.second.or(repeats(w, class).then_some(place)),
+        second: w.second.or(second_place(w, class, place)),
     }
 }
 

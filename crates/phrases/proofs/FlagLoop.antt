@@ -1,10 +1,11 @@
 -- The loop over the flag words of an element, turn by turn.
 -- Assumes nothing.
-use Prim.Native.Nat.{ℕ, zero, suc, ◌≤◌, ◌<◌}
+use Prim.Native.Nat.{ℕ, zero, suc, ◌+◌, ◌≤◌, ◌<◌}
 use mathlib.Core.Path.{◌≡◌, refl, sym, ap, ◌∙◌}
 use mathlib.Core.Bool.{true, false}
 use mathlib.Core.List.{List, [], ◌∷◌}
 use mathlib.Core.Logic.{◌≢◌}
+use native.Mathlib.Numerals.{add-one}
 use native.Mathlib.Omega.{arith}
 use lib.ListN.{length}
 use borrow.Author.Tests.{eq-eqb, ne_eqb}
@@ -79,17 +80,17 @@ module _ {s : List ℕ} {x : Reader} {e : ℕ} {u t : Token} {w : Words}
     (g : Going s x e u w) (at_bar : t ≡ token_at s u.end) (m : member u.class (starts_of e) ≡ true) where
   pub loop_last :
       {w' : Words} {b m : ℕ} {k : Kept} {n : Noted}
-      → t.class ≢ «|» → w' ≡ with_word w u.class (mark u.start) → b ≡ list_entry e w' → k ≡ with_entries x.kept (b ∷ [])
+      → t.class ≢ «|» → w' ≡ with_word w u.class (u.start + 1) → b ≡ list_entry e w' → k ≡ with_entries x.kept (b ∷ [])
       → m ≡ list_second e w' → n ≡ with_second x.noted m → ready (token_at s u.end) n k ≡ taking_flags s x e
   unfolding with_entries
   loop_last n q v h a d =
-      rw (d, a, h, v, q)
+      rw (d, a, h, v, q, add-one u.start)
       (sym (g.same ∙ last_at s x e u w g.is_list m g.turns g.enough (λ z. n (ap (λ (a : Token). a.class) at_bar ∙ z))))
 
   pub loop_fewer : {v : Token} → t.class ≡ «|» → v ≡ token_at s t.end → length (stream s v) < length (stream s u)
   loop_fewer b h = rw (h, at_bar) (fewer s x e u w g.is_list m (ap (λ (a : Token). a.class) (sym at_bar) ∙ b))
 
-  pub loop_more : {v : Token} {w' : Words} → t.class ≡ «|» → v ≡ token_at s t.end → w' ≡ with_word w u.class (mark u.start) → Going s x e v w'
+  pub loop_more : {v : Token} {w' : Words} → t.class ≡ «|» → v ≡ token_at s t.end → w' ≡ with_word w u.class (u.start + 1) → Going s x e v w'
   loop_more b h q =
-      rw (h, at_bar, q)
+      rw (h, at_bar, q, add-one u.start)
       (more_at s x e u w g.is_list m g.turns g.enough g.same (ap (λ (a : Token). a.class) (sym at_bar) ∙ b))

@@ -36,7 +36,7 @@ fn take_flags(src: &[u8], token: Token, found: &mut Findings, want: u8) -> Resul
     let mut word = token;
     let mut words = flags::no_words();
     loop {
-        words = flags::with_word(words, word.class, word.start);
+        words = flags::with_word(words, word.class, Some(word.start));
         let bar = lex::token_at(src, word.end);
         if bar.class != BAR {
             found.push(flags::list_entry(want, words));

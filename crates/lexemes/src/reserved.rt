@@ -76,7 +76,6 @@ fn place_of(w: &[u8]) -> Option<usize>
 }
 
 // The class of a word that does not start with a digit.
-#[inline(always)]
 pub fn class_of(w: &[u8]) -> u8
     ensures { result ≡ SIGNS + place_among w.now reserved }
 {

@@ -8,7 +8,8 @@ use native.Mathlib.Omega.{arith}
 use lib.Dec.{eqb}
 use Rattle.lexemes.specs.Classes.{«|», «INTERACTIVE», READ_ONLY, RESET_REQUIRED}
 use Rattle.std.specs.Prelude.{Option, None, Some}
-use Rattle.std.specs.Option.{is_some, unwrap_or}
+use Rattle.std.specs.Option.{is_some, unwrap_or, option_or}
+use Rattle.rows.specs.Marks.{marked}
 use Rattle.rows.specs.Sizes.{NO_SIZE, UINT_DEC, size_and_display}
 use Rattle.ll1.specs.Trees.{Token, token, Trees, leaves}
 use Rattle.ll1.specs.ParseTable.{member}
@@ -17,10 +18,10 @@ use Rattle.grammar.specs.Flags.{FlagWord, flag_words, class_of, total, flags}
 use Rattle.grammar.specs.Flags.{size_words, display_words, classes_of, value_or, first_of, size_in, display_in, seconds_after, seconds_in}
 use Rattle.elements.specs.declared.flags.Words.{Words}
 use Rattle.elements.specs.Kinds.{FLAG_LIST, NUMERIC_FLAGS}
-use Rattle.elements.specs.Marks.{mark_or, first_mark}
+use Rattle.elements.specs.Marks.{placed, first_mark}
 use Rattle.elements.specs.Words.{no_words, choose, repeats, with_word, bits_of, list_entry, list_second}
 use Rattle.elements.proofs.WordValues.{is_word, value_is, no_value}
-use Rattle.elements.proofs.MarkLaws.{mark_or_none, mark_or_more, first_if}
+use Rattle.elements.proofs.MarkLaws.{place_none, place_more, marked_placed, first_if}
 
 -- the words w, and those among the tokens
 abbrev pub joined : Words → List Token → Words
@@ -80,12 +81,12 @@ module _ (get : Words → Option ℕ) (ws : List FlagWord) (step : (w : Words) (
 
 -- ---- the first word of a sort named before
 
-second_joined : (w : Words) (ts : List Token) → (joined w ts).second ≡ mark_or w.second (first_mark (seconds_after (is_some w.size) (is_some w.display) ts))
-second_joined w [] = sym (mark_or_none w.second)
+second_joined : (w : Words) (ts : List Token) → (joined w ts).second ≡ option_or w.second (placed (first_mark (seconds_after (is_some w.size) (is_some w.display) ts)))
+second_joined w [] = sym (place_none w.second)
 second_joined w (token k p ∷ ts) =
     second_joined (with_word w k (mark p)) ts
     ∙ rw (choose_named w.size size_words k, choose_named w.display display_words k)
-    (mark_or_more w.second (when (repeats w k) (mark p)) (first_mark later) ∙ ap (mark_or w.second) (sym (first_if (repeats w k) p later)))
+    (place_more w.second (when (repeats w k) (mark p)) (first_mark later) ∙ ap (λ m. option_or w.second (placed m)) (sym (first_if (repeats w k) p later)))
   where
     later : List ℕ
     later = seconds_after (is_some w.size || member k (classes_of size_words)) (is_some w.display || member k (classes_of display_words)) ts
@@ -103,7 +104,7 @@ joined_bar w p ts =
       choose_none w.display display_words «|» refl,
       and-false (is_some w.size),
       and-false (is_some w.display),
-      mark_or_none w.second,
+      place_none w.second,
     ))
 
 -- ---- what a list keeps and notes, by the tokens of its trees
@@ -130,5 +131,5 @@ module _ (c : Trees) where
   question_second = refl
 
   pub numeric_second : list_second NUMERIC_FLAGS all ≡ first_mark (seconds_in c)
-  unfolding list_second mark_or
-  numeric_second = second_joined no_words (leaves c)
+  unfolding list_second
+  numeric_second = ap marked (second_joined no_words (leaves c)) ∙ marked_placed (first_mark (seconds_in c))

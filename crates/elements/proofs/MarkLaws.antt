@@ -1,39 +1,45 @@
 -- Faults noted list after list: the first of each sort.
 -- Assumes nothing.
-use Prim.Native.Nat.{ℕ, suc}
+use Prim.Native.Nat.{ℕ, zero, suc}
+use native.Mathlib.Numerals.{add-one}
+use Rattle.std.specs.Prelude.{Option, None, Some}
+use Rattle.std.specs.Option.{is_some, option_or}
+use Rattle.rows.specs.Marks.{marked}
 use mathlib.Core.Path.{◌≡◌, refl, sym, ap, ap₂, ◌∙◌}
 use mathlib.Core.Bool.{Bool, true, false, cond}
 use mathlib.Core.List.{List, [], ◌∷◌, ◌++◌, map, append-nil}
-use mathlib.Core.Logic.{◌≢◌}
 use native.Mathlib.Omega.{arith}
-use native.Mathlib.Decide.{ℕ_discrete}
-use lib.Dec.{eqb}
-use borrow.Author.Tests.{eq-eqb, ne_eqb}
+use borrow.Author.Tests.{ne_eqb}
 use Rattle.ll1.specs.Trees.{Trees, nil, leaf, node}
 use Rattle.grammar.specs.Parts.{mark, when}
 use Rattle.grammar.specs.Ranges.{gathered, out_of_range_here, out_of_range, seconds_here, second_words}
 use Rattle.elements.specs.declared.noted.Noted.{Noted}
 use Rattle.elements.specs.Marks.{Fault, second, outside, faults_here, faults}
-use Rattle.elements.specs.Marks.{mark_or, first_mark, nothing_noted, with_second, with_outside, with_fault, noting}
+use Rattle.elements.specs.Marks.{mark_or, placed, first_mark, nothing_noted, with_second, with_outside, with_fault, noting}
 
 -- ---- marks
 
-pub mark_or_none : (m : ℕ) → mark_or m 0 ≡ m
-unfolding mark_or
-mark_or_none m = by (ℕ_discrete m 0)
-  where
-    by : Dec (m ≡ 0) → cond (eqb m 0) 0 m ≡ m
-    by (yes h) = rw (eq-eqb m 0 h) (sym h)
-    by (no h) = rw (ne_eqb m 0 h)
+-- ---- places
 
--- one mark after another
-pub mark_or_more : (m a b : ℕ) → mark_or (mark_or m a) b ≡ mark_or m (mark_or a b)
+-- the mark of a place, and the place of a mark
+pub placed_marked : (o : Option ℕ) → placed (marked o) ≡ o
+placed_marked None = refl
+placed_marked (Some p) = ap placed (add-one p)
+
+pub marked_placed : (m : ℕ) → marked (placed m) ≡ m
+marked_placed zero = refl
+marked_placed (suc p) = add-one p
+
+pub place_none : (o : Option ℕ) → option_or o (placed 0) ≡ o
+place_none None = refl
+place_none (Some p) = refl
+
+-- one after another
+pub place_more : (o : Option ℕ) (a b : ℕ) → option_or (option_or o (placed a)) (placed b) ≡ option_or o (placed (mark_or a b))
 unfolding mark_or
-mark_or_more m a b = by (ℕ_discrete m 0)
-  where
-    by : Dec (m ≡ 0) → cond (eqb (cond (eqb m 0) a m) 0) b (cond (eqb m 0) a m) ≡ cond (eqb m 0) (cond (eqb a 0) b a) m
-    by (yes h) = rw (eq-eqb m 0 h)
-    by (no h) = rw (ne_eqb m 0 h, ne_eqb m 0 h)
+place_more (Some p) a b = refl
+place_more None zero b = refl
+place_more None (suc a) b = rw (ne_eqb (suc a) 0 (λ e. omega arith))
 
 mark_stays : (p a : ℕ) → mark_or (mark p) a ≡ mark p
 unfolding mark_or
@@ -70,13 +76,13 @@ outsides_of (outside p ∷ l) = p ∷ outsides_of l
 -- the first of each sort is noted, unless there was one
 pub noting_firsts : (n : Noted) (l : List Fault) → noting n l ≡ with_outside (with_second n (first_mark (seconds_of l))) (first_mark (outsides_of l))
 unfolding noting
-noting_firsts n [] = rw (mark_or_none n.second, mark_or_none n.outside)
+noting_firsts n [] = rw (place_none n.second, place_none n.outside)
 noting_firsts n (second p ∷ l) =
     let m = first_mark (seconds_of l) in
-    noting_firsts (with_second n (mark p)) l ∙ rw (mark_or_more n.second (mark p) m, mark_stays p m)
+    noting_firsts (with_second n (mark p)) l ∙ rw (place_more n.second (mark p) m, mark_stays p m)
 noting_firsts n (outside p ∷ l) =
     let m = first_mark (outsides_of l) in
-    noting_firsts (with_outside n (mark p)) l ∙ rw (mark_or_more n.outside (mark p) m, mark_stays p m)
+    noting_firsts (with_outside n (mark p)) l ∙ rw (place_more n.outside (mark p) m, mark_stays p m)
 
 -- ---- faults of one sort
 
@@ -97,15 +103,18 @@ outsides_outside [] = refl
 outsides_outside (p ∷ ps) = ap (◌∷◌ p) (outsides_outside ps)
 
 pub noting_seconds : (n : Noted) (ps : List ℕ) → noting n (map second ps) ≡ with_second n (first_mark ps)
-noting_seconds n ps = noting_firsts n (map second ps) ∙ rw (seconds_second ps, outsides_second ps, mark_or_none n.outside)
+noting_seconds n ps = noting_firsts n (map second ps) ∙ rw (seconds_second ps, outsides_second ps, place_none n.outside)
 
 pub noting_outsides : (n : Noted) (ps : List ℕ) → noting n (map outside ps) ≡ with_outside n (first_mark ps)
-noting_outsides n ps = noting_firsts n (map outside ps) ∙ rw (seconds_outside ps, outsides_outside ps, mark_or_none n.second)
+noting_outsides n ps = noting_firsts n (map outside ps) ∙ rw (seconds_outside ps, outsides_outside ps, place_none n.second)
 
 -- a number that was noted stays
-pub outside_stays : (n : Noted) (ps : List ℕ) → n.outside ≢ 0 → noting n (map outside ps) ≡ n
-unfolding mark_or
-outside_stays n ps h = noting_outsides n ps ∙ rw (ne_eqb n.outside 0 h)
+pub outside_stays : (n : Noted) (ps : List ℕ) → is_some n.outside ≡ true → noting n (map outside ps) ≡ n
+outside_stays n ps h = noting_outsides n ps ∙ ap (λ o. record { second = n.second; outside = o }) (by n.outside h)
+  where
+    by : (o : Option ℕ) → is_some o ≡ true → option_or o (placed (first_mark ps)) ≡ o
+    by None e = absurd cc
+    by (Some p) e = refl
 
 -- ---- faults of trees
 
@@ -155,10 +164,12 @@ module _ (s : List ℕ) where
   outsides_of_faults f = sort_gathered s outsides_of (out_of_range_here s) refl outsides_append outsides_here f
 
   -- from nothing noted: the mark of the first second word, and of the first number outside its place
-  pub second_noted : (f : Trees) → (noting nothing_noted (faults s f)).second ≡ first_mark (second_words f)
-  unfolding mark_or
-  second_noted f = ap (λ (n : Noted). n.second) (noting_firsts nothing_noted (faults s f)) ∙ ap first_mark (seconds_of_faults f)
+  pub second_noted : (f : Trees) → marked (noting nothing_noted (faults s f)).second ≡ first_mark (second_words f)
+  second_noted f =
+      ap (λ (n : Noted). marked n.second) (noting_firsts nothing_noted (faults s f))
+      ∙ (marked_placed (first_mark (seconds_of (faults s f))) ∙ ap first_mark (seconds_of_faults f))
 
-  pub outside_noted : (f : Trees) → (noting nothing_noted (faults s f)).outside ≡ first_mark (out_of_range s f)
-  unfolding mark_or
-  outside_noted f = ap (λ (n : Noted). n.outside) (noting_firsts nothing_noted (faults s f)) ∙ ap first_mark (outsides_of_faults f)
+  pub outside_noted : (f : Trees) → marked (noting nothing_noted (faults s f)).outside ≡ first_mark (out_of_range s f)
+  outside_noted f =
+      ap (λ (n : Noted). marked n.outside) (noting_firsts nothing_noted (faults s f))
+      ∙ (marked_placed (first_mark (outsides_of (faults s f))) ∙ ap first_mark (outsides_of_faults f))

@@ -1,6 +1,7 @@
 -- The faults that reading goes on after, and the marks of the first of each sort.
 -- Assumes nothing.
-use Rattle.std.specs.Prelude.{ℕ, cond, List, [], ◌∷◌, ◌++◌, map, eqb}
+use Rattle.std.specs.Prelude.{ℕ, zero, suc, cond, List, [], ◌∷◌, ◌++◌, map, eqb, Option, None, Some}
+use Rattle.std.specs.Option.{option_or}
 use Rattle.ll1.specs.Trees.{Trees}
 use Rattle.grammar.specs.Parts.{mark}
 use Rattle.grammar.specs.Ranges.{gathered, out_of_range_here, seconds_here}
@@ -31,15 +32,21 @@ abbrev pub first_mark : List ℕ → ℕ
 first_mark [] = 0
 first_mark (p ∷ ps) = mark p
 
+-- the place that a mark tells
+abbrev pub placed : ℕ → Option ℕ
+placed zero = None
+placed (suc p) = Some p
+
 -- nothing noted
 abbrev pub nothing_noted : Noted
-nothing_noted = record { second = 0; outside = 0 }
+nothing_noted = record { second = None; outside = None }
 
+-- with a mark, or 0 for none, unless there is a place already
 abbrev pub with_second : Noted → ℕ → Noted
-with_second n m = record { second = mark_or n.second m; outside = n.outside }
+with_second n m = record { second = option_or n.second (placed m); outside = n.outside }
 
 abbrev pub with_outside : Noted → ℕ → Noted
-with_outside n m = record { second = n.second; outside = mark_or n.outside m }
+with_outside n m = record { second = n.second; outside = option_or n.outside (placed m) }
 
 abbrev pub with_fault : Noted → Fault → Noted
 with_fault n (second p) = with_second n (mark p)

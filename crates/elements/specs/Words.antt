@@ -3,6 +3,7 @@
 use Rattle.std.specs.Prelude.{ℕ, ◌+◌, ◌*◌, Bool, false, cond, ◌&&◌, ◌||◌, List, [], ◌∷◌, eqb, Option, None, Some, is_some, unwrap_or}
 use Rattle.std.specs.Option.{option_or}
 use Rattle.lexemes.specs.Classes.{«INTERACTIVE», READ_ONLY, RESET_REQUIRED}
+use Rattle.rows.specs.Marks.{marked}
 use Rattle.rows.specs.Flags as flag
 use Rattle.rows.specs.Sizes.{NO_SIZE, UINT_DEC, size_and_display}
 use Rattle.ll1.specs.ParseTable.{member}
@@ -10,7 +11,7 @@ use Rattle.grammar.specs.Parts.{when}
 use Rattle.grammar.specs.Flags.{FlagWord, size_words, display_words, classes_of}
 use Rattle.elements.specs.declared.flags.Words.{Words}
 use Rattle.elements.specs.Kinds.{NUMERIC_FLAGS}
-use Rattle.elements.specs.Marks.{mark_or}
+use Rattle.elements.specs.Marks.{placed}
 
 -- the value of the word of class k, where k is one of the words
 unfoldable pub value_of : List FlagWord → ℕ → Option ℕ
@@ -26,7 +27,7 @@ no_words =
       reset = false;
       size = None;
       display = None;
-      second = 0;
+      second = None;
     }
 
 -- with a word of class k, where ws are the words of a sort: the first of them stays
@@ -46,7 +47,7 @@ with_word w k m =
       reset = w.reset || eqb k RESET_REQUIRED;
       size = choose w.size size_words k;
       display = choose w.display display_words k;
-      second = mark_or w.second (when (repeats w k) m);
+      second = option_or w.second (placed (when (repeats w k) m));
     }
 
 -- READ_ONLY (1), INTERACTIVE (4), RESET_REQUIRED (16)
@@ -60,4 +61,4 @@ list_entry e w = cond (eqb e NUMERIC_FLAGS) (bits_of w + 256 * size_and_display 
 
 -- the mark of a numeric's second size or display word, or 0
 unfoldable pub list_second : ℕ → Words → ℕ
-list_second e w = cond (eqb e NUMERIC_FLAGS) w.second 0
+list_second e w = cond (eqb e NUMERIC_FLAGS) (marked w.second) 0

@@ -1,11 +1,11 @@
 // FL: the flag words of a question (document 01, Grammar), with the size and display of a numeric (document 02, W-204).
 ghost use Rattle.std.specs.Prelude.{◌≡◌};
+ghost use Rattle.rows.specs.Marks.{marked};
 ghost use Rattle.grammar.specs.Parts.{when};
 ghost use Rattle.grammar.specs.Flags.{size_words, display_words};
 ghost use Rattle.elements.specs.Words.{value_of, no_words, repeats, with_word, bits_of, list_entry, list_second};
 
 use crate::kinds::NUMERIC_FLAGS;
-use crate::noted::mark_or;
 use lexemes::classes::*;
 
 // What an absent size and an absent display count as: eight bytes, DISPLAY_UINT_DEC.
@@ -13,8 +13,8 @@ const ABSENT_SIZE: u8 = 8;
 
 const ABSENT_DISPLAY: u8 = 1;
 
-// Which flag words stand in a list, the values of the first size and the first display word, and the mark of the first word
-// of a sort that was named before, or 0.
+// Which flag words stand in a list, the values of the first size and the first display word, and the place of the first word
+// of a sort that was named before.
 #[derive(Clone, Copy, Debug, PartialEq, Eq)]
 pub struct Words {
     pub readonly: bool,
@@ -22,7 +22,7 @@ pub struct Words {
     pub reset: bool,
     pub size: Option<u8>,
     pub display: Option<u8>,
-    pub second: usize,
+    pub second: Option<usize>,
 }
 
 // Of a list without a word.
@@ -35,7 +35,7 @@ pub fn no_words() -> Words
         reset: false,
         size: None,
         display: None,
-        second: 0,
+        second: None,
     }
 }
 
@@ -73,18 +73,23 @@ pub fn set_if(there: bool, number: u64) -> u64
     if there { number } else { 0 }
 }
 
-// The mark of a word of the class, where it is the second of its sort; else 0.
-fn second_mark(w: Words, class: u8, mark: usize) -> usize
-    ensures { result ≡ when (repeats w class) mark }
+// A word of the class is the second of its sort.
+fn repeats(w: Words, class: u8) -> bool
+    ensures { result ≡ repeats w class }
 {
-    let sized_again = w.size.is_some() & size(class).is_some();
-    let shown_again = w.display.is_some() & display(class).is_some();
-    if sized_again | shown_again { mark } else { 0 }
+    (w.size.is_some() & size(class).is_some()) | (w.display.is_some() & display(class).is_some())
 }
 
-// The words with one of the class at a mark; a repeated flag adds nothing, and the first size and display stay.
-pub fn with_word(w: Words, class: u8, mark: usize) -> Words
-    ensures { result ≡ with_word w class mark }
+// The place of a word of the class, where it is the second of its sort.
+fn second_place(w: Words, class: u8, place: Option<usize>) -> Option<usize>
+    ensures { marked result ≡ when (repeats w class) (marked place) }
+{
+    if repeats(w, class) { place } else { None }
+}
+
+// The words with one of the class at a place, if any; a repeated flag adds nothing, and the first size and display stay.
+pub fn with_word(w: Words, class: u8, place: Option<usize>) -> Words
+    ensures { result ≡ with_word w class (marked place) }
 {
     Words {
         readonly: w.readonly | (class == READ_ONLY),
@@ -92,11 +97,12 @@ pub fn with_word(w: Words, class: u8, mark: usize) -> Words
         reset: w.reset | (class == RESET_REQUIRED),
         size: w.size.or(size(class)),
         display: w.display.or(display(class)),
-        second: mark_or(w.second, second_mark(w, class, mark)),
+        second: w.second.or(second_place(w, class, place)),
     }
 }
 
 // The sum of the flags' bits.
+#[tactic(auto, using(crate::proofs::KindLaws::when_le))]
 fn bits_of(w: Words) -> u64
     ensures { result ≡ bits_of w }
 {
@@ -118,9 +124,14 @@ pub fn list_entry(want: u8, w: Words) -> u64
     bits_of(w)
 }
 
-// The mark of a numeric's second size or display word, or 0.
-pub fn list_second(want: u8, w: Words) -> usize
-    ensures { result ≡ list_second want w }
+// The place of a numeric's second size or display word.
+#[tactic(auto, unfolding(crate::specs::Words::list_second))]
+pub fn list_second(want: u8, w: Words) -> Option<usize>
+    ensures { marked result ≡ list_second want w }
 {
-    if want == NUMERIC_FLAGS { w.second } else { 0 }
+    if want == NUMERIC_FLAGS {
+        w.second
+    } else {
+        None
+    }
 }

@@ -9,13 +9,11 @@ ghost use Rattle.replies.specs.Replies.{read_reply, resolve_reply};
 ghost use Rattle.family.specs.Family.{family_reply, family_table, family_answers};
 ghost use Rattle.lent.specs.Numbers.{in_lent, reply_numbers};
 ghost use Rattle.show.specs.Show.{show_reply, show_table, show_output};
-ghost use Rattle.text.specs.Answers as text;
 ghost use Rattle.viewer.specs.Viewed.{seen_from};
 ghost use Rattle.face.specs.Numbers.{is_last, token_numbers};
 
 use lent::{put_answer, put_numbers};
 use lexemes::classes::BAD;
-use text::{TOO_FEW_ROWS, TOO_LONG};
 
 // Stages 1 to 5 alone: the refusal's number times 2^32 plus its place, or 0.
 #[unsafe(no_mangle)]
@@ -32,7 +30,7 @@ pub extern "C" fn vfr_read(src: &[u8], table: &mut [u64], answer: &mut [u64])
     ensures answer_after { answer.new ≡ in_lent (length answer.old) (reply_numbers (read_reply src.now (length table.old))) }
 {
     let a = read::read(src, table);
-    put_answer(answer, a);
+    put_answer(answer, &a);
 }
 
 // Reads the sources of a family, joined in one buffer and parted by their ends, into one table, with an answer for each.
@@ -52,24 +50,7 @@ pub extern "C" fn vfr_read_family(
         (reply_numbers (family_reply buffer.now ends.now (length table.old) (length answers.old))) }
 {
     let whole = family::read_family(buffer, ends, table, answers);
-    put_answer(answer, whole);
-}
-
-// The numbers of resolving's answer.
-fn put_resolution(out: &mut [u64], answer: text::Answer)
-    ensures { out.new ≡ in_lent (length out.old) (reply_numbers (text.told answer)) }
-{
-    match answer {
-        text::Answer::Resolved(rows, free, bytes) => {
-            put_numbers(out, &[0, 0, rows as u64, free, 0, 0, bytes as u64])
-        }
-        text::Answer::Refused(number, place, line, column) => put_numbers(
-            out,
-            &[number, place as u64, 0, 0, line as u64, column as u64, 0],
-        ),
-        text::Answer::Short(need) => put_numbers(out, &[TOO_FEW_ROWS, 0, need as u64, 0, 0, 0, 0]),
-        text::Answer::Long(need) => put_numbers(out, &[TOO_LONG, 0, need as u64, 0, 0, 0, 0]),
-    }
+    put_answer(answer, &whole);
 }
 
 // Reads a source into a table and prints its resolved text into an output.
@@ -80,7 +61,7 @@ pub extern "C" fn vfr_resolve(src: &[u8], table: &mut [u64], out: &mut [u8], ans
     ensures answer_after { answer.new ≡ in_lent (length answer.old) (reply_numbers (resolve_reply src.now (length table.old) (length out.old))) }
 {
     let a = text::resolve(src, table, out);
-    put_resolution(answer, a);
+    put_answer(answer, &a);
 }
 
 // Reads a source into a table, and says by answers which items are hidden or grey.
@@ -99,17 +80,14 @@ pub extern "C" fn vfr_show(
         (reply_numbers (show_reply src.now answers.now (length table.old) (length out.old))) }
 {
     let a = show::show(src, answers, table, out);
-    put_answer(answer, a);
+    put_answer(answer, &a);
 }
 
 // 1 where no further token comes: at a bad token and at the end.
 fn is_last(class: u8) -> u64
     ensures { result ≡ is_last class }
 {
-    if class < BAD {
-        return 0;
-    }
-    1
+    u64::from(class >= BAD)
 }
 
 // The token that stands first from the place `at` on, where `at` has that line and column, and the place at which to go on.

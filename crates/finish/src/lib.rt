@@ -68,6 +68,7 @@ fn resolve_references(src: &[u8], table: &mut [u64], count: usize, index: &[u64]
     }
 }
 
+// Stays: five parameters; two are changed and three only read (`settle(Lent { src, table, .. })` names as many).
 // Settles the draft rows: questions get their numbers, and then references those that they find. The marks stay.
 pub fn settle(src: &[u8], table: &mut [u64], count: usize, index: &[u64], used: &mut Map)
     ensures table_after { table.new ≡ table_settled src.now index.now used.old table.old count }

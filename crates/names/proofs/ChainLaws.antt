@@ -93,9 +93,6 @@ module _ (p : ℕ → Bool) where
 pub record Following (p : ℕ → Bool) (es : List ℕ) (first j : ℕ) : Type 0 where
   pub same : follow p es first ≡ follow p es j
 
-pub following_start : (p : ℕ → Bool) (es : List ℕ) (first : ℕ) → Following p es first first
-following_start p es first = record { same = refl }
-
 module _ {p : ℕ → Bool} {es : List ℕ} {first j : ℕ} (v : Following p es first j) where
   pub following_end : (0 < j → length es < j) → 0 ≡ follow p es first
   following_end none = sym (v.same ∙ follow_out p es j (λ a b. omega (arith, none a)))

@@ -40,9 +40,6 @@ pub record Hashing (s : List ℕ) (at h i : ℕ) : Type 0 where
   pub small : h < HASHES
   pub same : hash_of 0 (word (drop at s)) ≡ hash_of h (word (drop i s))
 
-pub hashing_start : (s : List ℕ) (at : ℕ) → Hashing s at 0 at
-hashing_start s at = record { small = omega arith; same = refl }
-
 module _ {s : List ℕ} {at h i : ℕ} (v : Hashing s at h i) where
   pub hashing_next : {b : ℕ} → b ≡ first s i → (b ≡ 0 → ⊥) → Hashing s at ((h * BASE + b) % HASHES) (i + 1)
   hashing_next {b} e z =

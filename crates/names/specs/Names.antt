@@ -1,5 +1,5 @@
 -- The index of declared names, and stage 9 by it (document 01, "Refusal numbers", No. 9).
-use Rattle.std.specs.Prelude.{ℕ, suc, ◌+◌, ◌-◌, ◌*◌, ◌/◌, ◌%◌, ◌<◌, ◌≡◌, Bool, true, false, cond, ◌&&◌, List, [], ◌∷◌, eqb, ltb, leb, length, get_or, set, drop}
+use Rattle.std.specs.Prelude.{ℕ, suc, ◌+◌, ◌-◌, ◌*◌, ◌/◌, ◌%◌, ◌<◌, ◌≤◌, ◌≡◌, Bool, true, false, cond, ◌&&◌, List, [], ◌∷◌, eqb, ltb, leb, length, get_or, set, drop}
 use Rattle.lexemes.specs.Words.{word, same_word}
 use Rattle.rows.specs.Codes as code
 use Rattle.rows.specs.Columns as column
@@ -66,6 +66,10 @@ mark_in e = e % MARKS
 -- its parts
 abbrev pub unpacked : ℕ → Entry
 unpacked e = record { tag = tag_in e; link = link_in e; row = row_in e; mark = mark_in e }
+
+-- e is the entry of the number j
+abbrev pub EntryAt : List ℕ → ℕ → Entry → Type 0
+EntryAt es j e = (0 < j) × (j ≤ length es) × (e ≡ unpacked (get_or es (length es - j) 0))
 
 -- ---- an index: the heads of the buckets, and then the entries, numbered from 1 on from the last one back
 

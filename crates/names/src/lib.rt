@@ -3,16 +3,19 @@
 // the first. A head is the number of the entry that its bucket gained last, or 0; an entry's link is the head before it.
 // So a chain meets its rows in their order.
 // Stays: an arena of numbers in lent memory; no heap is used, and the contract of `index_names` names each number of it.
+// Stays: `rule: bool` tells rules from questions; callers have it as `code == codes::RULE`, where an enum needs an `if` of two names.
+// Stays: the five and six parameters of `follow` and `add`; a struct of them would be made for one call and taken apart there.
 #![tactic(auto)]
 
-ghost use Rattle.std.specs.Prelude.{◌≡◌, ◌<◌, ◌≤◌, ◌-◌, ◌&&◌, eqb, cond, length, drop, slice_index, MatchOption};
+ghost use Rattle.std.specs.Prelude.{◌≡◌, ◌<◌, ◌&&◌, eqb, cond, length, drop, MatchOption};
 ghost use Rattle.lexemes.specs.Words.{word};
 ghost use Rattle.answers.specs.Drafts.{drafts_from};
 ghost use Rattle.answers.specs.Stages.{cell};
 ghost use Rattle.rows.specs.Columns as column;
 ghost use Rattle.rows.specs.Marks.{marked};
 ghost use Rattle.drafts.specs.Faults.{draft_at};
-ghost use Rattle.names.specs.Names.{HASHES, hash_of, key_of, bucket_of, tag_of, entry_of, unpacked, added, names_in, indexed, same_name, matches, follow, find_in, repeats, repeated_from};
+ghost use Rattle.names.specs.Names.{HASHES, hash_of, key_of, bucket_of, tag_of, entry_of, unpacked, EntryAt, added, names_in, indexed};
+ghost use Rattle.names.specs.Names.{same_name, matches, follow, find_in, repeats, repeated_from};
 
 use drafts::place_of;
 use rows::columns::{CODE, NAME};
@@ -166,7 +169,7 @@ pub fn index_names(src: &[u8], table: &[u64], count: usize, index: &mut [u64]) -
 
 // The entry of a number.
 fn entry_at(entries: &[u64], at: u64) -> Option<Entry>
-    ensures { MatchOption result (0 < at → length entries.now < at) (λ e. (0 < at) × (at ≤ length entries.now) × (e ≡ unpacked (slice_index entries.now (length entries.now - at)))) }
+    ensures { MatchOption result (0 < at → length entries.now < at) (EntryAt entries.now at) }
 {
     let slot = entries.len().checked_sub(at as usize)?;
     entries.get(slot).map(|packed| Entry::unpack(*packed))

@@ -105,7 +105,7 @@ module _ {s es ws t : List ℕ} {count : ℕ} (pre : Ready s es ws t count) wher
       answer_is : answer_past12 s ds ≡ cond (eqb m 0) acceptance (refuses 14 (place_of m))
       answer_is = stage_first first_circle 14 acceptance
 
-      module _ {place : ℕ} (h : m ≡ place + 1) where
+      module _ (place : ℕ) (h : m ≡ place + 1) where
         pub circle_answer : refuses 14 place ≡ answer_past12 s ds
         circle_answer =
             let at : m - 1 ≡ place = omega (arith, h) in

@@ -8,7 +8,7 @@ use Rattle.ll1.proofs.Basics.{clash}
 use Rattle.answers.specs.Answer.{needs}
 use Rattle.replies.specs.Replies.{position_of, read_replied}
 use Rattle.read.specs.declared.Accepted.{Accepted}
-use Rattle.read.specs.declared.Fault.{Fault}
+use Rattle.walk.specs.declared.Fault.{Fault}
 use Rattle.read.specs.declared.Refusal.{Refusal}
 use Rattle.read.specs.declared.Refusal.TheVariants.{TooFewRows}
 use Rattle.read.specs.Answers.{refused, found, refusal_told, told, InFull}

@@ -28,7 +28,7 @@ use Rattle.names.proofs.NameFaults.{names_first}
 use Rattle.stages.proofs.RuleLaws.{rules_first}
 use Rattle.stages.proofs.ReferenceFaults.{references_first}
 use Rattle.stages.proofs.ChoiceFaults.{choices_first}
-use Rattle.read.specs.declared.Fault.{Fault}
+use Rattle.walk.specs.declared.Fault.{Fault}
 use Rattle.read.specs.Answers.{refused}
 use Rattle.read.specs.Faults.{fault_at, stage_fault, first_fault_of, written_after}
 

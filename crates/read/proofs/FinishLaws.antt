@@ -18,7 +18,7 @@ use Rattle.answers.specs.Drafts.{drafts_from}
 use Rattle.answers.specs.Answer.{Answer, answer_past12, answer_of}
 use Rattle.names.specs.Names.{BUCKETS, names_in, indexed, Indexes}
 use Rattle.names.proofs.NameFaults.{index_made}
-use Rattle.read.specs.declared.Fault.{Fault}
+use Rattle.walk.specs.declared.Fault.{Fault}
 use Rattle.read.specs.Answers.{refused}
 use Rattle.read.specs.Faults.{first_fault_of, written_after}
 use Rattle.read.specs.Drafted.{NAMES, Drafted, Ready, table_after, table_past12}

@@ -27,7 +27,7 @@ use Rattle.drafts.specs.Fits.{AllFit}
 use Rattle.drafts.proofs.CodingLaws.{sound_fit, are_encoded, drafts_held}
 use Rattle.replies.specs.Replies.{accepting, read_reply}
 use Rattle.replies.proofs.Laws.{accepting_only}
-use Rattle.read.specs.declared.Fault.{Fault}
+use Rattle.walk.specs.declared.Fault.{Fault}
 use Rattle.read.specs.Answers.{refused}
 use Rattle.read.specs.Surveyed.{SurveyedWhole, Surveyed}
 use Rattle.read.specs.Drafted.{Drafted, table_after}

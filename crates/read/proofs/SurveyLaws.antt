@@ -1,20 +1,20 @@
 -- Stages 1 to 5 with 16 by a walk: what each of its ends means for the source.
 -- Assumes nothing.
-use Prim.Native.Nat.{ℕ, ◌-◌, ◌≤◌, ◌<◌}
+use Prim.Native.Nat.{ℕ, ◌+◌, ◌≤◌, ◌<◌}
 use native.Mathlib.Omega.{arith}
-use mathlib.Core.Path.{◌≡◌, refl, sym, ◌∙◌}
+use mathlib.Core.Path.{◌≡◌, refl, sym, ap, ◌∙◌}
 use mathlib.Core.Logic.{◌≢◌}
 use mathlib.Core.List.{List, [], ◌∷◌}
 use mathlib.Core.Option.{Option}
 use lib.ListN.{length}
-use Rattle.std.specs.Prelude.{Ok, Err, Some, None}
+use Rattle.std.specs.Prelude.{Option as Optional, Ok, Err, Some, None}
 use Rattle.refusals.specs.declared.Reason.{Reason}
 use Rattle.refusals.specs.declared.Reason.TheVariants.{SourceTooLong, OutOfRange, SecondWord}
 use Rattle.refusals.specs.Numbers.{number_of}
 use Rattle.lex.specs.Tokens.{first_bad}
 use Rattle.rows.specs.Table.{cleared}
 use Rattle.rows.proofs.ClearLaws.{cleared_whole}
-use Rattle.ll1.specs.Trees.{Token, Trees}
+use Rattle.ll1.specs.Trees.{Trees}
 use Rattle.ll1.specs.Verdict.{Verdict, accepted, ends_early, refused, Accepted, is_text, is_unfinished, no_text_starts_so, opens_too_many}
 use Rattle.grammar.specs.Derivation.{too_deep, NowhereTooDeep, SourceSays}
 use Rattle.grammar.specs.Grammar.{rules}
@@ -29,10 +29,13 @@ use Rattle.answers.proofs.Checks.{checked_1, checked_2, checked_parsed, checked_
 use Rattle.sound.proofs.DraftsSound.{drafts_sound}
 use Rattle.sound.proofs.NameCount.{names_six}
 use Rattle.elements.specs.Marks.{first_mark}
-use Rattle.walk.specs.declared.Outcome.{Outcome}
-use Rattle.walk.specs.Whole.{refusal_number, refusal_place, WalkedWhole, Walks}
+use Rattle.rows.specs.Marks.{marked}
+use Rattle.refusals.proofs.Bounds.{number_bounds}
+use Rattle.walk.specs.declared.Totals.{Totals}
+use Rattle.walk.specs.declared.Fault.{Fault}
+use Rattle.walk.specs.Whole.{outcome, refusal_number, refusal_place, WalkedWhole, Walks}
 use Rattle.read.specs.Faults.{fault_at}
-use Rattle.read.specs.Surveyed.{walk_reason, unless_bad, Surveyed}
+use Rattle.read.specs.Surveyed.{unless_bad, Surveyed}
 
 -- places whose first has no mark are none
 none_marked : (l : List ℕ) → first_mark l ≡ 0 → l ≡ []
@@ -45,42 +48,35 @@ too_long s t h f = (checked_1 s h, f ∙ cleared_whole t)
 
 -- ---- a walk that refuses
 
--- the number of its reason
-walk_number : {ts : List Token} {v : Verdict} → SourceSays ts v → refusal_number v ≢ 0 → number_of (walk_reason (refusal_number v)) ≡ refusal_number v
-walk_number (is_text a) h = absurd (h refl)
-walk_number (is_unfinished u none) h = refl
-walk_number (no_text_starts_so before after class place e u none) h = refl
-walk_number (opens_too_many before after class place e u) h = refl
-
 parsed_refusal : (s : List ℕ) (v : Verdict) (o : Option Trees) → refusal_number v ≢ 0 → parsed s v o ≡ refusal (refusal_number v) (refusal_place s v)
 parsed_refusal s accepted o h = absurd (h refl)
 parsed_refusal s ends_early o h = refl
 parsed_refusal s (refused n p) o h = refl
 
-module _ {s t t' : List ℕ} {w : Outcome} (short : length s ≤ LONGEST) (v : Walks s w t t') where
-  abbrev tokens_verdict : Verdict
-  tokens_verdict = verdict (source_tokens s)
-
+module _ {s t t' : List ℕ} (short : length s ≤ LONGEST) where
   -- 2 to 4: the first bad token, or else the refusal of the grammar or of a depth
-  pub walk_stops : w.no ≢ 0 → Surveyed s (Err (unless_bad (first_bad s) w.no w.place)) t t'
-  walk_stops h = by (first_bad s) refl
+  pub walk_stops : (f : Fault) → Walks s (outcome (Err f)) t t' → Surveyed s (Err (unless_bad (first_bad s) f)) t t'
+  walk_stops f v = by (first_bad s) refl
     where
-      number : refusal_number tokens_verdict ≢ 0
+      h : number_of f.reason ≢ 0
+      h q = let n = (number_bounds f.reason).0 in absurd (omega arith)
+
+      number : refusal_number (verdict (source_tokens s)) ≢ 0
       number z = h (v.number ∙ z)
 
-      by : (b : Option ℕ) → first_bad s ≡ b → Surveyed s (Err (unless_bad b w.no w.place)) t t'
+      by : (b : Optional ℕ) → first_bad s ≡ b → Surveyed s (Err (unless_bad b f)) t t'
       by (Some p) e = (checked_2 s p short e, v.zeros h)
       by None e = (
-        checked_parsed s tokens_verdict short e (verdict_right (source_tokens s))
-            ∙ (parsed_refusal s tokens_verdict (derivation (source_tokens s)) number ∙ rw (v.number, v.place, walk_number (verdict_right (source_tokens s)) number)),
+        checked_parsed s (verdict (source_tokens s)) short e (verdict_right (source_tokens s))
+            ∙ (parsed_refusal s (verdict (source_tokens s)) (derivation (source_tokens s)) number ∙ rw (v.number, v.place)),
         v.zeros h,
       )
 
   -- ---- a walk that accepts
 
-  module _ (h : w.no ≡ 0) where
-    walked : WalkedWhole s w t t'
-    walked = v.derived h
+  module _ (w : Totals) (v : Walks s (outcome (Ok w)) t t') where
+    walked : WalkedWhole s (outcome (Ok w)) t t'
+    walked = v.derived refl
 
     abbrev tree : Trees
     tree = walked.tree
@@ -92,34 +88,34 @@ module _ {s t t' : List ℕ} {w : Outcome} (short : length s ≤ LONGEST) (v : W
     grammatical : Grammatical s tree
     grammatical = record { short = short; derives = walked.derives; depths = shallow ((accepted_exactly (source_tokens s)).0 walked.accepts) }
 
-    -- a refusal at the first of some places, by its mark
+    -- a refusal at the first of some places
     at_first :
-        (r : Reason) (m : ℕ) (l : List ℕ) {u : List ℕ} → m ≡ first_mark l → m ≢ 0 → ((p : ℕ) (ps : List ℕ) → l ≡ p ∷ ps → checked s ≡ refusal (number_of r) p)
-        → length t' ≡ length t → u ≡ cleared t' 0 → Surveyed s (Err (fault_at r (m - 1))) t u
-    at_first r m [] e h c g f = absurd (h e)
-    at_first r m (p ∷ ps) e h c g f =
-        let place : m - 1 ≡ p = rw e (omega arith) in
-        (rw place (c p ps refl), f ∙ (cleared_whole t' ∙ rw g))
+        (r : Reason) (place : ℕ) (l : List ℕ) {u : List ℕ} → place + 1 ≡ first_mark l → ((p : ℕ) (ps : List ℕ) → l ≡ p ∷ ps → checked s ≡ refusal (number_of r) p)
+        → length t' ≡ length t → u ≡ cleared t' 0 → Surveyed s (Err (fault_at r place)) t u
+    at_first r place [] e c g f = absurd (omega arith)
+    at_first r place (p ∷ ps) e c g f =
+        let same : place ≡ p = omega arith in
+        (rw same (c p ps refl), f ∙ (cleared_whole t' ∙ rw g))
 
     -- 16: the first second size or display word
     pub second_word :
-        {u : List ℕ} → w.noted.second ≢ 0 → length t' ≡ length t → u ≡ cleared t' 0 → Surveyed s (Err (fault_at SecondWord (w.noted.second - 1))) t u
-    second_word h = at_first SecondWord w.noted.second (second_words tree) walked.second h (λ p ps e. checked_16 s tree p ps grammatical e)
+        {place : ℕ} {u : List ℕ} → w.noted.second ≡ Some place → length t' ≡ length t → u ≡ cleared t' 0 → Surveyed s (Err (fault_at SecondWord place)) t u
+    second_word {place} e = at_first SecondWord place (second_words tree) (ap marked (sym e) ∙ walked.second) (λ p ps e. checked_16 s tree p ps grammatical e)
 
-    module _ (none : w.noted.second ≡ 0) where
+    module _ (none : w.noted.second ≡ None) where
       no_second : second_words tree ≡ []
-      no_second = none_marked (second_words tree) (sym walked.second ∙ none)
+      no_second = none_marked (second_words tree) (sym walked.second ∙ ap marked none)
 
       -- 5: the first number out of its range
       pub number_outside :
-          {u : List ℕ} → w.noted.outside ≢ 0 → length t' ≡ length t → u ≡ cleared t' 0 → Surveyed s (Err (fault_at OutOfRange (w.noted.outside - 1))) t u
-      number_outside h =
-          at_first OutOfRange w.noted.outside (out_of_range s tree) walked.outside h (λ p ps e. checked_5 s tree p ps grammatical no_second e)
+          {place : ℕ} {u : List ℕ} → w.noted.outside ≡ Some place → length t' ≡ length t → u ≡ cleared t' 0 → Surveyed s (Err (fault_at OutOfRange place)) t u
+      number_outside {place} e =
+          at_first OutOfRange place (out_of_range s tree) (ap marked (sym e) ∙ walked.outside) (λ p ps e. checked_5 s tree p ps grammatical no_second e)
 
       -- no stage refuses
-      pub walk_passes : w.noted.outside ≡ 0 → Surveyed s (Ok w.rows) t t'
+      pub walk_passes : w.noted.outside ≡ None → Surveyed s (Ok w.rows) t t'
       walk_passes z =
-          let in_range : out_of_range s tree ≡ [] = none_marked (out_of_range s tree) (sym walked.outside ∙ z) in
+          let in_range : out_of_range s tree ≡ [] = none_marked (out_of_range s tree) (sym walked.outside ∙ ap marked z) in
           record {
             tree = tree;
             is = checked_derived s tree grammatical no_second in_range;

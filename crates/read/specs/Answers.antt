@@ -7,7 +7,7 @@ use Rattle.answers.specs.Answer as answers
 use Rattle.answers.specs.Answer.{accepts, refuses}
 use Rattle.replies.specs.Replies.{Reply, accepting, answered, read_replied}
 use Rattle.read.specs.declared.Accepted.{Accepted}
-use Rattle.read.specs.declared.Fault.{Fault}
+use Rattle.walk.specs.declared.Fault.{Fault}
 use Rattle.read.specs.declared.Refusal.{Refusal}
 use Rattle.read.specs.declared.Refusal.TheVariants.{At, TooFewRows}
 

@@ -13,7 +13,7 @@ use Rattle.stages.specs.Choices.{choice_fault}
 use Rattle.names.specs.Names.{repeated_from}
 use Rattle.stages.specs.References.{reference_fault}
 use Rattle.stages.specs.Repeats.{repeated_mark, map_after, form_number, written_number}
-use Rattle.read.specs.declared.Fault.{Fault}
+use Rattle.walk.specs.declared.Fault.{Fault}
 
 abbrev pub fault_at : Reason → ℕ → Fault
 fault_at reason place = record { reason = reason; place = place }

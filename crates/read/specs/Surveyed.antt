@@ -1,9 +1,8 @@
 -- What stages 1 to 5 with 16 find: a refusal, or the draft rows of the derivation.
 -- Assumes nothing.
-use Rattle.std.specs.Prelude.{ℕ, ◌≤◌, ◌≡◌, cond, List, map, eqb, length, replicate, Option, Some, None, Result, Ok, Err}
+use Rattle.std.specs.Prelude.{ℕ, ◌≤◌, ◌≡◌, List, map, length, replicate, Option, Some, None, Result, Ok, Err}
 use Rattle.refusals.specs.Numbers.{number_of}
-use Rattle.refusals.specs.declared.Reason.{Reason}
-use Rattle.refusals.specs.declared.Reason.TheVariants.{BadToken, Syntax, TooDeep}
+use Rattle.refusals.specs.declared.Reason.TheVariants.{BadToken}
 use Rattle.rows.specs.Rows.{put}
 use Rattle.ll1.specs.Trees.{Trees}
 use Rattle.answers.specs.Drafts.{encoded}
@@ -11,18 +10,14 @@ use Rattle.answers.specs.Answer.{drafts}
 use Rattle.answers.specs.WholeAnswer.{refusal, derived, checked}
 use Rattle.drafts.specs.Sound.{SoundRows}
 use Rattle.names.specs.Names.{names_in}
-use Rattle.read.specs.declared.Fault.{Fault}
+use Rattle.walk.specs.declared.Fault.{Fault}
 use Rattle.read.specs.Faults.{fault_at}
 use Rattle.read.specs.Drafted.{NAMES}
 
--- the grammar's refusals are 3, or 4 at a depth too many
-abbrev pub walk_reason : ℕ → Reason
-walk_reason number = cond (eqb number 4) TooDeep Syntax
-
--- No. 2 where a token is bad, or else the refusal of a walk
-abbrev pub unless_bad : Option ℕ → ℕ → ℕ → Fault
-unless_bad (Some p) number place = fault_at BadToken p
-unless_bad None number place = fault_at (walk_reason number) place
+-- No. 2 where a token is bad, or else the fault of a walk
+abbrev pub unless_bad : Option ℕ → Fault → Fault
+unless_bad (Some p) fault = fault_at BadToken p
+unless_bad None fault = fault
 
 -- the derivation that the stages pass; its draft rows, so many, written over the table t as far as whole rows fit
 pub record SurveyedWhole (s : List ℕ) (count : ℕ) (t t' : List ℕ) : Type 0 where

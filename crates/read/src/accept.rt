@@ -8,10 +8,11 @@ ghost use Rattle.read.specs.Answers.{found};
 ghost use Rattle.read.specs.Drafted.{Drafted, Ready, table_past12, table_after};
 
 use crate::faults::first_fault;
-use crate::{Accepted, Fault, refuse};
+use crate::{Accepted, refuse};
 use circle_stage::circular_reference;
 use finish::{settle, strip};
 use refusals::Reason;
+use walk::Fault;
 
 // An index on the stack: the heads of the buckets, and room for few names, or for as many as a source can declare.
 const FEW: usize = 1024;
@@ -33,12 +34,14 @@ fn accept(
     ensures table_after { table.new ≡ table_past12 src.now table.old count }
 {
     settle(src, table, count, index, used);
-    if let Some(place) = circular_reference(table, count) {
-        return refuse(table, Reason::RuleInCircle, place);
+    match circular_reference(table, count) {
+        Some(place) => refuse(table, Reason::RuleInCircle, place),
+        None => {
+            strip(table, count);
+            let free = numbers::LIMIT - 1 - numbers::used_count(used);
+            Ok(Accepted { rows: count, free })
+        }
     }
-    strip(table, count);
-    let free = numbers::LIMIT - 1 - numbers::used_count(used);
-    Ok(Accepted { rows: count, free })
 }
 
 // Stages 7 to 12, and 14, and the finished rows, by an index of the declared names.

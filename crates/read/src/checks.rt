@@ -3,30 +3,24 @@ ghost use Rattle.std.specs.Prelude.{◌≡◌};
 ghost use Rattle.lex.specs.Tokens.{first_bad};
 ghost use Rattle.read.specs.Surveyed.{unless_bad, Surveyed};
 
-use crate::{Fault, refuse};
+use crate::refuse;
+use elements::noted::Noted;
 use refusals::Reason;
+use walk::Fault;
 
 // The longest source.
 const LONGEST: usize = 65536;
 
-// The number of a walk's refusal at a depth too many. Its others are the grammar's.
-const DEPTH: u64 = 4;
-
 // The fault of a walk, unless a token is bad. An accepted walk has met every token, so that none of them is bad.
-fn walk_fault(src: &[u8], number: u64, place: usize) -> Fault
-    ensures { result ≡ unless_bad (first_bad src.now) number place }
+fn unless_bad(src: &[u8], fault: Fault) -> Fault
+    ensures { result ≡ unless_bad (first_bad src.now) fault }
 {
-    let reason = if number == DEPTH {
-        Reason::TooDeep
-    } else {
-        Reason::Syntax
-    };
     match lex::first_bad(src) {
         Some(place) => Fault {
             reason: Reason::BadToken,
             place,
         },
-        None => Fault { reason, place },
+        None => fault,
     }
 }
 
@@ -37,17 +31,16 @@ pub fn survey(src: &[u8], table: &mut [u64]) -> Result<usize, Fault>
     if LONGEST < src.len() {
         return refuse(table, Reason::SourceTooLong, 0);
     }
-    let w = walk::walk(src, table);
-    if w.no != 0 {
-        return Err(walk_fault(src, w.no, w.place));
+    let walked = match walk::walk(src, table) {
+        Ok(walked) => walked,
+        Err(fault) => return Err(unless_bad(src, fault)),
+    };
+    let Noted { second, outside } = walked.noted;
+    if let Some(word) = second {
+        return refuse(table, Reason::SecondWord, word);
     }
-    let second = w.noted.second;
-    if second != 0 {
-        return refuse(table, Reason::SecondWord, second - 1);
+    if let Some(number) = outside {
+        return refuse(table, Reason::OutOfRange, number);
     }
-    let outside = w.noted.outside;
-    if outside != 0 {
-        return refuse(table, Reason::OutOfRange, outside - 1);
-    }
-    Ok(w.rows)
+    Ok(walked.rows)
 }

@@ -4,8 +4,8 @@ ghost use Rattle.rows.specs.Marks.{marked};
 ghost use Rattle.answers.specs.Drafts.{drafts_from};
 ghost use Rattle.read.specs.Faults.{stage_fault, first_fault_of, written_after};
 
-use crate::Fault;
 use refusals::Reason;
+use walk::Fault;
 
 // A stage's fault, at the place that it finds.
 fn stage(reason: Reason, found: Option<usize>) -> Result<(), Fault>

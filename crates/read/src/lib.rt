@@ -17,6 +17,7 @@ use crate::accept::finish;
 use crate::checks::survey;
 use refusals::Reason;
 use rows::whole_rows;
+use walk::Fault;
 
 // What an accepted source has: so many rows, and so many numbers that no question bears.
 #[derive(Clone, Copy, Debug, PartialEq, Eq)]
@@ -36,13 +37,6 @@ pub enum Refusal {
         column: usize,
     },
     TooFewRows(usize),
-}
-
-// What a stage refuses, and where.
-#[derive(Clone, Copy, Debug, PartialEq, Eq)]
-struct Fault {
-    reason: Reason,
-    place: usize,
 }
 
 // What the quick check counts places below.

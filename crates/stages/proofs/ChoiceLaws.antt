@@ -57,9 +57,6 @@ pub record Passing (t : List ℕ) (first n i : ℕ) : Type 0 where
   pub on : first ≤ i
   pub same : first + length (leading (drafts_from t first (n - first))) ≡ i + length (leading (drafts_from t i (n - i)))
 
-pub passing_start : (t : List ℕ) (first n : ℕ) → Passing t first n first
-passing_start t first n = record { on = omega arith; same = refl }
-
 module _ {t : List ℕ} {first n i : ℕ} (v : Passing t first n i) where
   stop : leading (drafts_from t i (n - i)) ≡ [] → i ≡ first + length (leading (drafts_from t first (n - first)))
   stop e = sym (v.same ∙ rw e (omega arith))

@@ -19,7 +19,7 @@ fn is_form(table: &[u64], count: usize, row: usize) -> bool
     row < count && cell(table, row, CODE) == codes::FORM
 }
 
-// The parent of a row of the first `count`; 0 of any other.
+// The parent of a row of the first `count`; past them the form set, row 0, as where no cell is.
 pub fn parent(table: &[u64], count: usize, row: usize) -> usize
     ensures { result ≡ cell column.PARENT (row_among (drafts_from table.now 0 count) row) }
 {

@@ -49,7 +49,7 @@ impl Found<'_> {
 
     // The ruleref in a row finds a rule: by its name, in the form that it stands in.
     fn rule(&self, row: usize) -> bool
-        ensures { result ≡ finds_rule self.now.src.now self.now.index.now (drafts_from self.now.table.now 0 self.now.count) (draft_at self.now.table.now row) }
+        ensures { let it = self.now in result ≡ finds_rule it.src.now it.index.now (drafts_from it.table.now 0 it.count) (draft_at it.table.now row) }
     {
         match find(self.src, self.index, own_mark(self.table, row), true) {
             Some(at) => parent(self.table, self.count, at)
@@ -60,7 +60,7 @@ impl Found<'_> {
 
     // The place of what a row names in vain.
     fn missing(&self, row: usize) -> Option<usize>
-        ensures { marked result ≡ reference_fault self.now.src.now self.now.index.now self.now.forms.now self.now.used.now (drafts_from self.now.table.now 0 self.now.count) (draft_at self.now.table.now row) }
+        ensures { let it = self.now in marked result ≡ reference_fault it.src.now it.index.now it.forms.now it.used.now (drafts_from it.table.now 0 it.count) (draft_at it.table.now row) }
     {
         match cell(self.table, row, CODE) {
             codes::GOTO if !self.form(row) => limit_mark(self.table, row),
@@ -72,6 +72,7 @@ impl Found<'_> {
 }
 
 // 11: a goto, questionref or ruleref that finds nothing.
+// Stays: six parameters; the one caller owns them one by one (`unfound(&Found { src, table, .. })` names as many).
 pub fn unfound(
     src: &[u8],
     table: &[u64],

@@ -5,10 +5,9 @@ use Rattle.std.specs.Prelude.{Option, Some, None, MatchOption, unwrap_or}
 use native.Mathlib.Numerals.{add-one}
 use native.Mathlib.Omega.{arith}
 use mathlib.Core.Path.{◌≡◌, refl, sym, ap, ◌∙◌}
-use mathlib.Core.Bool.{Bool, true, false, not, false≢true}
+use mathlib.Core.Bool.{true, false, false≢true}
 use mathlib.Core.List.{List, [], append-nil}
-use lib.ListN.{length, get_or}
-use borrow.Author.Tests.{not-true, not-false}
+use lib.ListN.{get_or}
 use Rattle.lexemes.proofs.Lists.{either_less}
 use Rattle.rows.specs.Codes as code
 use Rattle.rows.specs.Codes.{is_expression}
@@ -29,16 +28,6 @@ use Rattle.text.specs.Printing.{Opened, ItemsPrinted, TextPrinted}
 use Rattle.text.proofs.ExpressionLaws.{counts, counted_then}
 
 -- ---- the end of an expression's rows
-
--- what `find` finds of the rows from `from` on
-pub stretch_found : (t : List ℕ) (count from : ℕ) (r : Option ℕ)
-    → MatchOption r ((k : ℕ) → from ≤ k → k < count → is_expression (cell_at t k column.CODE) ≡ true)
-    (λ i. (from ≤ i) × (i < count) × (is_expression (cell_at t i column.CODE) ≡ false)
-    × ((k : ℕ) → from ≤ k → k < i → is_expression (cell_at t k column.CODE) ≡ true))
-    → Stretch t count from (unwrap_or r (max from count))
-stretch_found t count from (Some i) (up, inside, ends, parts) = record { up = up; within = parts; ends = λ h. ends; below = λ h. omega arith }
-stretch_found t count from None parts =
-    record { up = omega arith; within = λ k a b. parts k a (omega arith); ends = λ h. absurd (omega arith); below = λ h. omega arith }
 
 -- there is one end
 stretch_one : {t : List ℕ} {count i j k : ℕ} → i ≤ count → Stretch t count i j → Stretch t count i k → j ≡ k

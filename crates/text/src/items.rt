@@ -1,22 +1,13 @@
 // Statements from their rows: each with its expression, the statements in it and its end.
 ghost use Rattle.std.specs.Prelude.{◌<◌};
-ghost use Rattle.laid.specs.Laid.{Stretch};
 ghost use Rattle.text.specs.Printing.{Opened, ItemsPrinted, TextPrinted};
 
 use crate::expressions::put_expression;
+use laid::expression_end;
 use rows::columns::{CODE, PARENT};
 use rows::{cell, codes};
 use spellings::output::Output;
 use statements::{put_closing, put_expression_end, put_opening};
-
-// The first row from `from` on that is part of no expression.
-fn expression_end(table: &[u64], from: usize, count: usize) -> usize
-    ensures { Stretch table.now count from result }
-{
-    (from..count)
-        .find(|&row| !codes::is_expression(cell(table, row, CODE)))
-        .unwrap_or(from.max(count))
-}
 
 // A statement up to those in it; the row of the first of these.
 fn put_statement(out: &mut Output<'_>, table: &[u64], count: usize, row: usize) -> usize

@@ -1,8 +1,8 @@
 -- Items: statements without a condition, rules and conditions.
 -- Assumes nothing.
-use Prim.Native.Nat.{ℕ, suc, ◌-◌, ◌≤◌, ◌<◌}
+use Prim.Native.Nat.{ℕ, suc, ◌+◌, ◌-◌, ◌≤◌, ◌<◌}
 use mathlib.Core.Path.{◌≡◌, refl, ap, ◌∙◌}
-use mathlib.Core.Bool.{Bool, true, false, ◌&&◌}
+use mathlib.Core.Bool.{Bool, true, false}
 use mathlib.Core.List.{List, [], ◌∷◌, ◌++◌}
 use mathlib.Core.Option.{some}
 use mathlib.Core.Logic.{◌≢◌}
@@ -10,7 +10,7 @@ use native.Mathlib.Omega.{arith}
 use native.Mathlib.Numerals.{add-one}
 use lib.Dec.{eqb}
 use lib.ListN.{length, replicate}
-use borrow.Author.Tests.{eq-eqb, le-ltb}
+use borrow.Author.Tests.{eqb-true, ne_eqb, le-ltb}
 use Rattle.lex.specs.declared.Token as lex
 use Rattle.lexemes.specs.Classes as class
 use Rattle.lexemes.specs.Classes.{BAD}
@@ -38,10 +38,12 @@ use Rattle.elements.specs.Symbols.{symbols_of, phrase_symbols, NUMERIC, RULE_OPE
 use Rattle.fields.specs.Phrases.{kept, phrase_draft}
 use Rattle.fields.specs.Sizes.{first_oversized}
 use Rattle.fields.specs.Words.{word_codes, code_of, word_draft}
+use Rattle.elements.specs.declared.noted.Noted.{Noted}
 use Rattle.walk.specs.declared.State.{State}
+use Rattle.walk.specs.Standing.{Standing, going}
 use Rattle.walk.specs.Meanings.{◌⧺◌, kept_of, Counted, Under, Opening, Rowed, RuleRow, Worded, OperandRows, rows_own, rows_for}
 use Rattle.walk.specs.Starts.{item_words, starts_item, condition_words, is_condition}
-use Rattle.walk.specs.Walked.{Walked, Reads, Closes, closed, deep, list_of, condition_of, OpensCondition, WalkedUnder, ReadsUnder, ReadsOperand}
+use Rattle.walk.specs.Walked.{Walked, Reads, Takes, Closes, deep, list_of, condition_of, OpensCondition, WalkedUnder, ReadsUnder, ReadsOperand}
 use Rattle.walk.proofs.TreeLaws.{Faultless, faultless}
 use Rattle.walk.proofs.Walks.{Joins, walked_then, counted_joins, walked_off, with_noted, walked_noting, walked_node, counted_node, resume_in, deep_walked}
 use Rattle.walk.proofs.MeaningLaws.{under_joins, opening_joins, Content, content_under, opening_content, content_joins}
@@ -55,7 +57,7 @@ use Rattle.walk.proofs.ListSteps.{list_more, items_are, rules_are, ListLoop, lis
 -- ---- a numeric
 
 -- with its row, and the first of its numbers noted that does not fit its size
-abbrev pub sized_at : List ℕ → State → Cursor → List ℕ → State
+abbrev pub sized_at : List ℕ → Standing → Cursor → List ℕ → Standing
 sized_at s st c l = with_noted (rowed st c) (with_outside c.noted (first_oversized s (kept l)))
 
 numeric_enters :
@@ -64,19 +66,22 @@ numeric_enters :
 unfolding rules lookahead symbols_of phrase_symbols
 numeric_enters s d σ n k e = resume_in s d <item> σ n k item_numeric (plain (symbols_of NUMERIC)) (λ q. omega arith) (rw e) refl
 
-module _ {s : List ℕ} {parent : ℕ} {st : State} {l : List ℕ} {c : Cursor} (k : st.token.class ≡ class.«numeric»)
-    (p : Passed s (symbols_of NUMERIC) st.no st.token st.noted (replicate KEPT 0) c l) where
-  pub numeric_off : {t : List ℕ} → c.no ≢ 0 → ReadsUnder s (r <item> ∷ []) parent st (closed st c) t t
-  numeric_off h =
-      record {
-        walked = λ d o.
-            record {
-              verdict = λ σ. numeric_enters s d σ st.no st.token k ∙ p.verdict σ d o;
-              within = p.within;
-              got = λ q. absurd (h q);
-            };
-      }
+-- where its phrase is refused
+pub numeric_off :
+    {s : List ℕ} {parent : ℕ} {st r' : Standing} {l l' t : List ℕ}
+    → st.token.class ≡ class.«numeric» → Takes s NUMERIC st r' l l' → r'.no ≢ 0 → ReadsUnder s (r <item> ∷ []) parent st r' t t
+numeric_off {s} {st = st} k p h =
+    record {
+      walked = λ d o.
+          record {
+            verdict = λ σ. numeric_enters s d σ st.no st.token k ∙ p.passed.verdict σ d o;
+            within = p.passed.within;
+            got = λ q. absurd (h q);
+          };
+    }
 
+module _ {s : List ℕ} {parent : ℕ} {st : Standing} {l : List ℕ} {c : Cursor} (k : st.token.class ≡ class.«numeric»)
+    (p : Passed s (symbols_of NUMERIC) st.no st.token st.noted (replicate KEPT 0) c l) where
   pub numeric_on :
       {t t' : List ℕ}
       → c.no ≡ 0 → t' ≡ with_row t st.rows (encoded (phrase_draft (number_at s) st.token.class parent st.token.start (kept l)))
@@ -97,6 +102,15 @@ module _ {s : List ℕ} {parent : ℕ} {st : State} {l : List ℕ} {c : Cursor} 
             ((row_held s parent st refl p z e).walked d o);
       }
 
+-- a numeric whose phrase ends in the state o
+pub numeric_reads :
+    {s : List ℕ} {parent : ℕ} {st o : State} {n : Noted} {l t t' : List ℕ}
+    → st.token.class ≡ class.«numeric» → Takes s NUMERIC (going st) (going o) (replicate KEPT 0) l
+    → t' ≡ with_row t st.rows (encoded (phrase_draft (number_at s) st.token.class parent st.token.start (kept l)))
+    → n ≡ with_outside o.noted (first_oversized s (kept l))
+    → ReadsUnder s (r <item> ∷ []) parent (going st) (going (record { token = o.token; rows = st.rows + 1; rules = o.rules; noted = n })) t t'
+numeric_reads {st = st} k p e f = rw ((p.same refl).1, f) (numeric_on {st = going st} k p.passed refl e)
+
 -- ---- rules
 
 -- a rule's row, and those of its expression
@@ -109,7 +123,7 @@ rule_joins {n = n} f g ds es k l (fits_leaf {p = p} (fits_leaf {p = q} (fits_lea
     record { rows = λ g. rw (x.row, y.rows, ← spells, add-one n); some = rw x.row (omega arith); rules = rw (x.one, y.no_rules) }
 
 pub rule_walked :
-    {s : List ℕ} {d : Depth} {parent : ℕ} {st o e r' : State} {t₀ t₁ t₂ : List ℕ}
+    {s : List ℕ} {d : Depth} {parent : ℕ} {st o e r' : Standing} {t₀ t₁ t₂ : List ℕ}
     → too_deep d ≡ false → st.token.class ≡ class.«rule» → Reads s (symbols_of RULE_OPEN) (Counted (RuleRow s parent)) st o t₀ t₁
     → Walked s d (r <or> ∷ []) (Counted (OperandRows s st.rows)) o e t₁ t₂ → Closes s RULE_CLOSE e r'
     → WalkedUnder s d (r <rule> ∷ []) parent st r' t₀ t₂
@@ -189,7 +203,7 @@ condition_joins {s} {k} {parent} {at} {n} w f g ds es c l (fits_leaf {p = p} fit
     record { rows = λ g. rw (u.row, v.rows, ← spells) (w.own s parent at n p i x g); some = rw u.row (omega arith); rules = rw (u.no_rules, v.no_rules) }
 
 pub condition_opens :
-    {s : List ℕ} {parent : ℕ} {st o e r' : State} {t₀ t₁ t₂ : List ℕ}
+    {s : List ℕ} {parent : ℕ} {st o e r' : Standing} {t₀ t₁ t₂ : List ℕ}
     → is_condition st.token.class ≡ true → Reads s (t st.token.class ∷ []) (Counted (Worded s parent)) st o t₀ t₁
     → ReadsOperand s max_groups <or> st.rows o e t₁ t₂ → Closes s EXPRESSION_CLOSE e r' → OpensCondition s parent st r' t₀ t₂
 condition_opens {s} {parent} {st} {e = e} {r' = r'} {t₀ = t₀} {t₂ = t₂} is w v u =
@@ -201,10 +215,10 @@ condition_opens {s} {parent} {st} {e = e} {r' = r'} {t₀ = t₀} {t₂ = t₂} 
           walked_then (counted_joins (opening_joins s)) opened ((u.reads t₂).walked (depth c 0) fine);
     }
 
-module _ {s : List ℕ} {left parent : ℕ} {st : State} {t₀ : List ℕ} (is : is_condition st.token.class ≡ true) where
+module _ {s : List ℕ} {left parent : ℕ} {st : Standing} {t₀ : List ℕ} (is : is_condition st.token.class ≡ true) where
   -- from its word to its `endif ;`
   pub condition_walked :
-      {o i r' : State} {t₁ t₂ : List ℕ}
+      {o i r' : Standing} {t₁ t₂ : List ℕ}
       → left ≤ max_conditions → left ≢ 0 → OpensCondition s parent st o t₀ t₁
       → WalkedUnder s (depth (max_conditions - (left - 1)) 0) (r <item>* ∷ []) st.rows o i t₁ t₂ → Closes s CONDITION_CLOSE i r'
       → WalkedUnder s (depth (max_conditions - left) 0) (r <item> ∷ []) parent st r' t₀ t₂
@@ -249,7 +263,7 @@ conditions_fine left = rw (le-ltb 16 (16 - left) (omega arith))
 
 -- a rule stands in a form, where no condition is open
 pub rule_again :
-    {s : List ℕ} {left parent : ℕ} {in_form : Bool} {st₀ st c : State} {t₀ t₁ t₂ : List ℕ}
+    {s : List ℕ} {left parent : ℕ} {in_form : Bool} {st₀ st c : Standing} {t₀ t₁ t₂ : List ℕ}
     → in_form ≡ true → left ≡ max_conditions → st.token.class ≡ class.«rule»
     → ListLoop s (λ d. d ≡ depth (max_conditions - left) 0) (list_of in_form) parent t₀ st₀ t₁ st → length t₂ ≡ length t₁
     → WalkedUnder s (depth 0 0) (r <rule> ∷ []) parent st c t₁ t₂
@@ -264,5 +278,13 @@ rule_again {s} {left} {parent} {in_form} {st₀} {st} {c} {t₀} {t₁} {t₂} f
     by true f x e w = list_again (depth (max_conditions - left) 0) refl x rules_are (rw k) (λ q. omega arith) e (λ d o. rw (o, l) w)
     by false f x e w = clash cc
 
-pub not_both : {in_form : Bool} {k : ℕ} → in_form && eqb k class.«rule» ≡ false → in_form ≡ true → k ≢ class.«rule»
-not_both {in_form} {k} h f e = clash (let w : eqb k class.«rule» ≡ true = eq-eqb k class.«rule» e in let v : in_form && eqb k class.«rule» ≡ true = rw (f, w) in cc)
+-- in a condition no rule stands
+pub inner_items :
+    {s : List ℕ} {left parent : ℕ} {d : Depth} {st r' : Standing} {t₀ t₁ : List ℕ}
+    → left ≤ max_conditions → left ≢ 0 → WalkedUnder s d (r (list_of (eqb (left - 1) max_conditions)) ∷ []) parent st r' t₀ t₁
+    → WalkedUnder s d (r <item>* ∷ []) parent st r' t₀ t₁
+inner_items {left = left} l n w = rw (ne_eqb (left - 1) max_conditions (λ q. absurd (omega arith))) at w
+
+-- a token that starts no item, and in a form no rule
+pub no_rule_here : {left k : ℕ} → (left ≡ max_conditions → k ≢ class.«rule») → eqb left max_conditions ≡ true → k ≢ class.«rule»
+no_rule_here {left} h e = h (eqb-true left max_conditions e)

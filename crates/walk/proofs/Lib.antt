@@ -1,6 +1,7 @@
 mod TreeLaws
 mod Walks
 mod MeaningLaws
+mod Numbers
 mod PhraseSteps
 mod Kept
 mod Numerics

@@ -19,7 +19,7 @@ use Rattle.grammar.specs.Notation.{r, plain}
 use Rattle.grammar.specs.Lookahead.{lookahead}
 use Rattle.grammar.specs.Rules.{<rule>, <item>, <option>, <option>*, <form>, <form>*, <item_or_rule>*, <item>*}
 use Rattle.grammar.specs.Ranges.{range_of}
-use Rattle.walk.specs.declared.State.{State}
+use Rattle.walk.specs.Standing.{Standing}
 use Rattle.walk.specs.Meanings.{Counted, Under, rows_own}
 use Rattle.walk.specs.Starts.{item_words, condition_words, is_condition, starts_item}
 use Rattle.walk.specs.Walked.{Room, list_of, WalkedUnder}
@@ -45,7 +45,7 @@ pub record ListOf (L i A : ℕ) : Type 0 where
 
 module _ {s : List ℕ} {d : Depth} {L parent : ℕ} where
   pub list_more :
-      {i A : ℕ} {st c r' : State} {t₀ t₁ t₂ : List ℕ}
+      {i A : ℕ} {st c r' : Standing} {t₀ t₁ t₂ : List ℕ}
       → ListOf L i A → predict lookahead L st.token.class ≡ some i → st.token.class ≢ END → WalkedUnder s d (r A ∷ []) parent st c t₀ t₁
       → WalkedUnder s d (r L ∷ []) parent c r' t₁ t₂ → WalkedUnder s d (r L ∷ []) parent st r' t₀ t₂
   list_more {i} {A} {st} l p q w v =
@@ -56,7 +56,7 @@ module _ {s : List ℕ} {d : Depth} {L parent : ℕ} where
       (walked_then (counted_joins (under_joins s)) w v)
 
   pub list_none :
-      {st : State} {t₀ : List ℕ}
+      {st : Standing} {t₀ : List ℕ}
       → ListRule L → predict lookahead L st.token.class ≡ none → WalkedUnder s d (r L ∷ []) parent st st t₀ t₀
   list_none {st} k p =
       walked_node 0 {M = Counted (Under s parent)} k.empty (k.no_faults 0)
@@ -181,15 +181,15 @@ items_end false k a b c = tells_none (entry_of lookahead <item>*).firsts k (none
 -- ---- the loop over a list
 
 -- whoever ends the list from here ends it from its start, at each depth of D
-pub record ListLoop (s : List ℕ) (D : Depth → Type 0) (L parent : ℕ) (t₀ : List ℕ) (st₀ : State) (t₁ : List ℕ) (st : State) : Type 0 where
+pub record ListLoop (s : List ℕ) (D : Depth → Type 0) (L parent : ℕ) (t₀ : List ℕ) (st₀ : Standing) (t₁ : List ℕ) (st : Standing) : Type 0 where
   pub len : length t₁ ≡ length t₀
   pub room : Room s st
   pub rest :
-      (r' : State) (t₂ : List ℕ)
+      (r' : Standing) (t₂ : List ℕ)
       → ((d : Depth) → D d → WalkedUnder s d (r L ∷ []) parent st r' t₁ t₂) → (d : Depth) → D d → WalkedUnder s d (r L ∷ []) parent st₀ r' t₀ t₂
 
 pub list_again :
-    {s : List ℕ} {D : Depth → Type 0} {L i A parent : ℕ} {st₀ st c : State} {t₀ t₁ t₂ : List ℕ} (d : Depth)
+    {s : List ℕ} {D : Depth → Type 0} {L i A parent : ℕ} {st₀ st c : Standing} {t₀ t₁ t₂ : List ℕ} (d : Depth)
     → D d → ListLoop s D L parent t₀ st₀ t₁ st → ListOf L i A → predict lookahead L st.token.class ≡ some i → st.token.class ≢ END
     → length t₂ ≡ length t₁ → ((d : Depth) → D d → WalkedUnder s d (r A ∷ []) parent st c t₁ t₂) → ListLoop s D L parent t₀ st₀ t₂ c
 list_again d o x l p q e w = record { len = e ∙ x.len; room = room_after x.room (w d o); rest = λ r' t₃ v. x.rest r' t₃ (λ d o. list_more l p q (w d o) (v d o)) }
@@ -214,7 +214,7 @@ forms_end {k} h = tells_none (entry_of lookahead <form>*).firsts k (member_not k
 
 -- the first, and the others
 pub list_whole :
-    {s : List ℕ} {d : Depth} {A L parent : ℕ} {st c r' : State} {t₀ t₁ t₂ : List ℕ}
+    {s : List ℕ} {d : Depth} {A L parent : ℕ} {st c r' : Standing} {t₀ t₁ t₂ : List ℕ}
     → WalkedUnder s d (r A ∷ []) parent st c t₀ t₁ → WalkedUnder s d (r L ∷ []) parent c r' t₁ t₂
     → WalkedUnder s d (r A ∷ r L ∷ []) parent st r' t₀ t₂
 list_whole {s} w v = walked_then (counted_joins (under_joins s)) w v

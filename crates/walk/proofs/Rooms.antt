@@ -20,18 +20,18 @@ use Rattle.answers.specs.Rows.{Draft}
 use Rattle.grammar.proofs.Theorems.{grammar_ll1}
 use Rattle.phrases.specs.Stream.{stream}
 use Rattle.phrases.proofs.Streams.{stream_on, within_at}
-use Rattle.walk.specs.declared.State.{State}
+use Rattle.walk.specs.Standing.{Standing}
 use Rattle.walk.specs.Meanings.{Meaning, Counted}
 use Rattle.walk.specs.Walked.{Room, Tree, Walked, passed}
 
 -- the tokens of a tree are those that were passed
 pub tokens_passed :
-    {s : List ℕ} {α : List Symbol} {M : Meaning} {st r : State} {t t' : List ℕ} (x : Tree s α M st r t t')
+    {s : List ℕ} {α : List Symbol} {M : Meaning} {st r : Standing} {t t' : List ℕ} (x : Tree s α M st r t t')
     → length (leaves x.trees) + length (stream s r.token) ≡ length (stream s st.token)
 tokens_passed {s} {r = r} x = sym (length-append (leaves x.trees) (stream s r.token)) ∙ ap length x.reads
 
 pub room_by :
-    {s : List ℕ} {d : Depth} {α : List Symbol} {M : Meaning} {st r : State} {t t' : List ℕ}
+    {s : List ℕ} {d : Depth} {α : List Symbol} {M : Meaning} {st r : Standing} {t t' : List ℕ}
     → ((f : Trees) (ds : List Draft) (k : ℕ) → M st.rows st.rules f ds k → (length ds ≤ length (leaves f)) × (k ≤ length ds)) → Room s st
     → Walked s d α M st r t t' → Room s r
 room_by {s} {st = st} {r = r} few m w =
@@ -51,11 +51,11 @@ room_by {s} {st = st} {r = r} few m w =
     }
 
 pub room_after :
-    {s : List ℕ} {d : Depth} {α : List Symbol} {M : Meaning} {st r : State} {t t' : List ℕ}
+    {s : List ℕ} {d : Depth} {α : List Symbol} {M : Meaning} {st r : Standing} {t t' : List ℕ}
     → Room s st → Walked s d α (Counted M) st r t t' → Room s r
 room_after m w = room_by (λ f ds k x. (x.few, x.fewer)) m w
 
-pub room_passed : {s : List ℕ} {st : State} → Room s st → st.no ≡ 0 → st.token.class < BAD → Room s (passed s st)
+pub room_passed : {s : List ℕ} {st : Standing} → Room s st → st.no ≡ 0 → st.token.class < BAD → Room s (passed s st)
 room_passed {s} {st} m z l =
     record {
       within = within_at s st.token.end;
@@ -69,7 +69,7 @@ room_passed {s} {st} m z l =
 -- ---- the measure of a loop
 
 -- what is left to read, and one more while nothing is refused
-unfoldable pub ahead : List ℕ → State → ℕ
+unfoldable pub ahead : List ℕ → Standing → ℕ
 ahead s st = cond (eqb st.no 0) (suc (length (stream s st.token))) 0
 
 pub some_leaf : {α : List Symbol} {f : Trees} → all_nullable rules α ≡ false → Fits rules α f → 0 < length (leaves f)
@@ -80,7 +80,7 @@ some_leaf {α} {f} n h = by (leaves f) refl
     by (x ∷ l) q = omega arith
 
 pub ahead_le :
-    {s : List ℕ} {d : Depth} {α : List Symbol} {M : Meaning} {st r : State} {t t' : List ℕ}
+    {s : List ℕ} {d : Depth} {α : List Symbol} {M : Meaning} {st r : Standing} {t t' : List ℕ}
     → Walked s d α M st r t t' → ahead s r ≤ ahead s st
 unfolding ahead
 ahead_le {s} {st = st} {r = r} w = by (ℕ_discrete r.no 0)
@@ -92,12 +92,12 @@ ahead_le {s} {st = st} {r = r} w = by (ℕ_discrete r.no 0)
         let a = tokens_passed x in
         rw (eq-eqb _ _ q, eq-eqb _ _ x.before) (omega arith)
 
-pub ahead_passed : (s : List ℕ) (st : State) {p : State} → st.no ≡ 0 → st.token.class < BAD → p ≡ passed s st → ahead s p < ahead s st
+pub ahead_passed : (s : List ℕ) (st : Standing) {p : Standing} → st.no ≡ 0 → st.token.class < BAD → p ≡ passed s st → ahead s p < ahead s st
 unfolding ahead
 ahead_passed s st z l e = let a = ap length (stream_on s st.token l) in rw (e, eq-eqb _ _ z) (omega arith)
 
 pub ahead_less :
-    {s : List ℕ} {d : Depth} {α : List Symbol} {M : Meaning} {st r : State} {t t' : List ℕ}
+    {s : List ℕ} {d : Depth} {α : List Symbol} {M : Meaning} {st r : Standing} {t t' : List ℕ}
     → all_nullable rules α ≡ false → st.no ≡ 0 → Walked s d α M st r t t' → ahead s r < ahead s st
 unfolding ahead
 ahead_less {s} {st = st} {r = r} n z w = rw (eq-eqb _ _ z) (by (ℕ_discrete r.no 0))

@@ -42,15 +42,17 @@ use Rattle.phrases.specs.Passed.{Passed}
 use Rattle.elements.specs.Symbols.{symbols_of, phrase_symbols, title_and_help, FORM_SET_OPEN, FORM_SET_BRACED, FORM_SET_PLAIN}
 use Rattle.phrases.proofs.Streams.{within_at}
 use Rattle.elements.proofs.MarkLaws.{noting_append}
-use Rattle.phrases.proofs.Resume.{resume_like}
+use Rattle.phrases.proofs.Resume.{resume_like, resume_off}
 use Rattle.grammar.proofs.Equations.{verdict_take, verdict_deep, verdict_miss, verdict_ends, verdict_open}
 use Rattle.elements.proofs.TreeLaws.{entries_node, faults_node}
 use Rattle.fields.specs.Phrases.{kept, marked_value, form_set_draft}
 use Rattle.walk.specs.declared.State.{State}
+use Rattle.walk.specs.declared.Halt.{Halt}
+use Rattle.walk.specs.Standing.{Standing, going, halted, cursor}
 use Rattle.walk.specs.Meanings.{◌⧺◌, first_place, kept_of, Counted, Opening, rows_own}
-use Rattle.walk.specs.Walked.{Walked, starting, set_open, OpensSet}
+use Rattle.walk.specs.Walked.{TakesSymbols, Takes, Walked, starting, set_open, OpensSet}
 use Rattle.walk.proofs.TreeLaws.{leaves_beside, fits_beside, faults_beside, Faultless, faultless}
-use Rattle.walk.proofs.Walks.{resume_enter}
+use Rattle.walk.proofs.Walks.{resume_enter, halts}
 use Rattle.walk.proofs.PhraseSteps.{heads, kept_entries}
 use Rattle.walk.proofs.Kept.{only_way, either_way, H8_keeps, H4_keeps, H2_keeps, str_keeps}
 use Rattle.walk.proofs.StatementSteps.{Told}
@@ -269,10 +271,10 @@ first_place_lem b (fits_leaf h) = refl
 
 -- ---- the opening as it is read
 
-abbrev stopped : Cursor → State
+abbrev stopped : Cursor → Standing
 stopped c = record { no = c.no; token = c.token; rows = 0; rules = 0; noted = c.noted }
 
-abbrev begun : Cursor → State
+abbrev begun : Cursor → Standing
 begun c = record { no = 0; token = c.token; rows = 1; rules = 0; noted = c.noted }
 
 module _ {s : List ℕ} {k : lex.Token} {c e : Cursor} {high low : List ℕ}
@@ -375,3 +377,34 @@ module _ {s : List ℕ} {k : lex.Token} {was : Noted} {c e : Cursor} {high low :
       {cells x x' : List ℕ}
       → e.no ≡ 0 → cells ≡ encoded (form_set_draft (number_at s) k.start (kept high) (kept low)) → x' ≡ with_row x 0 cells → OpensSet s (begun e) x x'
   set_opens_on {x = x} z a b = record { walked = rw f at (set_on (rw nothing at p) q z (b ∙ ap (with_row x 0) a)) }
+
+-- ---- the same, of the states of a walk
+
+module _ {s : List ℕ} {st r' : Standing} {l l' : List ℕ} where
+  pub braced_takes : st.token.class ≡ open_brace → Takes s FORM_SET_BRACED st r' l l' → TakesSymbols s (r <guid_end> ∷ title_and_help) st r' l l'
+  braced_takes e x = record { passed = braced_passed e x.passed; same = x.same }
+
+  pub plain_takes : st.token.class ≢ open_brace → Takes s FORM_SET_PLAIN st r' l l' → TakesSymbols s (r <guid_end> ∷ title_and_help) st r' l l'
+  plain_takes e x = record { passed = plain_passed e x.passed; same = x.same }
+
+-- a refusal is handed on
+pub takes_off : {s : List ℕ} (α : List Symbol) {st : Standing} {l : List ℕ} → st.no ≢ 0 → TakesSymbols s α st st l l
+takes_off {s} α {st} h =
+    record {
+      passed = record { verdict = λ σ d o. resume_off s (due_all d α ++ σ) σ st.no st.token h; got = λ q. absurd (h q); within = λ w. w };
+      same = λ q. absurd (h q);
+    }
+
+module _ {s : List ℕ} {st c : Standing} {high low : List ℕ} (z : st.no ≡ 0) (f : st.token ≡ token_at s 0) (nothing : st.noted ≡ nothing_noted)
+    (p : Takes s FORM_SET_OPEN st c (replicate KEPT 0) high) where
+  -- refused in one of the two phrases
+  pub opens_off : (e : Halt) {x : List ℕ} → TakesSymbols s (r <guid_end> ∷ title_and_help) c (halted e) (replicate KEPT 0) low → OpensSet s (halted e) x x
+  opens_off e {x} q = set_opens_off {e = cursor (halted e)} f nothing (rw z at p.passed) q.passed {x = x} (halts e)
+
+  -- with the row of the form set
+  pub opens_on :
+      (o : State) {cells x x' : List ℕ}
+      → st.rules ≡ 0 → c.no ≡ 0 → TakesSymbols s (r <guid_end> ∷ title_and_help) c (going o) (replicate KEPT 0) low
+      → cells ≡ encoded (form_set_draft (number_at s) st.token.start (kept high) (kept low)) → x' ≡ with_row x 0 cells
+      → OpensSet s (going (record { token = o.token; rows = 1; rules = o.rules; noted = o.noted })) x x'
+  opens_on o m y q a b = rw ((q.same refl).1, (p.same y).1, m) (set_opens_on {e = cursor (going o)} f nothing (rw z at p.passed) q.passed refl a b)

@@ -5,7 +5,7 @@ use mathlib.Core.Path.{◌≡◌, refl}
 use mathlib.Core.Bool.{true, false}
 use mathlib.Core.List.{List, [], ◌∷◌, ◌++◌}
 use mathlib.Core.Option.{none, some}
-use mathlib.Core.Logic.{◌⊎◌, inl}
+use mathlib.Core.Logic.{◌⊎◌, inl, ◌≢◌}
 use lib.Dec.{eqb}
 use Rattle.lexemes.specs.Classes as class
 use Rattle.ll1.specs.Trees.{Trees, Symbol, alternative_of, Fits, Depth}
@@ -18,11 +18,11 @@ use Rattle.grammar.specs.Rules.{<rule>, <item>, <option>, <option>*, <form>, <it
 use Rattle.grammar.specs.Derivation.{too_deep}
 use Rattle.grammar.specs.Ranges.{range_of}
 use Rattle.elements.specs.Symbols.{symbols_of, phrase_symbols, SUBTITLE, TEXT, LABEL, GOTO, CHECKBOX, ONE_OF_OPEN, ONE_OF_CLOSE, OPTION, FORM_OPEN, FORM_CLOSE}
-use Rattle.walk.specs.declared.State.{State}
-use Rattle.walk.specs.Meanings.{Counted, Opening}
+use Rattle.walk.specs.Standing.{Standing}
+use Rattle.walk.specs.Meanings.{Counted, Silent, Opening}
 use Rattle.walk.specs.Walked.{Walked, Closes, WalkedUnder, ReadsUnder, ReadsRow}
 use Rattle.walk.proofs.TreeLaws.{Faultless, faultless, quiet}
-use Rattle.walk.proofs.Walks.{walked_then, counted_joins, walked_as, counted_as, walked_nil, walked_node, counted_node, resume_enter}
+use Rattle.walk.proofs.Walks.{walked_then, counted_joins, walked_as, counted_as, walked_off, walked_nil, walked_node, counted_node, resume_enter}
 use Rattle.walk.proofs.MeaningLaws.{silent_under, under_joins, Content, content_under, content_joins}
 use Rattle.walk.proofs.Statements.{Makes, makes_opening, subtitle_row, text_row, label_row, goto_row, checkbox_row, one_of_row, option_row, form_row}
 
@@ -40,7 +40,7 @@ pub record Statement (p A i k : ℕ) (β : List Symbol) : Type 0 where
 abbrev pub Told : ℕ → ℕ → ℕ → Type 0
 Told A i k = (predict lookahead A k ≡ some i) ⊎ (predict lookahead A k ≡ none)
 
-module _ {s : List ℕ} {d : Depth} {p A i k : ℕ} {β : List Symbol} {parent : ℕ} {st o r' : State} {t₀ t₁ t₂ : List ℕ} (is : Statement p A i k β) (told : Told A i st.token.class) (fine : too_deep d ≡ false) where
+module _ {s : List ℕ} {d : Depth} {p A i k : ℕ} {β : List Symbol} {parent : ℕ} {st o r' : Standing} {t₀ t₁ t₂ : List ℕ} (is : Statement p A i k β) (told : Told A i st.token.class) (fine : too_deep d ≡ false) where
   pub statement_walked : ReadsRow s p parent st o t₀ t₁ → WalkedUnder s d β st.rows o r' t₁ t₂ → WalkedUnder s d (r A ∷ []) parent st r' t₀ t₂
   statement_walked w v =
       let opening : Walked s d (symbols_of p) (Counted (Opening s A i parent)) st o t₀ t₁ = walked_as (λ f ds k h m. counted_as (makes_opening s parent st.rows st.rules is.no_rule (is.makes s parent st.rows st.rules f h)) m) (w.walked d fine) in
@@ -158,14 +158,14 @@ form_is =
 
 -- nothing stands under it
 pub flat_reads :
-    {s : List ℕ} {p A i k : ℕ} {parent : ℕ} {st o : State} {t₀ t₁ : List ℕ}
+    {s : List ℕ} {p A i k : ℕ} {parent : ℕ} {st o : Standing} {t₀ t₁ : List ℕ}
     → Statement p A i k [] → Told A i st.token.class → ReadsRow s p parent st o t₀ t₁ → ReadsUnder s (r A ∷ []) parent st o t₀ t₁
 flat_reads {s} {st = st} is told w =
     record { walked = λ d fine. statement_walked is told fine w (walked_as (λ f ds k h m. counted_as (silent_under s st.rows refl h) m) (walked_nil s d)) }
 
 -- an item that its word tells
 pub item_reads :
-    {s : List ℕ} {p i k : ℕ} {parent : ℕ} {st o : State} {t₀ t₁ : List ℕ}
+    {s : List ℕ} {p i k : ℕ} {parent : ℕ} {st o : Standing} {t₀ t₁ : List ℕ}
     → Statement p <item> i k [] → st.token.class ≡ k → ReadsRow s p parent st o t₀ t₁ → ReadsUnder s (r <item> ∷ []) parent st o t₀ t₁
 item_reads is c w = flat_reads is (inl (rw c is.tells)) w
 
@@ -181,14 +181,18 @@ form_told k = find_one (class.«form» ∷ []) k
 
 -- a phrase without a row, after rows under which it stands
 pub closes_under :
-    {s : List ℕ} {p parent : ℕ} {d : Depth} {st r' : State} {t₀ : List ℕ}
+    {s : List ℕ} {p parent : ℕ} {d : Depth} {st r' : Standing} {t₀ : List ℕ}
     → quiet (symbols_of p) ≡ true → too_deep d ≡ false → Closes s p st r' → WalkedUnder s d (symbols_of p) parent st r' t₀ t₀
 closes_under {s} {parent = parent} {d = d} {t₀ = t₀} q o w = walked_as (λ f ds k h m. counted_as (silent_under s parent q h) m) ((w.reads t₀).walked d o)
+
+-- a refusal is handed on
+pub closes_off : {s : List ℕ} (p : ℕ) {st : Standing} → st.no ≢ 0 → Closes s p st st
+closes_off p h = record { reads = λ t. record { walked = λ d o. walked_off (symbols_of p) (Counted Silent) h } }
 
 -- ---- a oneof and a form, from their opening to their end
 
 pub one_of_reads :
-    {s : List ℕ} {parent : ℕ} {st o a r' : State} {t₀ t₁ t₂ : List ℕ}
+    {s : List ℕ} {parent : ℕ} {st o a r' : Standing} {t₀ t₁ t₂ : List ℕ}
     → st.token.class ≡ class.«oneof» → ReadsRow s ONE_OF_OPEN parent st o t₀ t₁ → ReadsUnder s (r <option> ∷ r <option>* ∷ []) st.rows o a t₁ t₂
     → Closes s ONE_OF_CLOSE a r' → ReadsUnder s (r <item> ∷ []) parent st r' t₀ t₂
 unfolding symbols_of phrase_symbols
@@ -199,7 +203,7 @@ one_of_reads {s} {o = o} {r' = r'} {t₁ = t₁} {t₂ = t₂} c w v u =
     }
 
 pub form_walked :
-    {s : List ℕ} {d : Depth} {parent : ℕ} {st o a r' : State} {t₀ t₁ t₂ : List ℕ}
+    {s : List ℕ} {d : Depth} {parent : ℕ} {st o a r' : Standing} {t₀ t₁ t₂ : List ℕ}
     → too_deep d ≡ false → ReadsRow s FORM_OPEN parent st o t₀ t₁ → WalkedUnder s d (r <item_or_rule>* ∷ []) st.rows o a t₁ t₂ → Closes s FORM_CLOSE a r'
     → WalkedUnder s d (r <form> ∷ []) parent st r' t₀ t₂
 unfolding symbols_of phrase_symbols

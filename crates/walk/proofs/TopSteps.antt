@@ -2,12 +2,14 @@
 -- Assumes nothing.
 use Prim.Native.Nat.{ℕ, ◌≤◌}
 use mathlib.Core.Path.{◌≡◌, refl, sym, ap, ◌∙◌}
+use mathlib.Core.Bool.{true, false}
 use mathlib.Core.List.{List, [], ◌∷◌, ◌++◌, append-nil}
 use mathlib.Core.Logic.{◌≢◌}
 use native.Mathlib.Omega.{arith}
 use native.Mathlib.Decide.{ℕ_discrete}
 use lib.ListN.{length}
 use borrow.Author.Tests.{eq-eqb, ne_eqb}
+use Rattle.std.proofs.Common.{Result, Ok, Err, is_err}
 use Rattle.lex.specs.declared.Token as lex
 use Rattle.lexemes.specs.Classes as class
 use Rattle.lexemes.specs.Classes.{END}
@@ -15,6 +17,7 @@ use Rattle.lex.specs.Tokens.{token_at}
 use Rattle.ll1.specs.Trees.{leaves, depth}
 use Rattle.ll1.specs.Verdict.{accepted, ends_early, refused}
 use Rattle.ll1.specs.Machine.{due}
+use Rattle.ll1.proofs.Basics.{clash}
 use Rattle.ll1.proofs.Lookups.{find_one}
 use Rattle.grammar.specs.Grammar.{rules}
 use Rattle.grammar.specs.Notation.{r, plain}
@@ -25,6 +28,7 @@ use Rattle.grammar.specs.Source.{source_tokens}
 use Rattle.grammar.specs.Ranges.{range_of}
 use Rattle.answers.specs.Answer.{drafts}
 use Rattle.phrases.specs.Stream.{stream, refusal, resume}
+use Rattle.rows.specs.Marks.{marked}
 use Rattle.elements.specs.Marks.{nothing_noted}
 use Rattle.elements.proofs.MarkLaws.{second_noted, outside_noted}
 use Rattle.elements.specs.declared.noted.Noted.{Noted}
@@ -34,16 +38,18 @@ use Rattle.phrases.proofs.Resume.{resume_on, resume_no}
 use Rattle.grammar.proofs.Equations.{verdict_all, verdict_extra}
 use Rattle.rows.specs.Table.{cleared}
 use Rattle.rows.proofs.ClearLaws.{cleared_whole}
-use Rattle.walk.specs.declared.State.{State}
-use Rattle.walk.specs.declared.Outcome.{Outcome}
+use Rattle.walk.specs.Standing.{Standing}
 use Rattle.walk.specs.Meanings.{Counted, Opening, rows_in}
-use Rattle.walk.specs.Walked.{Room, Walked, Closes, starting, set_open, WalkedUnder}
-use Rattle.walk.specs.Whole.{refusal_number, refusal_place, WalkedWhole, Walks, refusing, ended}
+use Rattle.walk.specs.Walked.{Room, Walked, Closes, starting, set_open, WalkedUnder, OpensSet, WalksSource}
+use Rattle.refusals.proofs.Bounds.{number_bounds}
+use Rattle.walk.specs.declared.Totals.{Totals}
+use Rattle.walk.specs.declared.Fault.{Fault}
+use Rattle.walk.specs.Whole.{Outcome, outcome, refusing, refusal_number, refusal_place, WalkedWhole, Walks, ended}
 use Rattle.walk.proofs.TreeLaws.{faultless}
 use Rattle.walk.proofs.Walks.{walked_then, counted_joins, walked_node, counted_node, resume_enter}
 use Rattle.walk.proofs.MeaningLaws.{under_joins, Content, content_under, content_joins}
 use Rattle.walk.proofs.StatementSteps.{Told, closes_under}
-use Rattle.walk.proofs.Rooms.{some_leaf, tokens_passed}
+use Rattle.walk.proofs.Rooms.{some_leaf, tokens_passed, room_after}
 
 -- ---- the whole source
 
@@ -52,7 +58,7 @@ unfolding lookahead
 source_told k = find_one (class.«formset» ∷ []) k
 
 pub source_walked :
-    {s : List ℕ} {k : lex.Token} {o a r' : State} {t₀ t₁ t₂ : List ℕ}
+    {s : List ℕ} {k : lex.Token} {o a r' : Standing} {t₀ t₁ t₂ : List ℕ}
     → Walked s (depth 0 0) set_open (Counted (Opening s <source> 0 0)) (starting k) o t₀ t₁
     → WalkedUnder s (depth 0 0) (r <form> ∷ r <form>* ∷ []) 0 o a t₁ t₂ → Closes s FORM_SET_CLOSE a r'
     → WalkedUnder s (depth 0 0) (r <source> ∷ []) 0 (starting k) r' t₀ t₂
@@ -71,7 +77,7 @@ pub start_room : (s : List ℕ) (k : lex.Token) → k ≡ token_at s 0 → Room 
 start_room s k e = rw e (record { within = within_at s 0; rows = λ q. let h = stream_few s 0 in omega arith; rules = λ q. omega arith })
 
 -- the last phrase has no row, so there are fewer rows than tokens
-pub rows_few : {s : List ℕ} {a r' : State} → Room s a → Closes s FORM_SET_CLOSE a r' → r'.no ≡ 0 → r'.rows ≤ length s
+pub rows_few : {s : List ℕ} {a r' : Standing} → Room s a → Closes s FORM_SET_CLOSE a r' → r'.no ≡ 0 → r'.rows ≤ length s
 unfolding symbols_of phrase_symbols
 rows_few m w q =
     let x = ((w.reads []).walked (depth 0 0) refl).got q in
@@ -79,6 +85,12 @@ rows_few m w q =
     let b = some_leaf refl x.fits in
     let c = tokens_passed x in
     rw (x.rows, x.means.means.no_rows) (omega arith)
+
+-- the opening, the forms and the end
+pub walks_source :
+    {s : List ℕ} {o a r' : Standing} {t₀ t₁ t₂ : List ℕ}
+    → OpensSet s o t₀ t₁ → WalkedUnder s (depth 0 0) (r <form> ∷ r <form>* ∷ []) 0 o a t₁ t₂ → Closes s FORM_SET_CLOSE a r' → WalksSource s r' t₀ t₂
+walks_source w v u = record { walked = source_walked w.walked v u; few = rows_few (room_after (room_after (start_room _ _ refl) w.walked) v) u }
 
 -- ---- what it ends with
 
@@ -89,7 +101,7 @@ record Ends (s : List ℕ) (r : Outcome) (t t' : List ℕ) : Type 0 where
   nothing : r.no ≢ 0 → (r.rows ≡ 0) × (r.rules ≡ 0) × (r.noted ≡ nothing_noted)
   derived : r.no ≡ 0 → WalkedWhole s r t t'
 
-module _ {s : List ℕ} {k : lex.Token} {r' : State} {t₀ t₁ : List ℕ} (e : k ≡ token_at s 0) (w : WalkedUnder s (depth 0 0) (r <source> ∷ []) 0 (starting k) r' t₀ t₁) (few : r'.no ≡ 0 → r'.rows ≤ length s) where
+module _ {s : List ℕ} {k : lex.Token} {r' : Standing} {t₀ t₁ : List ℕ} (e : k ≡ token_at s 0) (w : WalkedUnder s (depth 0 0) (r <source> ∷ []) 0 (starting k) r' t₀ t₁) (few : r'.no ≡ 0 → r'.rows ≤ length s) where
   begins : verdict (source_tokens s) ≡ resume s [] r'.no r'.token
   begins = rw (← stream_source s, ← e) (sym (resume_on s (due (depth 0 0) (r <source>) ∷ []) 0 k refl) ∙ w.verdict [])
 
@@ -112,8 +124,8 @@ module _ {s : List ℕ} {k : lex.Token} {r' : State} {t₀ t₁ : List ℕ} (e :
         table = x.table ∙ rw m.rows;
         rows = x.rows ∙ rw m.rows (omega arith);
         rules = x.counted ∙ rw m.rules (omega arith);
-        second = ap (λ (n : Noted). n.second) x.noted ∙ second_noted s x.trees;
-        outside = ap (λ (n : Noted). n.outside) x.noted ∙ outside_noted s x.trees;
+        second = ap (λ (n : Noted). marked n.second) x.noted ∙ second_noted s x.trees;
+        outside = ap (λ (n : Noted). marked n.outside) x.noted ∙ outside_noted s x.trees;
         few = few z;
       }
 
@@ -152,3 +164,12 @@ module _ {s : List ℕ} {k : lex.Token} {r' : State} {t₀ t₁ : List ℕ} (e :
     pub walk_accepts : o.no ≡ 0 → Walks s o t₀ t₁
     walk_accepts h =
         rw f (record { number = ends.number; place = ends.place; nothing = ends.nothing; zeros = λ q. absurd (q (rw f at h)); derived = ends.derived })
+
+-- an error has a number, and what is found has none
+pub fault_number : (x : Result Totals Fault) → is_err x ≡ true → (outcome x).no ≢ 0
+fault_number (Ok w) e = clash cc
+fault_number (Err f) e = λ q. let n = (number_bounds f.reason).0 in absurd (omega arith)
+
+pub found_number : (x : Result Totals Fault) → is_err x ≡ false → (outcome x).no ≡ 0
+found_number (Ok w) e = refl
+found_number (Err f) e = clash cc

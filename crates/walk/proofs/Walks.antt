@@ -1,7 +1,7 @@
 -- How what is read in turn is put together.
 -- Assumes nothing.
 use Prim.Native.Nat.{ℕ, ◌+◌, ◌<◌}
-use mathlib.Core.Path.{◌≡◌, refl, sym, ap, ◌∙◌}
+use mathlib.Core.Path.{◌≡◌, refl, sym, ap, ◌∙◌, subst}
 use mathlib.Core.Bool.{true, false, cond}
 use mathlib.Core.List.{List, [], ◌∷◌, ◌++◌, append_assoc, append-nil, map, map-append}
 use mathlib.Core.Option.{none, some}
@@ -37,9 +37,12 @@ use Rattle.elements.proofs.MarkLaws.{noting_append, noting_none}
 use Rattle.phrases.proofs.Resume.{resume_on, resume_no, resume_off}
 use Rattle.grammar.proofs.Equations.{verdict_take, verdict_deep, verdict_in, verdict_enter, verdict_skip, verdict_skip_end}
 use Rattle.elements.proofs.TreeLaws.{faults_of}
+use Rattle.refusals.proofs.Bounds.{number_bounds}
+use Rattle.walk.specs.declared.Halt.{Halt}
 use Rattle.walk.specs.declared.State.{State}
+use Rattle.walk.specs.Standing.{Standing, going, halted, refused_deep}
 use Rattle.walk.specs.Meanings.{◌⧺◌, Meaning, Counted, Silent}
-use Rattle.walk.specs.Walked.{Tree, Walked, passed, deep}
+use Rattle.walk.specs.Walked.{Tree, Walked, Reads, passed, deep}
 use Rattle.walk.proofs.TreeLaws.{leaves_beside, fits_beside, faults_beside, Faultless}
 
 due_append : (d : Depth) (α β : List Symbol) → due_all d (α ++ β) ≡ due_all d α ++ due_all d β
@@ -59,7 +62,7 @@ put_more t t₁ n m ds es e q =
     let more = put_append (map encoded ds) (map encoded es) t n in
     rw (map-append encoded ds es, more, ← e, length-map ds encoded, ← q)
 
-module _ {s : List ℕ} {α β : List Symbol} {M N K : Meaning} {st r r' : State} {t t₁ t₂ : List ℕ} (join : Joins α β M N K st.rows st.rules) where
+module _ {s : List ℕ} {α β : List Symbol} {M N K : Meaning} {st r r' : Standing} {t t₁ t₂ : List ℕ} (join : Joins α β M N K st.rows st.rules) where
   tree_then : Tree s α M st r t t₁ → Tree s β N r r' t₁ t₂ → Tree s (α ++ β) K st r' t t₂
   tree_then x y =
       let f = x.trees in
@@ -98,7 +101,7 @@ counted_joins join f g ds es k l h₁ h₂ x y =
 
 -- the same trees in another meaning
 pub walked_as :
-    {s : List ℕ} {d : Depth} {α : List Symbol} {M K : Meaning} {st r : State} {t t' : List ℕ}
+    {s : List ℕ} {d : Depth} {α : List Symbol} {M K : Meaning} {st r : Standing} {t t' : List ℕ}
     → ((f : Trees) (ds : List Draft) (k : ℕ) → Fits rules α f → M st.rows st.rules f ds k → K st.rows st.rules f ds k)
     → Walked s d α M st r t t' → Walked s d α K st r t t'
 walked_as turn w =
@@ -127,13 +130,31 @@ pub counted_as :
     → (M at n f ds k → K at n f ds k) → Counted M at n f ds k → Counted K at n f ds k
 counted_as turn x = record { means = turn x.means; few = x.few; fewer = x.fewer }
 
+-- another standing at the same token with the same number, and, where nothing is refused, the same one
+pub walked_like :
+    {s : List ℕ} {d : Depth} {α : List Symbol} {M : Meaning} {st r r' : Standing} {t t' : List ℕ}
+    → r'.no ≡ r.no → r'.token ≡ r.token → (r.no ≡ 0 → r' ≡ r) → Walked s d α M st r t t' → Walked s d α M st r' t t'
+walked_like {s} {α = α} {M = M} {st = st} {t = t} {t' = t'} e f same w =
+    record {
+      verdict = λ σ. rw (e, f) (w.verdict σ);
+      within = λ h. rw f (w.within h);
+      got = λ q. let z = sym e ∙ q in subst (λ (x : Standing). Tree s α M st x t t') (sym (same z)) (w.got z);
+    }
+
 -- ---- nothing is read
 
+-- a refusal has a number
+pub halts : (e : Halt) → (halted e).no ≢ 0
+halts e q = let n = (number_bounds e.reason).0 in absurd (omega arith)
+
 -- a refusal is handed on
-pub walked_off : {s : List ℕ} {d : Depth} (α : List Symbol) (M : Meaning) {st : State} {t : List ℕ} → st.no ≢ 0 → Walked s d α M st st t t
+pub walked_off : {s : List ℕ} {d : Depth} (α : List Symbol) (M : Meaning) {st : Standing} {t : List ℕ} → st.no ≢ 0 → Walked s d α M st st t t
 walked_off {s} {d} α M {st} h = record { verdict = λ σ. resume_off s (due_all d α ++ σ) σ st.no st.token h; within = λ w. w; got = λ q. absurd (h q) }
 
-pub walked_nil : (s : List ℕ) (d : Depth) {st : State} {t : List ℕ} → Walked s d [] (Counted Silent) st st t t
+pub reads_off : {s : List ℕ} (α : List Symbol) (M : Meaning) {st : Standing} {t : List ℕ} → st.no ≢ 0 → Reads s α M st st t t
+reads_off α M h = record { walked = λ d o. walked_off α M h }
+
+pub walked_nil : (s : List ℕ) (d : Depth) {st : Standing} {t : List ℕ} → Walked s d [] (Counted Silent) st st t t
 unfolding put faults gathered
 walked_nil s d {st} {t} =
     record {
@@ -157,7 +178,7 @@ walked_nil s d {st} {t} =
 
 -- ---- a token
 
-module _ (s : List ℕ) (d : Depth) (k : ℕ) (st : State) (here : st.no ≡ 0) (class : st.token.class ≡ k) (known : k < BAD) where
+module _ (s : List ℕ) (d : Depth) (k : ℕ) (st : Standing) (here : st.no ≡ 0) (class : st.token.class ≡ k) (known : k < BAD) where
   pub resume_take :
       (σ : List Due) → too_deep d ≡ false → resume s (due d (t k) ∷ σ) st.no st.token ≡ resume s σ st.no (token_at s st.token.end)
   resume_take σ o =
@@ -238,12 +259,12 @@ unfolding faults gathered
 own_faults s A i c = faults_of s A i c nil ∙ ap (◌++◌ (faults s c)) (append-nil (faults_here s A i c))
 
 -- at the same token, with other faults noted
-abbrev pub with_noted : State → Noted → State
+abbrev pub with_noted : Standing → Noted → Standing
 with_noted st n = record { no = st.no; token = st.token; rows = st.rows; rules = st.rules; noted = n }
 
 -- a tree of rule A by its alternative, after which its own faults are noted
 pub walked_noting :
-    {s : List ℕ} {d : Depth} {A : ℕ} (i : ℕ) {a : Alternative} {M K : Meaning} {st r' : State} {n : Noted} {t t' : List ℕ}
+    {s : List ℕ} {d : Depth} {A : ℕ} (i : ℕ) {a : Alternative} {M K : Meaning} {st r' : Standing} {n : Noted} {t t' : List ℕ}
     → alternative_of rules A i ≡ some a
     → ((c : Trees) (ds : List Draft) (k : ℕ) → Fits rules a.symbols c → M st.rows st.rules c ds k → n ≡ noting r'.noted (faults_here s A i c))
     → ((σ : List Due) → resume s (due d (r A) ∷ σ) st.no st.token ≡ resume s (opened d a ++ σ) st.no st.token)
@@ -272,7 +293,7 @@ walked_noting {s} {d} {A} i {a} {M} {K} {st} {r'} {n} {t} {t'} e own enter turn 
 
 -- one without faults of its own
 pub walked_node :
-    {s : List ℕ} {d : Depth} {A : ℕ} (i : ℕ) {a : Alternative} {M K : Meaning} {st r' : State} {t t' : List ℕ}
+    {s : List ℕ} {d : Depth} {A : ℕ} (i : ℕ) {a : Alternative} {M K : Meaning} {st r' : Standing} {t t' : List ℕ}
     → alternative_of rules A i ≡ some a → Faultless A i
     → ((σ : List Due) → resume s (due d (r A) ∷ σ) st.no st.token ≡ resume s (opened d a ++ σ) st.no st.token)
     → ((c : Trees) (ds : List Draft) (k : ℕ) → Fits rules a.symbols c → M st.rows st.rules c ds k → K st.rows st.rules (node A i c nil) ds k)
@@ -286,7 +307,7 @@ counted_node {c = c} turn x = record { means = turn x.means; few = rw (append-ni
 
 -- a rule that opens one depth too many
 pub deep_walked :
-    {s : List ℕ} {d : Depth} {A i k : ℕ} {a : Alternative} {β : List Symbol} {M : Meaning} {st : State} {x : List ℕ}
+    {s : List ℕ} {d : Depth} {A i k : ℕ} {a : Alternative} {β : List Symbol} {M : Meaning} {st : Standing} {x : List ℕ}
     → alternative_of rules A i ≡ some a → a.symbols ≡ t k ∷ β → predict lookahead A k ≡ some i → too_deep (deeper d a.opens) ≡ true → st.no ≡ 0
     → st.token.class ≡ k → k < BAD → Walked s d (r A ∷ []) M st (deep st) x x
 deep_walked {s} {d} {A} {i} {k} {a} {β} {M} {st} e b p o z c l =
@@ -295,3 +316,7 @@ deep_walked {s} {d} {A} {i} {k} {a} {β} {M} {st} e b p o z c l =
       within = λ w. w;
       got = λ q. absurd (omega arith);
     }
+
+-- the same, said with the reason
+pub deep_halts : {s : List ℕ} {d : Depth} {α : List Symbol} {M : Meaning} {st : State} {t t' : List ℕ} → Walked s d α M (going st) (deep (going st)) t t' → Walked s d α M (going st) (halted (refused_deep st)) t t'
+deep_halts w = walked_like refl refl (λ q. absurd (omega arith)) w

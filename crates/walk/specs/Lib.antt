@@ -1,4 +1,5 @@
 pub mod Meanings
+pub mod Standing
 pub mod Starts
 pub mod Walked
 pub mod Whole

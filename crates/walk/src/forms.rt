@@ -4,94 +4,64 @@ ghost use Rattle.ll1.specs.Trees.{depth};
 ghost use Rattle.grammar.specs.Notation.{r};
 ghost use Rattle.grammar.specs.Rules.{<form>, <form>*, <guid_end>};
 ghost use Rattle.phrases.specs.Stream.{Within};
-ghost use Rattle.phrases.specs.Passed.{Passed};
 ghost use Rattle.elements.specs.Symbols.{title_and_help};
-ghost use Rattle.walk.specs.Walked.{Room, OpensSet, WalkedUnder};
+ghost use Rattle.walk.specs.Standing.{going, standing};
+ghost use Rattle.walk.specs.Walked.{Room, TakesSymbols, OpensSet, WalkedUnder};
 
-use crate::State;
-use crate::items::items;
-use crate::steps::{close, flat};
+use crate::items::{CONDITIONS, items};
+use crate::steps::{close, flat, read_phrase};
+use crate::{Halt, State};
 use elements::noted::nothing_noted;
 use elements::{KEPT, phrase};
 use fields::form_set_row;
 use lexemes::classes::*;
-use phrases::Cursor;
 
-// How many conditions may be open at once (document 01, Depths).
-const CONDITIONS: usize = 16;
-
-fn form(src: &[u8], table: &mut [u64], s: State) -> State
-    requires { Room src.now s }
-    ensures { WalkedUnder src.now (depth 0 0) (r <form> ∷ []) 0 s result table.old table.new }
+fn form(src: &[u8], table: &mut [u64], s: State) -> Result<State, Halt>
+    requires { Room src.now (going s) }
+    ensures { WalkedUnder src.now (depth 0 0) (r <form> ∷ []) 0 (going s) (standing result) table.old table.new }
 {
-    let own = s.rows;
-    let open = flat(src, table, s, 0, phrase::FORM_OPEN);
-    let all = items(src, table, open, own, CONDITIONS, true);
+    let open = flat(src, table, s, 0, phrase::FORM_OPEN)?;
+    let all = items(src, table, open, s.rows, CONDITIONS)?;
     close(src, all, phrase::FORM_CLOSE)
 }
 
 // One or more forms.
-pub fn form_list(src: &[u8], table: &mut [u64], s: State) -> State
-    requires { Room src.now s }
-    ensures { WalkedUnder src.now (depth 0 0) (r <form> ∷ r <form>* ∷ []) 0 s result table.old table.new }
+pub fn form_list(src: &[u8], table: &mut [u64], s: State) -> Result<State, Halt>
+    requires { Room src.now (going s) }
+    ensures { WalkedUnder src.now (depth 0 0) (r <form> ∷ r <form>* ∷ []) 0 (going s) (standing result) table.old table.new }
 {
-    let mut s = form(src, table, s);
-    loop {
-        if s.no != 0 {
-            return s;
-        }
-        if s.token.class != KW_FORM {
-            return s;
-        }
-        s = form(src, table, s);
+    let mut s = form(src, table, s)?;
+    while s.token.class == KW_FORM {
+        s = form(src, table, s)?;
     }
+    Ok(s)
 }
 
 // The rest of a form set's opening, from the inner brace of its GUID on, if there is one.
-fn guid_end(src: &[u8], c: Cursor, kept: &mut [u64]) -> Cursor
-    requires { Within src.now c.token }
-    ensures { Passed src.now (r <guid_end> ∷ title_and_help) c.no c.token c.noted kept.old result kept.new }
+fn guid_end(src: &[u8], s: State, kept: &mut [u64]) -> Result<State, Halt>
+    requires { Within src.now s.token }
+    ensures { TakesSymbols src.now (r <guid_end> ∷ title_and_help) (going s) (standing result) kept.old kept.new }
 {
-    let token = c.token;
-    if token.class == OPEN_BRACE {
-        return phrases::read(src, c.no, token, c.noted, phrase::FORM_SET_BRACED, kept);
+    if s.token.class == OPEN_BRACE {
+        return read_phrase(src, s, phrase::FORM_SET_BRACED, kept);
     }
-    phrases::read(src, c.no, token, c.noted, phrase::FORM_SET_PLAIN, kept)
+    read_phrase(src, s, phrase::FORM_SET_PLAIN, kept)
 }
 
 // The form set's opening, with its row.
-pub fn open_form_set(src: &[u8], table: &mut [u64]) -> State
-    ensures { OpensSet src.now result table.old table.new }
+pub fn open_form_set(src: &[u8], table: &mut [u64]) -> Result<State, Halt>
+    ensures { OpensSet src.now (standing result) table.old table.new }
 {
-    let first = lex::token_at(src, 0);
-    let mut high = [0; KEPT];
-    let c = phrases::read(
-        src,
-        0,
-        first,
-        nothing_noted(),
-        phrase::FORM_SET_OPEN,
-        &mut high,
-    );
-    let mut low = [0; KEPT];
-    let e = guid_end(src, c, &mut low);
-    let token = e.token;
-    let noted = e.noted;
-    if e.no != 0 {
-        return State {
-            no: e.no,
-            token,
-            rows: 0,
-            rules: 0,
-            noted,
-        };
-    }
-    rows::put_row(table, 0, form_set_row(src, first.start, high, low));
-    State {
-        no: 0,
-        token,
-        rows: 1,
+    let first = State {
+        token: lex::token_at(src, 0),
+        rows: 0,
         rules: 0,
-        noted,
-    }
+        noted: nothing_noted(),
+    };
+    let mut high = [0; KEPT];
+    let s = read_phrase(src, first, phrase::FORM_SET_OPEN, &mut high)?;
+    let mut low = [0; KEPT];
+    let s = guid_end(src, s, &mut low)?;
+    rows::put_row(table, 0, form_set_row(src, first.token.start, high, low));
+    Ok(State { rows: 1, ..s })
 }

@@ -9,87 +9,92 @@ mod starts;
 mod steps;
 
 ghost use Rattle.std.specs.Prelude.{◌≡◌, length};
-ghost use Rattle.elements.specs.Marks.{nothing_noted};
-ghost use Rattle.walk.specs.Whole.{Walks, ended};
+ghost use Rattle.walk.specs.Standing.{standing};
+ghost use Rattle.walk.specs.Walked.{WalksSource};
+ghost use Rattle.walk.specs.Whole.{outcome, Walks, ended};
 
 use crate::forms::{form_list, open_form_set};
 use crate::steps::close;
-use elements::noted::{Noted, nothing_noted};
+use elements::noted::Noted;
 use elements::phrase;
 use lex::Token;
 use lexemes::classes::END;
-use phrases::SYNTAX;
+use refusals::Reason;
 
-// Where a walk stands: the refusal or 0, the token, how many rows and how many rules there are so far, and the faults that
-// are noted.
+// Where a walk stands: the token, how many rows and how many rules there are so far, and the faults that are noted.
 #[derive(Clone, Copy)]
 pub struct State {
-    pub no: u64,
     pub token: Token,
     pub rows: usize,
     pub rules: usize,
     pub noted: Noted,
 }
 
-// What a walk ends with: the refusal's number and place, or 0 and 0; how many rows and rules there are, and the faults
-// that are noted. Where there is a refusal, all these are 0.
+// Why a walk ends early, and at which token: it does not fit, or it opens a depth too many.
 #[derive(Clone, Copy)]
-pub struct Outcome {
-    pub no: u64,
-    pub place: usize,
+pub struct Halt {
+    pub reason: Reason,
+    pub token: Token,
+}
+
+// What a walk over a whole source finds: how many rows and how many rules there are, and the faults that are noted.
+#[derive(Clone, Copy)]
+pub struct Totals {
     pub rows: usize,
     pub rules: usize,
     pub noted: Noted,
 }
 
-fn refusing(no: u64, place: usize) -> Outcome
-    ensures { result ≡ record { no = no; place = place; rows = 0; rules = 0; noted = nothing_noted } }
-{
-    Outcome {
-        no,
-        place,
-        rows: 0,
-        rules: 0,
-        noted: nothing_noted(),
-    }
+// Why and where a source is refused.
+#[derive(Clone, Copy, Debug, PartialEq, Eq)]
+pub struct Fault {
+    pub reason: Reason,
+    pub place: usize,
 }
 
 // What the end of a walk means: after the last token of a source no other may stand, and a source that ends early is
 // refused at its length.
-fn finish(src: &[u8], s: State) -> Outcome
-    ensures { result ≡ ended (length src.now) s }
+fn finish(src: &[u8], end: Result<State, Halt>) -> Result<Totals, Fault>
+    ensures { outcome result ≡ ended (length src.now) (standing end) }
 {
-    let class = s.token.class;
-    let start = s.token.start;
-    if s.no != 0 {
-        if class == END {
-            return refusing(SYNTAX, src.len());
-        }
-        return refusing(s.no, start);
-    }
-    if class != END {
-        return refusing(SYNTAX, start);
-    }
-    let noted = s.noted;
-    Outcome {
-        no: 0,
-        place: 0,
-        rows: s.rows,
-        rules: s.rules,
-        noted,
+    match end {
+        Ok(s) if s.token.class == END => Ok(Totals {
+            rows: s.rows,
+            rules: s.rules,
+            noted: s.noted,
+        }),
+        Ok(s) => Err(Fault {
+            reason: Reason::Syntax,
+            place: s.token.start,
+        }),
+        Err(halt) if halt.token.class == END => Err(Fault {
+            reason: Reason::Syntax,
+            place: src.len(),
+        }),
+        Err(halt) => Err(Fault {
+            reason: halt.reason,
+            place: halt.token.start,
+        }),
     }
 }
 
-// A whole source. Where it is refused, the table is all zeros.
-pub fn walk(src: &[u8], table: &mut [u64]) -> Outcome
-    ensures { Walks src.now result table.old table.new }
+// The form set, from its opening to its end.
+fn form_set(src: &[u8], table: &mut [u64]) -> Result<State, Halt>
+    ensures { WalksSource src.now (standing result) table.old table.new }
 {
-    let open = open_form_set(src, table);
-    let all = form_list(src, table, open);
-    let w = finish(src, close(src, all, phrase::FORM_SET_CLOSE));
-    if w.no != 0 {
+    let open = open_form_set(src, table)?;
+    let all = form_list(src, table, open)?;
+    close(src, all, phrase::FORM_SET_CLOSE)
+}
+
+// A whole source. Where it is refused, the table is all zeros.
+pub fn walk(src: &[u8], table: &mut [u64]) -> Result<Totals, Fault>
+    ensures { Walks src.now (outcome result) table.old table.new }
+{
+    let end = form_set(src, table);
+    let found = finish(src, end);
+    if found.is_err() {
         rows::clear(table, 0);
-        return w;
     }
-    w
+    found
 }

@@ -1,147 +1,116 @@
 // The smallest steps of a walk.
-ghost use Rattle.std.specs.Prelude.{◌≡◌, false, [], ◌∷◌, ◌+◌, ◌<◌, ◌^◌};
+ghost use Rattle.std.specs.Prelude.{◌≡◌, [], ◌∷◌, ◌+◌, ◌<◌, ◌≤◌, ◌^◌, Err};
 ghost use Rattle.lexemes.specs.Classes.{BAD};
-ghost use Rattle.ll1.specs.Machine.{all_nullable};
-ghost use Rattle.grammar.specs.Grammar.{rules};
 ghost use Rattle.grammar.specs.Notation.{t};
 ghost use Rattle.grammar.specs.Source.{number_at};
 ghost use Rattle.answers.specs.Drafts.{encoded};
 ghost use Rattle.rows.specs.Table.{with_row};
 ghost use Rattle.fields.specs.Phrases.{kept, phrase_draft};
 ghost use Rattle.phrases.specs.Stream.{Within};
-ghost use Rattle.elements.specs.Symbols.{symbols_of};
+ghost use Rattle.elements.specs.Symbols.{GROUP_CLOSE};
 ghost use Rattle.walk.specs.Meanings.{Counted, Worded};
-ghost use Rattle.walk.specs.Walked.{Room, Reads, Closes, WithRow, passed, closed, deep, ReadsRow};
+ghost use Rattle.walk.specs.Standing.{going, standing, refused_deep};
+ghost use Rattle.walk.specs.Walked.{Room, Reads, Takes, Closes, WithRow, passed, ReadsRow};
 
-use crate::State;
+use crate::{Halt, State};
 use elements::KEPT;
 use fields::{phrase_row, word_row};
 use lex::Token;
-use phrases::Cursor;
-
-// The refusal of a depth too many (document 01, No. 4).
-const DEPTH: u64 = 4;
+use refusals::Reason;
 
 // The walk is refused at its token, which opens a depth too many.
-pub fn too_deep(s: State) -> State
-    ensures { result ≡ deep s }
+pub fn too_deep(s: State) -> Result<State, Halt>
+    ensures { result ≡ Err (refused_deep s) }
 {
-    let token = s.token;
-    let noted = s.noted;
-    State {
-        no: DEPTH,
-        token,
-        rows: s.rows,
-        rules: s.rules,
-        noted,
-    }
+    Err(Halt {
+        reason: Reason::TooDeep,
+        token: s.token,
+    })
 }
 
 // Past the token.
 pub fn past(src: &[u8], s: State) -> State
-    ensures { result ≡ passed src.now s }
+    ensures { going result ≡ passed src.now (going s) }
 {
-    let next = lex::token_at(src, s.token.end);
-    let noted = s.noted;
     State {
-        no: s.no,
-        token: next,
-        rows: s.rows,
-        rules: s.rules,
-        noted,
+        token: lex::token_at(src, s.token.end),
+        ..s
     }
 }
 
-// At the end of a phrase, with no row more.
-pub fn at_end(s: State, c: Cursor) -> State
-    ensures { result ≡ closed s c }
+// A phrase, whose entries are kept.
+pub fn read_phrase(src: &[u8], s: State, phrase: u8, kept: &mut [u64]) -> Result<State, Halt>
+    requires { Within src.now s.token }
+    ensures { Takes src.now phrase (going s) (standing result) kept.old kept.new }
 {
-    let token = c.token;
-    let noted = c.noted;
-    State {
-        no: c.no,
-        token,
-        rows: s.rows,
-        rules: s.rules,
-        noted,
+    let c = phrases::read(src, 0, s.token, s.noted, phrase, kept);
+    if c.no != 0 {
+        return Err(Halt {
+            reason: Reason::Syntax,
+            token: c.token,
+        });
     }
+    Ok(State {
+        token: c.token,
+        noted: c.noted,
+        ..s
+    })
 }
 
 // A phrase that makes no row.
-pub fn close(src: &[u8], s: State, phrase: u8) -> State
+pub fn close(src: &[u8], s: State, phrase: u8) -> Result<State, Halt>
     requires { Within src.now s.token }
-    ensures { Closes src.now phrase s result }
+    ensures { Closes src.now phrase (going s) (standing result) }
 {
     let mut kept = [0; KEPT];
-    at_end(
-        s,
-        phrases::read(src, s.no, s.token, s.noted, phrase, &mut kept),
-    )
+    read_phrase(src, s, phrase, &mut kept)
 }
 
-// Writes the row of a phrase that starts with the token, where a whole one fits; else it is not made.
-pub fn put_phrase_row(
-    src: &[u8],
-    table: &mut [u64],
-    row: usize,
-    first: Token,
-    parent: usize,
-    entries: [u64; KEPT],
-)
-    ensures { table.new ≡ with_row table.old row (encoded (phrase_draft (number_at src.now) first.class parent first.start (kept entries))) }
+// Writes the row of a phrase that starts with the state's token, where a whole one fits; else it is not made.
+pub fn put_phrase_row(src: &[u8], table: &mut [u64], s: State, parent: usize, entries: [u64; KEPT])
+    ensures { table.new ≡ with_row table.old s.rows (encoded (phrase_draft (number_at src.now) s.token.class parent s.token.start (kept entries))) }
 {
-    if row < rows::whole_rows(table) {
-        rows::put_row(table, row, phrase_row(src, first, parent, entries));
+    if s.rows < rows::whole_rows(table) {
+        rows::put_row(table, s.rows, phrase_row(src, s.token, parent, entries));
     }
 }
 
 // A phrase that makes a row.
-pub fn flat(src: &[u8], table: &mut [u64], s: State, parent: usize, phrase: u8) -> State
-    requires { Room src.now s × (all_nullable rules (symbols_of phrase) ≡ false) }
-    ensures { ReadsRow src.now phrase parent s result table.old table.new }
+pub fn flat(
+    src: &[u8],
+    table: &mut [u64],
+    s: State,
+    parent: usize,
+    phrase: u8,
+) -> Result<State, Halt>
+    requires { Room src.now (going s) × (phrase ≤ GROUP_CLOSE) }
+    ensures { ReadsRow src.now phrase parent (going s) (standing result) table.old table.new }
 {
-    let first = s.token;
     let mut kept = [0; KEPT];
-    let c = phrases::read(src, s.no, first, s.noted, phrase, &mut kept);
-    if c.no != 0 {
-        return at_end(s, c);
-    }
-    put_phrase_row(src, table, s.rows, first, parent, kept);
-    let token = c.token;
-    let noted = c.noted;
-    State {
-        no: 0,
-        token,
+    let end = read_phrase(src, s, phrase, &mut kept)?;
+    put_phrase_row(src, table, s, parent, kept);
+    Ok(State {
         rows: s.rows + 1,
-        rules: s.rules,
-        noted,
-    }
+        ..end
+    })
 }
 
 // The row of a word, after what was read.
 pub fn with_row(table: &mut [u64], s: State, parent: usize, word: Token) -> State
-    requires { s.no ≡ 0 → s.rows + 1 < 2 ^ 64 }
-    ensures { WithRow parent word s result table.old table.new }
+    requires { s.rows + 1 < 2 ^ 64 }
+    ensures { WithRow parent word (going s) (going result) table.old table.new }
 {
-    if s.no != 0 {
-        return s;
-    }
     rows::put_row(table, s.rows, word_row(word, parent));
-    let token = s.token;
-    let noted = s.noted;
     State {
-        no: 0,
-        token,
         rows: s.rows + 1,
-        rules: s.rules,
-        noted,
+        ..s
     }
 }
 
 // A word, and its row.
 pub fn word(src: &[u8], table: &mut [u64], s: State, parent: usize) -> State
-    requires { Room src.now s × (s.no ≡ 0) × (s.token.class < BAD) }
-    ensures { Reads src.now (t s.token.class ∷ []) (Counted (Worded src.now parent)) s result table.old table.new }
+    requires { Room src.now (going s) × (s.token.class < BAD) }
+    ensures { Reads src.now (t s.token.class ∷ []) (Counted (Worded src.now parent)) (going s) (going result) table.old table.new }
 {
     with_row(table, past(src, s), parent, s.token)
 }

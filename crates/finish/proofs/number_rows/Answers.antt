@@ -2,12 +2,9 @@
 use mathlib.Core.Path.{refl}
 use native.Mathlib.Omega.{arith}
 use borrow.Author.Tests.{eq-eqb, ne_eqb}
-use Rattle.finish.proofs.NumberLaws.{numbering_start, numbering_kept, numbering_given, numbering_none, numbering_end}
+use Rattle.finish.proofs.NumberLaws.{numbering_kept, numbering_given, numbering_none, numbering_end}
 use Rattle.finish.proofs.number_rows.Goals.{then-is_question+then-cell-eq0+in-Some, else-is_question, else-is_question-via-then-is_question+else-cell-eq0, else-is_question-via-else-is_question}
 use Rattle.finish.proofs.number_rows.Goals as goal
-
-pub loop-row-init : goal.loop-row-init
-loop-row-init c = numbering_start _ _ _
 
 pub returns-in_default : goal.returns-in_default
 returns-in_default c = let it = numbering_none c.loop-row.invariant c.in_default.ensures.value (omega arith) in record { table_after = it.0; used_after = it.1 }

@@ -1,11 +1,8 @@
 -- `finish::resolve_references` meets its contract: resolving the rows from the loop's on comes to the same table.
 use mathlib.Core.Path.{sym, ◌∙◌}
-use Rattle.finish.proofs.ReferenceLaws.{resolving_start, resolving_next, resolving_other, resolving_end}
+use Rattle.finish.proofs.ReferenceLaws.{resolving_next, resolving_other, resolving_end}
 use Rattle.finish.proofs.resolve_references.Goals.{then-is_reference, else-is_reference}
 use Rattle.finish.proofs.resolve_references.Goals as goal
-
-pub loop-row-init : goal.loop-row-init
-loop-row-init c = resolving_start _ _ _ _
 
 pub loop-row-preserved : goal.loop-row-preserved
 loop-row-preserved c =

@@ -1,10 +1,6 @@
 -- `finish::strip` meets its contract: stripping the rows from the loop's on comes to the same table.
-use Rattle.finish.specs.Finish.{stripped}
-use Rattle.finish.proofs.RowLoops.{mapping_start, mapping_next, mapping_end, length_stripped}
+use Rattle.finish.proofs.RowLoops.{mapping_next, mapping_end, length_stripped}
 use Rattle.finish.proofs.strip.Goals as goal
-
-pub loop-row-init : goal.loop-row-init
-loop-row-init c = mapping_start stripped _ _
 
 pub loop-row-preserved : goal.loop-row-preserved
 loop-row-preserved c = mapping_next c.loop-row.invariant length_stripped c.loop-row-test.true c.strip_row.ensures

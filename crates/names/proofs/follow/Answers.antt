@@ -1,9 +1,6 @@
 -- `names::follow` meets its contract: the chain from the loop's entry ends like the whole one.
-use Rattle.names.proofs.ChainLaws.{following_start, following_here, following_stop, following_next, following_end}
+use Rattle.names.proofs.ChainLaws.{following_here, following_stop, following_next, following_end}
 use Rattle.names.proofs.follow.Goals as goal
-
-pub loop-entry-init : goal.loop-entry-init
-loop-entry-init c = following_start _ _ _
 
 pub returns-then-matches : goal.returns-then-matches
 returns-then-matches c =

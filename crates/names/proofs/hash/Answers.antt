@@ -1,10 +1,7 @@
 -- `names::hash` meets its contract: the hash so far and the rest of the word come to the word's hash.
 use mathlib.Core.Path.{sym, ◌∙◌}
-use Rattle.names.proofs.NameLaws.{hashing_start, hashing_next, hashing_stop, hashing_end}
+use Rattle.names.proofs.NameLaws.{hashing_next, hashing_stop, hashing_end}
 use Rattle.names.proofs.hash.Goals as goal
-
-pub loop-i-init : goal.loop-i-init
-loop-i-init c = hashing_start _ _
 
 pub returns-then-b-eq0 : goal.returns-then-b-eq0
 returns-then-b-eq0 c = record { value = hashing_stop c.loop-i.invariant c.word_byte-b.ensures c.if-b-eq0.true; upper_bound = c.loop-i.invariant.small }

@@ -14,7 +14,7 @@ pub returns-then-is_oversized : goal.returns-then-is_oversized
 returns-then-is_oversized c =
     let i = c.loop-mark.mark-index in
     let e = listed (kept c.args.k) i c.loop-mark-test.true in
-    e ∙ first_told c.args.src.now (kept c.args.k) c.size_and_display-size.ensures i c.loop-mark-test.true c.loop-mark.invariant (sym (rw e at c.is_oversized.ensures) ∙ c.if-is_oversized.true)
+    c.place_of.ensures ∙ (e ∙ first_told c.args.src.now (kept c.args.k) c.size_and_display-size.ensures i c.loop-mark-test.true c.loop-mark.invariant (sym (rw e at c.is_oversized.ensures) ∙ c.if-is_oversized.true))
 
 pub loop-mark-preserved : goal.loop-mark-preserved
 loop-mark-preserved c =

@@ -4,15 +4,12 @@ use mathlib.Core.Path.{refl, ◌∙◌}
 use Rattle.rows.specs.Columns as column
 use Rattle.drafts.specs.Faults.{draft_at}
 use Rattle.drafts.proofs.DraftLaws.{cell_read}
-use Rattle.drafts.proofs.FaultLaws.{looking_start, looking_found, looking_next, looking_end}
+use Rattle.drafts.proofs.FaultLaws.{looking_found, looking_next, looking_end}
 use Rattle.stages.proofs.ChoiceLaws.{same_value_lem, other_value, choosing_start, choosing_value, choosing_default, choosing_next, choosing_end}
 use Rattle.stages.proofs.choices.bad_option.Goals as goal
 
 pub search-init : goal.search-init
 search-init c = (choosing_start _ _ _, refl)
-
-pub loop-earlier-init : goal.loop-earlier-init
-loop-earlier-init c = (looking_start _ _ _ _, refl)
 
 pub loop-earlier-preserved : goal.loop-earlier-preserved
 loop-earlier-preserved c =

@@ -3,11 +3,8 @@ use mathlib.Core.Path.{◌≡◌, refl, sym, ◌∙◌}
 use native.Mathlib.Omega.{arith}
 use Rattle.rows.specs.Columns as column
 use Rattle.drafts.proofs.DraftLaws.{cell_read}
-use Rattle.stages.proofs.ChoiceLaws.{passing_start, passing_other, passing_option, passing_end}
+use Rattle.stages.proofs.ChoiceLaws.{passing_other, passing_option, passing_end}
 use Rattle.stages.proofs.choices.options_end.Goals as goal
-
-pub loop-row-init : goal.loop-row-init
-loop-row-init c = passing_start _ _ _
 
 pub returns-then-cell-ne-OPTION : goal.returns-then-cell-ne-OPTION
 returns-then-cell-ne-OPTION c = passing_other c.loop-row.invariant c.loop-row-test.true (λ e. c.if-cell-ne-OPTION.true (cell_read _ _ column.CODE refl c.cell.ensures ∙ e))

@@ -1,9 +1,6 @@
 -- `repeats::repeated` meets its contract: from the loop's row on with its map it comes to the same mark and map.
-use Rattle.stages.proofs.RepeatLaws.{repeating_start, repeating_found, repeating_next, repeating_end}
+use Rattle.stages.proofs.RepeatLaws.{repeating_found, repeating_next, repeating_end}
 use Rattle.stages.proofs.repeats.repeated.Goals as goal
-
-pub loop-row-init : goal.loop-row-init
-loop-row-init g c = repeating_start _ _ _ _
 
 pub returns-then-has : goal.returns-then-has
 returns-then-has g c =

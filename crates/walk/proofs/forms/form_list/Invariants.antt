@@ -3,12 +3,13 @@
 use mathlib.Core.Path.{◌≡◌}
 use Rattle.ll1.specs.Trees.{depth}
 use Rattle.grammar.specs.Rules.{<form>*}
+use Rattle.walk.specs.Standing.{going}
 use Rattle.walk.proofs.Rooms.{ahead}
 use Rattle.walk.proofs.ListSteps.{ListLoop}
 use Rattle.walk.proofs.forms.form_list.Given as goal
 
 abbrev pub invariant-loop-s : goal.invariant-loop-s
-invariant-loop-s l = ListLoop l.src (λ d. d ≡ depth 0 0) <form>* 0 l.initial.table l.initial.s l.table l.s
+invariant-loop-s l = ListLoop l.src (λ d. d ≡ depth 0 0) <form>* 0 l.initial.table (going l.initial.s) l.table (going l.s)
 
 abbrev pub decreases-loop-s : goal.decreases-loop-s
-decreases-loop-s l = ahead l.src l.s
+decreases-loop-s l = ahead l.src (going l.s)

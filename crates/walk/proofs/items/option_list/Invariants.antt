@@ -4,12 +4,13 @@ use mathlib.Core.Path.{◌≡◌}
 use mathlib.Core.Bool.{false}
 use Rattle.grammar.specs.Rules.{<option>*}
 use Rattle.grammar.specs.Derivation.{too_deep}
+use Rattle.walk.specs.Standing.{going}
 use Rattle.walk.proofs.Rooms.{ahead}
 use Rattle.walk.proofs.ListSteps.{ListLoop}
 use Rattle.walk.proofs.items.option_list.Given as goal
 
 abbrev pub invariant-loop-s : goal.invariant-loop-s
-invariant-loop-s l = ListLoop l.src (λ d. too_deep d ≡ false) <option>* l.parent l.initial.table l.initial.s l.table l.s
+invariant-loop-s l = ListLoop l.src (λ d. too_deep d ≡ false) <option>* l.parent l.initial.table (going l.initial.s) l.table (going l.s)
 
 abbrev pub decreases-loop-s : goal.decreases-loop-s
-decreases-loop-s l = ahead l.src l.s
+decreases-loop-s l = ahead l.src (going l.s)

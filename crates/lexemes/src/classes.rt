@@ -1,5 +1,6 @@
 // The classes of tokens, each named once. The signs come first, in document 01's order, then the reserved
 // words in byte order: those that document 01 writes in small letters are named with KW_ before them.
+// Stays: numbers, since the C interface (`vfr_token`), the clause of `class_of` and the table of the grammar hold a class as its number.
 
 pub const OPEN_BRACE: u8 = 0;
 

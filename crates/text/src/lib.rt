@@ -5,7 +5,7 @@ mod expressions;
 mod items;
 
 ghost use Rattle.std.specs.Prelude.{◌≡◌, length};
-ghost use Rattle.answers.specs.Resolution.{resolved_table, resolved_output};
+ghost use Rattle.answers.specs.Resolution.{room, resolved_table, resolved_output};
 ghost use Rattle.replies.specs.Replies.{resolve_reply};
 ghost use Rattle.text.specs.Answers.{resolved_told, refusal_told, told, RowsPrinted};
 ghost use Rattle.text.specs.declared.Refusal.TheVariants.{Reading};
@@ -61,6 +61,13 @@ impl Numbers for Refusal {
     }
 }
 
+// The longest text for so many bytes lent.
+fn room(lent: usize) -> usize
+    ensures { result ≡ room lent }
+{
+    lent.min(LONGEST)
+}
+
 // The answer for so many finished rows in the table.
 fn print_rows(table: &mut [u64], out: &mut [u8], accepted: Accepted) -> Result<Resolved, Refusal>
     ensures { RowsPrinted table.old accepted.rows accepted.free out.old result table.new out.new }
@@ -69,7 +76,7 @@ fn print_rows(table: &mut [u64], out: &mut [u8], accepted: Accepted) -> Result<R
     let mut text = Output { bytes: out, at: 0 };
     put_text(&mut text, table, rows);
     let bytes = text.at;
-    if out.len().min(LONGEST) < bytes {
+    if room(out.len()) < bytes {
         rows::clear(table, 0);
         rows::clear(out, 0);
         return Err(Refusal::TooLong(bytes));

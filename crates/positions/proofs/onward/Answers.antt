@@ -2,7 +2,7 @@
 use Rattle.std.proofs.Common.{◌≡◌, ◌≤◌, take, ℕ, ◌+◌, ◌%◌, ◌^◌, sym, refl, ap, ◌∙◌, arith, rules}
 use Rattle.positions.specs.Positions.{line_from, column_from, position_from}
 use Rattle.positions.proofs.Steps.{line_feed, line_same, line_wraps, line_arrives, column_feed, column_more, column_wraps, column_arrives, take_min}
-use Rattle.positions.proofs.onward.Goals.{then-src-i-eq10, else-src-i-eq10}
+use Rattle.positions.proofs.onward.Goals.{then-src-i-eq-LF, else-src-i-eq-LF}
 use Rattle.positions.proofs.onward.Goals as goal
 
 pub loop-i-init : goal.loop-i-init
@@ -13,25 +13,25 @@ loop-i-preserved c =
     let s = c.args.src.now in
     let loop = c.loop-i in
     let end = c.min-end.result in
-    elim c.if-src-i-eq10.branch [
-      | then-src-i-eq10 w ↦ (
+    elim c.if-src-i-eq-LF.branch [
+      | then-src-i-eq-LF w ↦ (
         ap (λ (n : ℕ). line_from n s (loop.i + 1) end % 2 ^ 64) w.line-is
             ∙ line_wraps s (loop.i + 1) end (loop.line + 1)
-            ∙ ap (λ (n : ℕ). n % 2 ^ 64) (sym (line_feed s loop.i end loop.line (omega arith) (omega arith) w.if-src-i-eq10.true))
+            ∙ ap (λ (n : ℕ). n % 2 ^ 64) (sym (line_feed s loop.i end loop.line (omega arith) (omega arith) w.if-src-i-eq-LF.true))
             ∙ loop.invariant.0,
         ap (λ (n : ℕ). column_from n s (loop.i + 1) end % 2 ^ 64) w.column-is
-            ∙ ap (λ (n : ℕ). n % 2 ^ 64) (sym (column_feed s loop.i end loop.column (omega arith) (omega arith) w.if-src-i-eq10.true))
+            ∙ ap (λ (n : ℕ). n % 2 ^ 64) (sym (column_feed s loop.i end loop.column (omega arith) (omega arith) w.if-src-i-eq-LF.true))
             ∙ loop.invariant.1,
         omega arith,
         omega arith,
       )
-      | else-src-i-eq10 w ↦ (
+      | else-src-i-eq-LF w ↦ (
         ap (λ (n : ℕ). line_from n s (loop.i + 1) end % 2 ^ 64) w.line-is
-            ∙ ap (λ (n : ℕ). n % 2 ^ 64) (sym (line_same s loop.i end loop.line (omega arith) (omega arith) w.if-src-i-eq10.false))
+            ∙ ap (λ (n : ℕ). n % 2 ^ 64) (sym (line_same s loop.i end loop.line (omega arith) (omega arith) w.if-src-i-eq-LF.false))
             ∙ loop.invariant.0,
         ap (λ (n : ℕ). column_from n s (loop.i + 1) end % 2 ^ 64) w.column-is
             ∙ column_wraps s (loop.i + 1) end (loop.column + 1)
-            ∙ ap (λ (n : ℕ). n % 2 ^ 64) (sym (column_more s loop.i end loop.column (omega arith) (omega arith) w.if-src-i-eq10.false))
+            ∙ ap (λ (n : ℕ). n % 2 ^ 64) (sym (column_more s loop.i end loop.column (omega arith) (omega arith) w.if-src-i-eq-LF.false))
             ∙ loop.invariant.1,
         omega arith,
         omega arith,

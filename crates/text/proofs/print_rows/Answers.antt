@@ -5,9 +5,9 @@ use Rattle.text.proofs.AnswerLaws.{too_long, long_enough}
 use borrow.Author.Rules.{rules}
 use Rattle.text.proofs.print_rows.Goals as goal
 
-pub returns-then-min-bytes : goal.returns-then-min-bytes
-returns-then-min-bytes c =
-    too_long refl c.put_text.ensures _ (search rules) (rw c.min.ensures at c.if-min-bytes.true) c.clear.ensures c.clear-then-min-bytes.ensures
+pub returns-then-room-bytes : goal.returns-then-room-bytes
+returns-then-room-bytes c =
+    too_long refl c.put_text.ensures _ (search rules) (rw c.room.ensures at c.if-room-bytes.true) c.clear.ensures c.clear-then-room-bytes.ensures
 
 pub returns : goal.returns
-returns c = long_enough refl c.put_text.ensures _ (search rules) (rw c.min.ensures at c.if-min-bytes.false) refl c.clear-2.ensures (search rules)
+returns c = long_enough refl c.put_text.ensures _ (search rules) (rw c.room.ensures at c.if-room-bytes.false) refl c.clear-2.ensures (search rules)

@@ -1,51 +1,23 @@
 -- What an element asks of a token, with the tests of the code.
 -- Assumes nothing.
 use Prim.Native.Nat.{ℕ, ◌≤◌, ◌<◌}
-use mathlib.Core.Path.{◌≡◌, refl, sym, ◌∙◌}
-use mathlib.Core.Bool.{Bool, true, false, ◌||◌, cond, or-false, or_assoc}
+use mathlib.Core.Path.{◌≡◌, refl}
+use mathlib.Core.Bool.{Bool, true, false, cond}
 use mathlib.Core.List.{List, [], ◌∷◌}
-use mathlib.Core.Logic.{◌⊎◌, inl, inr, ◌≢◌}
+use mathlib.Core.Logic.{◌⊎◌, inl, inr}
 use native.Mathlib.Omega.{arith}
-use native.Mathlib.Decide.{ℕ_discrete}
 use lib.Dec.{eqb, ltb, leb}
-use borrow.Author.Tests.{eq-eqb, ne_eqb, lt-ltb, le-ltb, lt-leb, eqb-true, ltb-true, leb-true}
+use borrow.Author.Tests.{ne_eqb, lt-ltb, le-ltb, lt-leb, eqb-true, ltb-true, leb-true}
 use Rattle.lexemes.specs.Classes.{«DEFAULT», «FALSE», «TRUE», NAME, HEX, DECIMAL, BAD}
 use Rattle.ll1.specs.ParseTable.{member}
 use Rattle.ll1.specs.Test.{all}
 use Rattle.ll1.proofs.Basics.{either, all_member}
-use Rattle.grammar.specs.Ranges.{Range, free, keeps}
 use Rattle.grammar.specs.Parts.{when}
 use Rattle.rows.specs.Flags.{READ_ONLY, INTERACTIVE, RESET_REQUIRED}
 use Rattle.elements.specs.declared.flags.Words.{Words}
 use Rattle.elements.specs.Words.{bits_of}
-use Rattle.elements.specs.Kinds.{ID, SMALL, LARGE, OPTION_FLAGS, REFERENCE, TRUTH, FLAG_LIST, NUMERIC_FLAGS, H8, H4, H2}
-use Rattle.elements.specs.Kinds.{numbers, flag_classes, numeric_classes, is_flag_list, starts_of, is_kept, element_range}
-
-eqb_sym : (a b : ℕ) → eqb a b ≡ eqb b a
-eqb_sym a b = by (ℕ_discrete a b)
-  where
-    by : Dec (a ≡ b) → eqb a b ≡ eqb b a
-    by (yes e) = eq-eqb a b e ∙ sym (eq-eqb b a (sym e))
-    by (no h) = ne_eqb a b h ∙ sym (ne_eqb b a (λ e. h (sym e)))
-
--- the code's tests whether k is one of some classes, after those that gave b
-abbrev tests : Bool → ℕ → List ℕ → Bool
-tests b k [] = b
-tests b k (a ∷ l) = tests (b || eqb k a) k l
-
-tests_are : (b : Bool) (k : ℕ) (l : List ℕ) → tests b k l ≡ b || member k l
-tests_are b k [] = sym (or-false b)
-tests_are b k (a ∷ l) = tests_are (b || eqb k a) k l ∙ rw (or_assoc b (eqb k a) (member k l), eqb_sym k a)
-
--- a class of one or more
-pub one_of : (k a : ℕ) (l : List ℕ) → tests (eqb k a) k l ≡ member k (a ∷ l)
-one_of k a l = tests_are (eqb k a) k l ∙ rw (eqb_sym k a)
-
-pub number_or : (k a : ℕ) → member k numbers || eqb k a ≡ member k (DECIMAL ∷ HEX ∷ a ∷ [])
-number_or k a = rw (eqb_sym k a, or-false (eqb HEX k), or-false (eqb a k)) (or_assoc (eqb DECIMAL k) (eqb HEX k) (eqb a k))
-
-pub or_number : (k a : ℕ) → eqb k a || member k numbers ≡ member k (a ∷ numbers)
-or_number k a = rw (eqb_sym k a)
+use Rattle.elements.specs.Kinds.{ID, OPTION_FLAGS, REFERENCE, TRUTH, FLAG_LIST, NUMERIC_FLAGS}
+use Rattle.elements.specs.Kinds.{numbers, flag_classes, numeric_classes, is_flag_list, starts_of, is_kept}
 
 -- ---- what an element can start with
 
@@ -53,31 +25,6 @@ module _ (e : ℕ) where
   pub starts_word : e < ID → starts_of e ≡ e ∷ []
   unfolding starts_of
   starts_word h = rw (lt-ltb e ID h)
-
-  pub starts_number : ID ≤ e → e < OPTION_FLAGS → starts_of e ≡ numbers
-  unfolding starts_of
-  starts_number l h = rw (le-ltb e ID l, lt-ltb e OPTION_FLAGS h)
-
-  pub starts_hex : OPTION_FLAGS ≤ e → e ≢ OPTION_FLAGS → e ≢ REFERENCE → e ≢ TRUTH → e ≢ FLAG_LIST → e ≢ NUMERIC_FLAGS → starts_of e ≡ HEX ∷ []
-  unfolding starts_of
-  starts_hex l a b c d f =
-      rw (le-ltb e ID (omega arith), le-ltb e OPTION_FLAGS l, ne_eqb e OPTION_FLAGS a, ne_eqb e REFERENCE b, ne_eqb e TRUTH c)
-      (rw (ne_eqb e FLAG_LIST d, ne_eqb e NUMERIC_FLAGS f))
-
-  -- no number
-  pub range_free :
-      (k : ℕ) → e ≢ ID → e ≢ SMALL → e ≢ LARGE → e ≢ OPTION_FLAGS → e ≢ REFERENCE → e ≢ H8 → e ≢ H4 → e ≢ H2
-      → element_range e k ≡ free
-  unfolding element_range
-  range_free k a b c d f g h i =
-      rw (ne_eqb e ID a, ne_eqb e SMALL b, ne_eqb e LARGE c, ne_eqb e OPTION_FLAGS d)
-      (rw (ne_eqb e REFERENCE f, ne_eqb e H8 g, ne_eqb e H4 h, ne_eqb e H2 i))
-
--- a word, or a number in its range
-pub word_or_lem : (s : List ℕ) (b : Bool) (range : Range) (p : ℕ) → keeps s (cond b free range) p ≡ b || keeps s range p
-unfolding keeps
-word_or_lem s true range p = refl
-word_or_lem s false range p = refl
 
 -- ---- flags
 

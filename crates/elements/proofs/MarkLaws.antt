@@ -9,11 +9,8 @@ use Rattle.rows.specs.Marks.{marked}
 use mathlib.Core.Path.{◌≡◌, refl, sym, ap, ap₂, ◌∙◌}
 use mathlib.Core.Bool.{Bool, true, false, cond}
 use mathlib.Core.List.{List, [], ◌∷◌, ◌++◌, map, append-nil}
-use mathlib.Core.Logic.{◌≢◌}
 use native.Mathlib.Omega.{arith}
-use native.Mathlib.Decide.{ℕ_discrete}
-use lib.Dec.{eqb}
-use borrow.Author.Tests.{eq-eqb, ne_eqb}
+use borrow.Author.Tests.{ne_eqb}
 use Rattle.ll1.specs.Trees.{Trees, nil, leaf, node}
 use Rattle.grammar.specs.Parts.{mark, when}
 use Rattle.grammar.specs.Ranges.{gathered, out_of_range_here, out_of_range, seconds_here, second_words}
@@ -22,23 +19,6 @@ use Rattle.elements.specs.Marks.{Fault, second, outside, faults_here, faults}
 use Rattle.elements.specs.Marks.{mark_or, placed, first_mark, nothing_noted, with_second, with_outside, with_fault, noting}
 
 -- ---- marks
-
-pub mark_or_none : (m : ℕ) → mark_or m 0 ≡ m
-unfolding mark_or
-mark_or_none m = by (ℕ_discrete m 0)
-  where
-    by : Dec (m ≡ 0) → cond (eqb m 0) 0 m ≡ m
-    by (yes h) = rw (eq-eqb m 0 h) (sym h)
-    by (no h) = rw (ne_eqb m 0 h)
-
--- one mark after another
-pub mark_or_more : (m a b : ℕ) → mark_or (mark_or m a) b ≡ mark_or m (mark_or a b)
-unfolding mark_or
-mark_or_more m a b = by (ℕ_discrete m 0)
-  where
-    by : Dec (m ≡ 0) → cond (eqb (cond (eqb m 0) a m) 0) b (cond (eqb m 0) a m) ≡ cond (eqb m 0) (cond (eqb a 0) b a) m
-    by (yes h) = rw (eq-eqb m 0 h)
-    by (no h) = rw (ne_eqb m 0 h, ne_eqb m 0 h)
 
 -- ---- places
 

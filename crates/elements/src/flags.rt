@@ -95,6 +95,7 @@ pub fn with_word(w: Words, class: u8, place: usize) -> Words
 }
 
 // The sum of the flags' bits.
+#[tactic(auto, using(crate::proofs::KindLaws::when_le))]
 fn bits_of(w: Words) -> u64
     ensures { result ≡ bits_of w }
 {
@@ -117,6 +118,7 @@ pub fn list_entry(want: u8, w: Words) -> u64
 }
 
 // The place of a numeric's second size or display word.
+#[tactic(auto, unfolding(crate::specs::Words::list_second))]
 pub fn list_second(want: u8, w: Words) -> Option<usize>
     ensures { marked result ≡ list_second want w }
 {

@@ -71,6 +71,7 @@ fn is_numeric_flag(class: u8) -> bool
 }
 
 // A token of the class can be, or start, the element.
+#[tactic(auto, unfolding(crate::specs::Kinds::starts_of))]
 pub fn suits(want: u8, class: u8) -> bool
     ensures { result ≡ member class (starts_of want) }
 {
@@ -105,6 +106,7 @@ fn word_or_between(src: &[u8], at: usize, word: bool, low: u64, high: u64) -> bo
 }
 
 // The token, which suits the element, keeps the element's range.
+#[tactic(auto, unfolding(crate::specs::Kinds::element_range, grammar::specs::Ranges::range_of, grammar::specs::Ranges::keeps))]
 pub fn in_range(src: &[u8], token: Token, want: u8) -> bool
     ensures { result ≡ keeps src.now (element_range want token.class) token.start }
 {

@@ -6,28 +6,16 @@ use Rattle.grammar.specs.Parts.{when}
 use mathlib.Core.Bool.{Bool, true, false, cond, not}
 use lib.Dec.{eqb}
 use mathlib.Core.Path.{◌≡◌, refl, ap, ◌∙◌}
-use mathlib.Core.Logic.{◌≢◌}
-use borrow.Author.Tests.{ne_eqb}
 use mathlib.Core.List.{List}
 use Rattle.std.specs.Prelude.{Option, Some, None, unwrap_or}
 use Rattle.values.specs.Numbers.{value_at}
 use Rattle.grammar.specs.Source.{held_value, number_at}
-use Rattle.answers.specs.Rows.{ABSENT_STEP}
-use Rattle.fields.specs.Phrases.{marked_value, marked_step, set_if}
+use Rattle.fields.specs.Phrases.{marked_value, set_if}
 
 module _ (number_at_lem : ℕ → ℕ) where
   pub value_none : {m : ℕ} → m ≡ 0 → marked_value number_at_lem m ≡ 0
   unfolding marked_value
   value_none e = rw e
-
-  -- a step that is absent, and one that is written
-  pub step_absent : {m : ℕ} → m ≡ 0 → ABSENT_STEP ≡ marked_step number_at_lem m
-  unfolding marked_step
-  step_absent e = rw e
-
-  pub step_there : (m : ℕ) → m ≢ 0 → marked_value number_at_lem m ≡ marked_step number_at_lem m
-  unfolding marked_step
-  step_there m h = rw (ne_eqb m 0 h)
 
 -- the value that is held is the value, or 0 where there is none
 held_or : (v : Option ℕ) → unwrap_or v 0 ≡ held_value v

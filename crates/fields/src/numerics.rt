@@ -13,6 +13,7 @@ use rows::displays::UNSIGNED_8;
 const ABSENT_STEP: u64 = 1;
 
 // Column 12 of a numeric, from what its FL keeps: eight bytes and DISPLAY_UINT_DEC where it is absent.
+#[tactic(auto, unfolding(crate::specs::Sizes::size_entry))]
 pub fn size_and_display(entry: u64) -> u64
     ensures { result ≡ size_entry entry }
 {
@@ -21,6 +22,7 @@ pub fn size_and_display(entry: u64) -> u64
 }
 
 // A numeric's step by its mark; a written 0 stays 0.
+#[tactic(auto, unfolding(crate::specs::Phrases::marked_step, crate::specs::Phrases::marked_value))]
 pub fn step(src: &[u8], mark: u64) -> u64
     ensures { result ≡ marked_step (number_at src.now) mark }
 {

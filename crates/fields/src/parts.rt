@@ -67,6 +67,7 @@ pub fn plain_row(code: u64, parent: usize, place: usize) -> [u64; ROW]
 }
 
 // The row with its marks.
+#[tactic(auto, unfolding(answers::specs::Drafts::encoded))]
 pub fn with_marks(row: [u64; ROW], own: u64, limit: u64, default: u64) -> [u64; ROW]
     ensures { result ≡ encoded (record { row = row; own_at = own; limit_at = limit; default_at = default }) }
 {

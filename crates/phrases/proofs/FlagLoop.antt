@@ -80,10 +80,10 @@ module _ {s : List ℕ} {x : Reader} {e : ℕ} {u t : Token} {w : Words}
   pub loop_last :
       {w' : Words} {b m : ℕ} {k : Kept} {n : Noted}
       → t.class ≢ «|» → w' ≡ with_word w u.class (mark u.start) → b ≡ list_entry e w' → k ≡ with_entries x.kept (b ∷ [])
-      → m ≡ list_second e w' → n ≡ with_second x.noted m → ready t n k ≡ taking_flags s x e
+      → m ≡ list_second e w' → n ≡ with_second x.noted m → ready (token_at s u.end) n k ≡ taking_flags s x e
   unfolding with_entries
   loop_last n q v h a d =
-      rw (at_bar, d, a, h, v, q)
+      rw (d, a, h, v, q)
       (sym (g.same ∙ last_at s x e u w g.is_list m g.turns g.enough (λ z. n (ap (λ (a : Token). a.class) at_bar ∙ z))))
 
   pub loop_fewer : {v : Token} → t.class ≡ «|» → v ≡ token_at s t.end → length (stream s v) < length (stream s u)

@@ -14,8 +14,7 @@ use Rattle.ll1.specs.Trees.{Symbol}
 use Rattle.ll1.specs.Machine.{due_all}
 use Rattle.std.specs.Prelude.{Result}
 use Rattle.phrases.specs.declared.Cursor.{Cursor}
-use Rattle.phrases.specs.declared.kept.Entries.{Entries}
-use Rattle.phrases.specs.declared.reader.Standing.{Standing}
+use Rattle.phrases.specs.declared.kept.Findings.{Findings}
 use Rattle.elements.specs.declared.noted.Noted.{Noted}
 use Rattle.elements.specs.Entries.{KEPT, entries}
 use Rattle.elements.specs.Symbols.{symbols_of, elements_of}
@@ -110,5 +109,5 @@ module _ {s : List ℕ} {n : ℕ} {t : Token} {was : Noted} {l : List ℕ} {c : 
 
 -- ---- the slice that was lent holds what was kept
 
-pub landed : (r : Result Standing Standing) (k : Entries) {l : List ℕ} {x : Reader} → went r k ≡ x → l ≡ k.lent.now → went_at r (kept_at k.count l) ≡ x
-landed r k e f = rw f e
+pub landed : (r : Result Token Token) (f : Findings) {l : List ℕ} {x : Reader} → went r f ≡ x → l ≡ f.lent.now → went_at r f.noted (kept_at f.count l) ≡ x
+landed r f e q = rw q e

@@ -6,13 +6,12 @@ use Rattle.lexemes.specs.Classes.{«|», BAD}
 use Rattle.lex.specs.Tokens.{token_at}
 use Rattle.ll1.specs.ParseTable.{member}
 use Rattle.phrases.specs.declared.Cursor.{Cursor}
-use Rattle.phrases.specs.declared.kept.Entries.{Entries}
-use Rattle.phrases.specs.declared.reader.Standing.{Standing}
+use Rattle.phrases.specs.declared.kept.Findings.{Findings}
 use Rattle.elements.specs.declared.flags.Words.{Words}
 use Rattle.elements.specs.declared.noted.Noted.{Noted}
 use Rattle.elements.specs.Words.{no_words, with_word, list_entry, list_second}
 use Rattle.phrases.specs.Stream.{stream}
-use Rattle.elements.specs.Marks.{outside, noting, with_second}
+use Rattle.elements.specs.Marks.{Fault, outside, noting, with_second}
 use Rattle.grammar.specs.Parts.{mark}
 use Rattle.grammar.specs.Ranges.{out_of}
 use Rattle.elements.specs.Kinds.{MAYBE, GROUP, is_flag_list, starts_of, is_kept, element_range, element_entries}
@@ -36,17 +35,24 @@ with_entries k [] = k
 with_entries k (e ∷ es) = with_entries (with_entry k e) es
 
 -- those of the code, in the slice that was lent
-abbrev pub held : Entries → Kept
-held k = kept_at k.count k.lent.now
+abbrev pub held : Findings → Kept
+held f = kept_at f.count f.lent.now
 
 -- the slice that was lent stays the one that is written
-abbrev pub IsSameSlice : Entries → Entries → Type 0
-IsSameSlice k k' = k'.lent.ghost_name ≡ k.lent.ghost_name
+abbrev pub IsSameSlice : Findings → Findings → Type 0
+IsSameSlice f f' = f'.lent.ghost_name ≡ f.lent.ghost_name
 
--- entries es after those of k, which then is k'
-pub record Keeps (k : Entries) (es : List ℕ) (k' : Entries) : Type 0 where
-  pub kept : held k' ≡ with_entries (held k) es
-  pub lent : IsSameSlice k k'
+-- entries es after those of f, which then is f'
+pub record Keeps (f : Findings) (es : List ℕ) (f' : Findings) : Type 0 where
+  pub kept : held f' ≡ with_entries (held f) es
+  pub noted : f'.noted ≡ f.noted
+  pub lent : IsSameSlice f f'
+
+-- the faults xs noted after those of f, which then is f'
+pub record Notes (f : Findings) (xs : List Fault) (f' : Findings) : Type 0 where
+  pub kept : held f' ≡ held f
+  pub noted : f'.noted ≡ noting f.noted xs
+  pub lent : IsSameSlice f f'
 
 -- ---- where the reader stands
 
@@ -90,16 +96,21 @@ abbrev pub leaving_one : Reader → Reader
 leaving_one x = skipping x (x.skip - 1)
 
 -- where the code's reader stands
-abbrev pub stands : Standing → Entries → Reader
-stands at k = ready at.token at.noted (held k)
+abbrev pub stands : Token → Findings → Reader
+stands t f = ready t f.noted (held f)
 
--- and where it comes to, or is refused
-abbrev pub went_at : Result Standing Standing → Kept → Reader
-went_at (Ok at) k = ready at.token at.noted k
-went_at (Err at) k = refusing (ready at.token at.noted k) at.token
+-- and where it comes to, or the token that is refused
+abbrev pub went_at : Result Token Token → Noted → Kept → Reader
+went_at (Ok t) n k = ready t n k
+went_at (Err t) n k = refusing (ready t n k) t
 
-abbrev pub went : Result Standing Standing → Entries → Reader
-went r k = went_at r (held k)
+abbrev pub went : Result Token Token → Findings → Reader
+went r f = went_at r f.noted (held f)
+
+-- the same past an element whose last token ends at a place
+abbrev pub went_past : List ℕ → Result ℕ Token → Findings → Reader
+went_past s (Ok end) f = stands (token_at s end) f
+went_past s (Err t) f = refusing (stands t f) t
 
 -- ---- elements of one token
 

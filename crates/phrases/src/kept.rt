@@ -1,21 +1,25 @@
-// The entries that a phrase keeps for its row, in a lent slice, as far as there is room.
-ghost use Rattle.std.specs.Prelude.{◌≡◌, [], ◌∷◌, ◌<◌, ◌+◌, ◌^◌};
-ghost use Rattle.elements.specs.Kinds.{element_entry, reference_entries, element_entries};
-ghost use Rattle.phrases.specs.Phrase.{Keeps};
+// What a phrase gives beside its end: the entries that it keeps for its row, and the faults that are noted.
+ghost use Rattle.std.specs.Prelude.{◌≡◌, [], ◌∷◌, map, ◌<◌, ◌+◌, ◌^◌};
+ghost use Rattle.grammar.specs.Ranges.{out_of};
+ghost use Rattle.elements.specs.Marks.{outside, noting};
+ghost use Rattle.elements.specs.Kinds.{element_range, element_entry, reference_entries, element_entries};
+ghost use Rattle.phrases.specs.Phrase.{Keeps, Notes};
 
 use elements::flags::set_if;
 use elements::kinds::*;
+use elements::noted::{Noted, with_outside};
 use lex::Token;
 use lexemes::classes::*;
 
-// The slice, and how many entries stand in it.
+// The entries stand in a lent slice, as far as there is room, and are counted.
 #[derive(Drop)]
-pub struct Entries<'a> {
+pub struct Findings<'a> {
     pub lent: &'a mut [u64],
     pub count: usize,
+    pub noted: Noted,
 }
 
-impl Entries<'_> {
+impl Findings<'_> {
     // An entry more.
     pub fn push(&mut self, entry: u64)
         ensures { Keeps self.old (entry ∷ []) self.new }
@@ -45,6 +49,15 @@ impl Entries<'_> {
             self.push_reference(token.class, mark);
         } else {
             self.push(entry_of(want, token.class, mark));
+        }
+    }
+
+    // The token, which suits the element, may be a number out of its range.
+    pub fn note_range(&mut self, src: &[u8], want: u8, token: Token)
+        ensures { Notes self.old (map outside (out_of src.now (element_range want token.class) (token.start ∷ []))) self.new }
+    {
+        if !in_range(src, token, want) {
+            self.noted = with_outside(self.noted, Some(token.start));
         }
     }
 }

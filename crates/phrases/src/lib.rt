@@ -7,19 +7,18 @@ mod reader;
 ghost use Rattle.std.specs.Prelude.{◌≡◌};
 ghost use Rattle.phrases.specs.Phrase.{kept_at, reader, went_at, phrase_read};
 
-use crate::kept::Entries;
-use crate::reader::{Standing, read_phrase};
+use crate::kept::Findings;
+use crate::reader::read_phrase;
 use elements::noted::Noted;
 use elements::patterns::pattern;
 use lex::Token;
 use lexemes::classes::BAD;
 
 // The refusal of a token that does not fit (document 01, No. 3).
-// Stays: a number, since `read` hands on whatever refusal it is given.
+// Stays: a number, as the refusals that `read` takes and `Cursor` holds: `read` hands on whatever number it is given.
 pub const SYNTAX: u64 = 3;
 
 // Where the reader of a phrase stands: the refusal or 0, the token, the faults that are noted, how many entries are kept.
-// Stays: the refusal is a number, since `read` hands on whatever refusal it is given.
 #[derive(Clone, Copy)]
 pub struct Cursor {
     pub no: u64,
@@ -28,19 +27,23 @@ pub struct Cursor {
     pub count: usize,
 }
 
-// Where a phrase ends, or is refused, with how many entries it has kept.
-fn ended(end: Result<Standing, Standing>, count: usize) -> Cursor
-    ensures { (l : _) → reader result l ≡ went_at end (kept_at count l) }
+// Where a phrase ends, or is refused, with the faults that are noted then and how many entries are kept.
+fn ended(end: Result<Token, Token>, noted: Noted, count: usize) -> Cursor
+    ensures { (l : _) → reader result l ≡ went_at end noted (kept_at count l) }
 {
-    let (no, at) = match end {
-        Ok(at) => (0, at),
-        Err(at) => (SYNTAX, at),
-    };
-    Cursor {
-        no,
-        token: at.token,
-        noted: at.noted,
-        count,
+    match end {
+        Ok(token) => Cursor {
+            no: 0,
+            token,
+            noted,
+            count,
+        },
+        Err(token) => Cursor {
+            no: SYNTAX,
+            token,
+            noted,
+            count,
+        },
     }
 }
 
@@ -59,15 +62,11 @@ pub fn read(src: &[u8], no: u64, token: Token, noted: Noted, phrase: u8, kept: &
             count: 0,
         };
     }
-    let mut entries = Entries {
+    let mut found = Findings {
         lent: kept,
         count: 0,
+        noted,
     };
-    let end = read_phrase(
-        src,
-        Standing { token, noted },
-        pattern(phrase),
-        &mut entries,
-    );
-    ended(end, entries.count)
+    let end = read_phrase(src, token, pattern(phrase), &mut found);
+    ended(end, found.noted, found.count)
 }

@@ -1,126 +1,103 @@
 // The reader of a phrase: its elements one after another, from a token on.
-ghost use Rattle.std.specs.Prelude.{◌≡◌, true, [], ◌∷◌, map, ◌+◌, ◌<◌, ◌^◌};
+ghost use Rattle.std.specs.Prelude.{◌≡◌, true, ◌+◌, ◌<◌, ◌^◌};
+ghost use Rattle.lex.specs.Tokens.{token_at};
 ghost use Rattle.phrases.specs.Stream.{Within};
 ghost use Rattle.ll1.specs.ParseTable.{member};
-ghost use Rattle.elements.specs.Marks.{outside, noting};
-ghost use Rattle.grammar.specs.Ranges.{out_of};
-ghost use Rattle.elements.specs.Kinds.{is_flag_list, starts_of, is_kept, element_range};
-ghost use Rattle.phrases.specs.Phrase.{IsSameSlice, stands, went, taking, taking_flags, fitting, phrase_from};
+ghost use Rattle.elements.specs.Kinds.{is_flag_list, starts_of, is_kept};
+ghost use Rattle.phrases.specs.Phrase.{IsSameSlice, stands, went, went_past, taking, taking_flags, fitting, phrase_from};
 
-use crate::kept::Entries;
+use crate::kept::Findings;
 use elements::flags;
 use elements::kinds::*;
-use elements::noted::{Noted, with_outside, with_second};
+use elements::noted::with_second;
 use lex::Token;
 use lexemes::classes::*;
 
-// Where the reader stands: the token, and the faults that are noted. A refusal is where it stood then.
-#[derive(Clone, Copy)]
-pub struct Standing {
-    pub token: Token,
-    pub noted: Noted,
-}
-
-// The faults that are noted, with the token, which suits the element: a number may be out of its range.
-fn note_range(src: &[u8], noted: Noted, token: Token, want: u8) -> Noted
-    ensures { result ≡ noting noted (map outside (out_of src.now (element_range want token.class) (token.start ∷ []))) }
+// Takes the token, which suits the element, as the element.
+fn take_token(src: &[u8], token: Token, found: &mut Findings, want: u8)
+    requires { is_kept want ≡ true → token.start + 1 < 2 ^ 64 }
+    ensures reads { stands (token_at src.now token.end) found.new ≡ taking src.now (stands token found.old) want }
+    ensures lent { IsSameSlice found.old found.new }
 {
-    if noted.outside.is_some() || in_range(src, token, want) {
-        return noted;
-    }
-    with_outside(noted, Some(token.start))
-}
-
-// The reader past the token, which suits the element.
-fn take_token(src: &[u8], at: Standing, kept: &mut Entries, want: u8) -> Standing
-    requires { is_kept want ≡ true → at.token.start + 1 < 2 ^ 64 }
-    ensures reads { stands result kept.new ≡ taking src.now (stands at kept.old) want }
-    ensures lent { IsSameSlice kept.old kept.new }
-{
-    let token = lex::token_at(src, at.token.end);
     // Of a sign or a reserved word nothing is kept.
     if (want == NAME) | (ID <= want) {
-        let noted = note_range(src, at.noted, at.token, want);
-        kept.push_element(want, at.token);
-        return Standing { token, noted };
+        found.note_range(src, want, token);
+        found.push_element(want, token);
     }
-    Standing { token, ..at }
 }
 
-// The reader past the element's flag words, of which its token is one; or the refusal. Their entry is kept, and a numeric's
-// second size or display word is noted.
-fn take_flags(src: &[u8], at: Standing, kept: &mut Entries, want: u8) -> Result<Standing, Standing>
-    requires { (is_flag_list want ≡ true) × (member at.token.class (starts_of want) ≡ true) × Within src.now at.token }
-    ensures reads { went result kept.new ≡ taking_flags src.now (stands at kept.old) want }
-    ensures lent { IsSameSlice kept.old kept.new }
+// Takes the element's flag words from the token on, which is one: where the last of them ends, or the token that is none. Their
+// entry is kept, and a numeric's second size or display word is noted.
+fn take_flags(src: &[u8], token: Token, found: &mut Findings, want: u8) -> Result<usize, Token>
+    requires { (is_flag_list want ≡ true) × (member token.class (starts_of want) ≡ true) × Within src.now token }
+    ensures reads { went_past src.now result found.new ≡ taking_flags src.now (stands token found.old) want }
+    ensures lent { IsSameSlice found.old found.new }
 {
-    let mut word = at.token;
+    let mut word = token;
     let mut words = flags::no_words();
     loop {
         words = flags::with_word(words, word.class, word.start);
         let bar = lex::token_at(src, word.end);
         if bar.class != BAR {
-            kept.push(flags::list_entry(want, words));
-            let noted = with_second(at.noted, flags::list_second(want, words));
-            return Ok(Standing { token: bar, noted });
+            found.push(flags::list_entry(want, words));
+            found.noted = with_second(found.noted, flags::list_second(want, words));
+            return Ok(word.end);
         }
         word = lex::token_at(src, bar.end);
         if !suits(want, word.class) {
-            return Err(Standing { token: word, ..at });
+            return Err(word);
         }
     }
 }
 
-// The reader past an element other than MAYBE, or the refusal.
-fn read_element(
-    src: &[u8],
-    at: Standing,
-    kept: &mut Entries,
-    want: u8,
-) -> Result<Standing, Standing>
-    requires { Within src.now at.token }
-    ensures reads { went result kept.new ≡ fitting src.now (stands at kept.old) want }
-    ensures lent { IsSameSlice kept.old kept.new }
+// Reads an element other than MAYBE from the token on: where its last token ends, or the token that does not fit.
+fn read_element(src: &[u8], token: Token, found: &mut Findings, want: u8) -> Result<usize, Token>
+    requires { Within src.now token }
+    ensures reads { went_past src.now result found.new ≡ fitting src.now (stands token found.old) want }
+    ensures lent { IsSameSlice found.old found.new }
 {
-    if !suits(want, at.token.class) {
-        return Err(at);
+    if !suits(want, token.class) {
+        return Err(token);
     }
     if (want == FLAG_LIST) | (want == NUMERIC_FLAGS) {
-        return take_flags(src, at, kept, want);
+        return take_flags(src, token, found, want);
     }
-    Ok(take_token(src, at, kept, want))
+    take_token(src, token, found, want);
+    Ok(token.end)
 }
 
-// Reads a phrase from a token on: the reader past it, or the refusal. Its entries are kept after those that are kept before.
+// Reads a phrase from a token on: the token after it, or the one that does not fit. Its entries are kept after those that
+// are kept before.
 pub fn read_phrase(
     src: &[u8],
-    first: Standing,
+    first: Token,
     pattern: &[u8],
-    kept: &mut Entries,
-) -> Result<Standing, Standing>
-    requires { Within src.now first.token }
-    ensures reads { went result kept.new ≡ phrase_from src.now pattern.now (stands first kept.old) }
-    ensures lent { IsSameSlice kept.old kept.new }
+    found: &mut Findings,
+) -> Result<Token, Token>
+    requires { Within src.now first }
+    ensures reads { went result found.new ≡ phrase_from src.now pattern.now (stands first found.old) }
+    ensures lent { IsSameSlice found.old found.new }
 {
-    let mut at = first;
+    let mut token = first;
     let mut left = pattern;
     while let Some((&want, rest)) = left.split_first() {
         left = rest;
         if want < NAME {
             // A sign or a reserved word.
-            if at.token.class != want {
-                return Err(at);
+            if token.class != want {
+                return Err(token);
             }
-            at.token = lex::token_at(src, at.token.end);
+            token = lex::token_at(src, token.end);
         } else if want == MAYBE {
             let next = rest.first().copied().unwrap_or(0);
-            if at.token.class != next {
-                kept.push(0);
+            if token.class != next {
+                found.push(0);
                 left = &rest[GROUP.min(rest.len())..];
             }
         } else {
-            at = read_element(src, at, kept, want)?;
+            let end = read_element(src, token, found, want)?;
+            token = lex::token_at(src, end);
         }
     }
-    Ok(at)
+    Ok(token)
 }

@@ -18,4 +18,4 @@ returns c =
     let args = c.args in
     let h = read_here args.src.now args.no args.token args.noted args.phrase args.kept.now c.if-no-starts_past.false in
     let reads = rw c.pattern.ensures at c.read_phrase-end.ensures.reads in
-    c.ended.ensures _ ∙ (landed c.read_phrase-end.result c.read_phrase-end.new.kept reads (search rules) ∙ sym (read_on _ _ _ _ _ _ h.0 h.1))
+    c.ended.ensures _ ∙ (landed c.read_phrase-end.result c.read_phrase-end.new.found reads (search rules) ∙ sym (read_on _ _ _ _ _ _ h.0 h.1))

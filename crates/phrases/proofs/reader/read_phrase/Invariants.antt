@@ -6,7 +6,7 @@ use Rattle.phrases.proofs.PhraseLoop.{Turns}
 use Rattle.phrases.proofs.reader.read_phrase.Given as goal
 
 abbrev pub invariant-loop-want : goal.invariant-loop-want
-invariant-loop-want l = Turns l.src l.pattern (stands l.initial.at l.initial.kept) l.left (stands l.at l.kept) × IsSameSlice l.initial.kept l.kept
+invariant-loop-want l = Turns l.src l.pattern (stands l.initial.token l.initial.found) l.left (stands l.token l.found) × IsSameSlice l.initial.found l.found
 
 abbrev pub decreases-loop-want : goal.decreases-loop-want
 decreases-loop-want l = length l.left

@@ -5,40 +5,38 @@ use Rattle.phrases.proofs.Streams.{within_at}
 use Rattle.phrases.proofs.FlagLoop.{going_on, flags_refused, loop_last, loop_fewer, loop_more}
 use Rattle.phrases.proofs.reader.take_flags.Goals as goal
 
-pub loop-kept-init : goal.loop-kept-init
-loop-kept-init c = let given = c.requires in rw c.no_words-words.ensures (refl, going_on _ _ _ given.0, given.1, given.2)
+pub loop-bar-init : goal.loop-bar-init
+loop-bar-init c = let given = c.requires in rw c.no_words-words.ensures (refl, going_on _ _ _ given.0, given.1, given.2)
 
 pub returns-then-bar-ne-BAR-clause-reads : goal.returns-then-bar-ne-BAR-clause-reads
 returns-then-bar-ne-BAR-clause-reads c =
-    let last = c in
-    let turn = last in
-    let i = turn.loop-kept.invariant in
-    let kept = rw i.0 at last.push.ensures.kept in
-    let taken = loop_last i.1 turn.token_at-bar.ensures i.2 in
-    taken last.if-bar-ne-BAR.true turn.with_word-words.ensures last.list_entry.ensures kept
-    c.list_second.ensures c.with_second-noted.ensures
+    let i = c.loop-bar.invariant in
+    let kept = rw i.0 at c.push.ensures.kept in
+    let noted = rw (c.push.ensures.noted, i.0) at c.with_second-found.ensures in
+    let taken = loop_last i.1 c.token_at-bar.ensures i.2 in
+    taken c.if-bar-ne-BAR.true c.with_word-words.ensures c.list_entry.ensures kept c.list_second.ensures noted
 
 pub returns-then-bar-ne-BAR-clause-lent : goal.returns-then-bar-ne-BAR-clause-lent
-returns-then-bar-ne-BAR-clause-lent c = rw c.loop-kept.invariant.0 at c.push.ensures.lent
+returns-then-bar-ne-BAR-clause-lent c = rw c.loop-bar.invariant.0 at c.push.ensures.lent
 
 pub returns-then-not-suits-clause-reads : goal.returns-then-not-suits-clause-reads
 returns-then-not-suits-clause-reads c =
     let turn = c in
-    let i = turn.loop-kept.invariant in
+    let i = turn.loop-bar.invariant in
     let next = loop_more i.1 turn.token_at-bar.ensures i.2 in
     let more = next c.if-bar-ne-BAR.false c.token_at-word.ensures turn.with_word-words.ensures in
     rw i.0 (sym (flags_refused more (sym c.suits.ensures ∙ c.if-not-suits.true)))
 
-pub loop-kept-smaller : goal.loop-kept-smaller
-loop-kept-smaller c =
+pub loop-bar-smaller : goal.loop-bar-smaller
+loop-bar-smaller c =
     let turn = c in
-    let i = turn.loop-kept.invariant in
+    let i = turn.loop-bar.invariant in
     loop_fewer i.1 turn.token_at-bar.ensures i.2 c.if-bar-ne-BAR.false c.token_at-word.ensures
 
-pub loop-kept-preserved : goal.loop-kept-preserved
-loop-kept-preserved c =
+pub loop-bar-preserved : goal.loop-bar-preserved
+loop-bar-preserved c =
     let turn = c in
-    let i = turn.loop-kept.invariant in
+    let i = turn.loop-bar.invariant in
     let next = loop_more i.1 turn.token_at-bar.ensures i.2 in
     let more = next c.if-bar-ne-BAR.false c.token_at-word.ensures turn.with_word-words.ensures in
     (i.0, more, sym c.suits.ensures ∙ c.if-not-suits.false, rw c.token_at-word.ensures (within_at _ _))

@@ -10,9 +10,9 @@ use Rattle.phrases.specs.Phrase.{stands}
 use Rattle.phrases.proofs.FlagLoop.{Going}
 use Rattle.phrases.proofs.reader.take_flags.Given as goal
 
-abbrev pub invariant-loop-kept : goal.invariant-loop-kept
-invariant-loop-kept l =
-    (l.kept ≡ l.initial.kept) × Going l.src (stands l.at l.initial.kept) l.want l.word l.words × (member l.word.class (starts_of l.want) ≡ true) × Within l.src l.word
+abbrev pub invariant-loop-bar : goal.invariant-loop-bar
+invariant-loop-bar l =
+    (l.found ≡ l.initial.found) × Going l.src (stands l.fn.token l.initial.found) l.want l.word l.words × (member l.word.class (starts_of l.want) ≡ true) × Within l.src l.word
 
-abbrev pub decreases-loop-kept : goal.decreases-loop-kept
-decreases-loop-kept l = length (stream l.src l.word)
+abbrev pub decreases-loop-bar : goal.decreases-loop-bar
+decreases-loop-bar l = length (stream l.src l.word)

@@ -1,4 +1,5 @@
 -- `phrases::reader::take_token` meets its contract.
+use mathlib.Core.Path.{◌∙◌}
 use Rattle.phrases.specs.Phrase.{taking}
 use Rattle.phrases.proofs.reader.take_token.Goals as goal
 
@@ -7,11 +8,11 @@ push_element-requires c = c.requires c.if-want.true
 
 pub returns-then-want-clause-reads : goal.returns-then-want-clause-reads
 unfolding taking
-returns-then-want-clause-reads c = rw (c.token_at-token.ensures, c.if-want.true, ← c.note_range-noted.ensures, ← c.push_element.ensures.kept)
+returns-then-want-clause-reads c = rw (c.if-want.true, c.push_element.ensures.kept, c.push_element.ensures.noted, c.note_range.ensures.kept, c.note_range.ensures.noted)
 
 pub returns-then-want-clause-lent : goal.returns-then-want-clause-lent
-returns-then-want-clause-lent c = c.push_element.ensures.lent
+returns-then-want-clause-lent c = c.push_element.ensures.lent ∙ c.note_range.ensures.lent
 
-pub returns-clause-reads : goal.returns-clause-reads
+pub returns-else-want-clause-reads : goal.returns-else-want-clause-reads
 unfolding taking
-returns-clause-reads c = rw (c.token_at-token.ensures, c.if-want.false)
+returns-else-want-clause-reads c = rw c.if-want.false

@@ -1,8 +1,8 @@
--- `phrases::kept::Entries::push_element` meets its contract.
+-- `phrases::kept::Findings::push_element` meets its contract.
 use native.Mathlib.Numerals.{add-one}
 use borrow.Author.Tests.{eq-eqb, ne_eqb}
 use Rattle.elements.specs.Kinds.{element_entries}
-use Rattle.phrases.proofs.kept.Entries.push_element.Goals as goal
+use Rattle.phrases.proofs.kept.Findings.push_element.Goals as goal
 
 pub returns-then-want-eq-REFERENCE : goal.returns-then-want-eq-REFERENCE
 unfolding element_entries

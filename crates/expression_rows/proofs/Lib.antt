@@ -1,3 +1,3 @@
 -- The laws of `expression_rows`: by the code's tests; and of rows that are those of an expression.
-pub mod EndLaws
+pub mod ValueLaws
 pub mod Theorems

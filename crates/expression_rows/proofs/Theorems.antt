@@ -1,6 +1,6 @@
 -- The expression that follows a row, where its rows are those of an expression: they end where it ends, and have its meaning.
 -- Assumes nothing.
-use Prim.Native.Nat.{ℕ, suc, ◌-◌, ◌≤◌, ◌<◌}
+use Prim.Native.Nat.{ℕ, suc, ◌≤◌, ◌<◌}
 use mathlib.Core.Path.{◌≡◌, ap, ◌∙◌}
 use mathlib.Core.List.{List}
 use native.Mathlib.Omega.{arith}
@@ -16,14 +16,9 @@ use Rattle.evaluate.specs.Machine.{ROOM}
 use Rattle.evaluate.specs.Spells.{Spells}
 use Rattle.evaluate.specs.Lent.{value_in}
 use Rattle.evaluate.proofs.Theorems.{evaluated_meaning}
-use Rattle.expression_rows.specs.Ends.{end_from, value_after}
-use Rattle.expression_rows.proofs.EndLaws.{end_parts, value_empty}
-
-module _ (t : List ℕ) (count : ℕ) where
-  pub end_stretch : (i j : ℕ) → i ≤ count → Stretch t count i j → end_from t count i ≡ j
-  end_stretch i j h s =
-      let up : i ≤ j = s.up in
-      end_parts t count (j - i) i j (omega arith) (s.below h) s.within s.ends
+use Rattle.expression_rows.specs.Ends.{value_after}
+use Rattle.laid.proofs.EndLaws.{end_stretch}
+use Rattle.expression_rows.proofs.ValueLaws.{value_empty}
 
 -- the expression after row i: its rows go up to before j
 module _ (answers gotos checkboxes : List ℕ) (rules : List Scalar) (t : List ℕ) (count i j : ℕ) (inside : i < count) (stretch : Stretch t count (suc i) j) where

@@ -6,3 +6,5 @@ pub mod HeldTrees
 pub mod Forests
 pub mod FinishedRows
 pub mod Theorems
+-- Where the rows of an expression end, by the code's tests and of rows that are those of an expression.
+pub mod EndLaws

@@ -3,3 +3,5 @@ pub mod Items
 pub mod Statements
 pub mod Spans
 pub mod Laid
+-- Where the rows of an expression end.
+pub mod Ends

@@ -9,28 +9,17 @@ use lexemes::bytes::byte_at;
 pub fn line_end(src: &[u8], at: usize) -> usize
     ensures { result ≡ at + run (λ b. not (eqb b 10)) (drop at src.now) }
 {
-    let mut i = at;
-    while i < src.len() {
+    for i in at..src.len() {
         if src[i] == b'\n' {
             return i;
-        } else {
-            i += 1;
         }
     }
-    i
+    src.len().max(at)
 }
 
 // A comment starts at `at`.
 pub fn starts_comment(src: &[u8], at: usize) -> bool
     ensures { result ≡ opens_comment (get_or src.now at 0) (get_or src.now (at + 1) 0) }
 {
-    if at < src.len() {
-        if src[at] == b'/' {
-            byte_at(src, at + 1) == b'/'
-        } else {
-            false
-        }
-    } else {
-        false
-    }
+    at < src.len() && src[at] == b'/' && byte_at(src, at + 1) == b'/'
 }

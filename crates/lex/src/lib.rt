@@ -10,13 +10,13 @@ ghost use Rattle.lexemes.specs.Bytes.{is_digit, is_word_byte};
 ghost use Rattle.lexemes.specs.Words.{word};
 ghost use Rattle.lex.specs.Tokens.{word_token, sign_token, token_from, token_at, first_bad};
 
-use lexemes::bytes::{byte_at, in_word, is_blank, is_digit};
-use lexemes::classes::{BAD, DECIMAL, END, NAME, SEMICOLON, SIGNS};
+use lexemes::bytes::{byte_at, is_blank, is_digit, is_word_byte};
+use lexemes::classes::{BAD, DECIMAL, END, NAME};
 use lexemes::reserved::class_of;
 use lexemes::words::word_end;
 
 // A class of `lexemes::classes`; start and end, both the first byte of a bad token, and the source's length at the end.
-#[derive(Clone, Copy)]
+#[derive(Clone, Copy, Debug, PartialEq, Eq)]
 pub struct Token {
     pub class: u8,
     pub start: usize,
@@ -39,9 +39,7 @@ fn word_token(src: &[u8], at: usize) -> Token
     requires { (at < length src.now) × (is_word_byte (get_or src.now at 0) ≡ true) × (is_digit (get_or src.now at 0) ≡ false) }
     ensures { result ≡ word_token (word (drop at src.now)) at }
 {
-    let mut end = words::likely_end(src, at);
-    let mut sure = false;
-    loop {
+    if let Some(end) = words::likely_end(src, at) {
         let class = class_of(&src[at..end]);
         if class < NAME {
             return Token {
@@ -50,15 +48,12 @@ fn word_token(src: &[u8], at: usize) -> Token
                 end,
             };
         }
-        if sure {
-            return Token {
-                class: NAME,
-                start: at,
-                end,
-            };
-        }
-        end = word_end(src, at + 1);
-        sure = true;
+    }
+    let end = word_end(src, at + 1);
+    Token {
+        class: class_of(&src[at..end]),
+        start: at,
+        end,
     }
 }
 
@@ -84,13 +79,10 @@ fn number_token(src: &[u8], at: usize) -> Token
     requires { (at < length src.now) × (is_digit (get_or src.now at 0) ≡ true) }
     ensures { result ≡ word_token (word (drop at src.now)) at }
 {
-    let mut i = at + 1;
-    while i < src.len() {
+    for i in at + 1..src.len() {
         let b = src[i];
-        if is_digit(b) {
-            i += 1;
-        } else {
-            if in_word(b) {
+        if !is_digit(b) {
+            if is_word_byte(b) {
                 return any_number(src, at);
             }
             return Token {
@@ -103,7 +95,7 @@ fn number_token(src: &[u8], at: usize) -> Token
     Token {
         class: DECIMAL,
         start: at,
-        end: i,
+        end: src.len(),
     }
 }
 
@@ -113,30 +105,21 @@ fn sign_token(src: &[u8], at: usize) -> Token
     ensures { result ≡ sign_token (drop at src.now) at }
 {
     let b = src[at];
-    let one = signs::one_byte(b);
-    if one <= SEMICOLON {
+    if let Some(class) = signs::two_bytes(b, byte_at(src, at + 1)) {
         return Token {
-            class: one,
-            start: at,
-            end: at + 1,
-        };
-    }
-    let two = signs::two_bytes(b, byte_at(src, at + 1));
-    if two < SIGNS {
-        return Token {
-            class: two,
+            class,
             start: at,
             end: at + 2,
         };
     }
-    if one < SIGNS {
-        return Token {
-            class: one,
+    match signs::one_byte(b) {
+        Some(class) => Token {
+            class,
             start: at,
             end: at + 1,
-        };
+        },
+        None => empty(BAD, at),
     }
-    empty(BAD, at)
 }
 
 // The token that starts at a place.
@@ -145,13 +128,13 @@ fn token_from(src: &[u8], at: usize) -> Token
     ensures { result ≡ token_from (drop at src.now) at }
 {
     let b = src[at];
-    if in_word(b) {
-        if is_digit(b) {
-            return number_token(src, at);
-        }
-        return word_token(src, at);
+    if !is_word_byte(b) {
+        sign_token(src, at)
+    } else if is_digit(b) {
+        number_token(src, at)
+    } else {
+        word_token(src, at)
     }
-    sign_token(src, at)
 }
 
 // The first token at or after a place; past the source it is the end.
@@ -162,12 +145,10 @@ pub fn token_at(src: &[u8], at: usize) -> Token
     while i < src.len() {
         if is_blank(src[i]) {
             i += 1;
+        } else if gaps::starts_comment(src, i) {
+            i = gaps::line_end(src, i);
         } else {
-            if gaps::starts_comment(src, i) {
-                i = gaps::line_end(src, i);
-            } else {
-                return token_from(src, i);
-            }
+            return token_from(src, i);
         }
     }
     empty(END, src.len())

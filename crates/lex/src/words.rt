@@ -1,14 +1,14 @@
 // Words and numbers: a guess where a word ends, and the class of a number.
-ghost use Rattle.std.specs.Prelude.{◌≡◌, true, ◌≤◌, ◌<◌, length, get_or};
+ghost use Rattle.std.specs.Prelude.{◌≡◌, true, ◌≤◌, ◌<◌, length, get_or, IfSome};
 ghost use Rattle.lexemes.specs.Bytes.{is_digit};
 ghost use Rattle.lex.specs.Likely.{LikelyEnd};
 ghost use Rattle.lex.specs.Tokens.{word_class};
 
-use lexemes::bytes::in_word;
+use lexemes::bytes::is_word_byte;
 use lexemes::classes::{BAD, DECIMAL, HEX};
 use values::numerals::{all_digits, is_hex};
 
-// The length of the most frequent reserved word that starts with a letter.
+// The length of the most frequent reserved word that starts with a letter; 0 where there is none.
 fn likely_length(b: u8) -> usize
     ensures { result ≤ 12 }
 {
@@ -43,19 +43,15 @@ fn likely_length(b: u8) -> usize
 }
 
 // A guess where the word at a place ends, to be tried first: no letter, digit or `_` stands there.
-pub fn likely_end(src: &[u8], at: usize) -> usize
+pub fn likely_end(src: &[u8], at: usize) -> Option<usize>
     requires { at < length src.now }
-    ensures { LikelyEnd src.now at result }
+    ensures { IfSome result (LikelyEnd src.now at) }
 {
-    let size = likely_length(src[at]);
-    if size < src.len() - at {
-        return if in_word(src[at + size]) {
-            src.len()
-        } else {
-            at + size
-        };
+    let end = at + likely_length(src[at]);
+    match src.get(end) {
+        Some(b) if !is_word_byte(*b) => Some(end),
+        _ => None,
     }
-    src.len()
 }
 
 // The class of a run of letters, digits and `_` that starts with a digit.
@@ -64,10 +60,10 @@ pub fn number_class(w: &[u8]) -> u8
     ensures { result ≡ word_class w.now }
 {
     if all_digits(w) {
-        return DECIMAL;
+        DECIMAL
+    } else if is_hex(w) {
+        HEX
+    } else {
+        BAD
     }
-    if is_hex(w) {
-        return HEX;
-    }
-    BAD
 }

@@ -1,5 +1,5 @@
 // Recognising the reserved words: a word is searched in the list as in a dictionary, from the first word with its letter on.
-ghost use Rattle.std.specs.Prelude.{◌≡◌, ◌+◌, ◌≤◌, drop};
+ghost use Rattle.std.specs.Prelude.{◌≡◌, ◌+◌, ◌≤◌, drop, unwrap_or};
 ghost use Rattle.lexemes.specs.Classes.{SIGNS};
 ghost use Rattle.lexemes.specs.Lexemes.{reserved};
 ghost use Rattle.lexemes.specs.Search.{COUNT, letter_start, scan};
@@ -44,46 +44,43 @@ fn first_class(letter: u8) -> u8
     }
 }
 
-// The place of a packed word among those from a place on that have its letter, or COUNT.
-fn find(wanted: Packed, from: usize) -> usize
-    requires { from ≤ COUNT }
-    ensures { result ≡ scan COUNT from wanted.first wanted.rest (drop from reserved) }
+// The place of a packed word among those from a place on that have its letter.
+fn find(wanted: Packed, from: usize) -> Option<usize>
+    ensures { unwrap_or result COUNT ≡ scan COUNT from wanted.first wanted.rest (drop from reserved) }
 {
-    let mut i = from;
-    while i < COUNT {
+    for i in from..COUNT {
         let row = listed(i);
-        if (row.first == wanted.first) & (row.rest == wanted.rest) {
-            return i;
+        if row == wanted {
+            return Some(i);
         }
         if row.first % 256 != wanted.first % 256 {
-            return COUNT;
+            return None;
         }
-        i += 1;
     }
-    COUNT
+    None
 }
 
-// The place of a word in the list, or COUNT where it is not reserved.
-fn place_of(w: &[u8]) -> usize
-    ensures { result ≡ place_among w.now reserved }
+// The place of a word in the list; none where it is not reserved.
+fn place_of(w: &[u8]) -> Option<usize>
+    ensures { unwrap_or result COUNT ≡ place_among w.now reserved }
 {
     let n = w.len();
-    if n < 2 {
-        return COUNT;
-    }
-    if 16 < n {
-        return COUNT;
+    if n < 2 || 16 < n {
+        return None;
     }
     // The blanks after a word are none of its bytes.
     if w[n - 1] == b' ' {
-        return COUNT;
+        return None;
     }
-    find(pack_word(w), (first_class(w[0]) - SIGNS) as usize)
+    find(pack_word(w), usize::from(first_class(w[0]) - SIGNS))
 }
 
 // The class of a word that does not start with a digit.
 pub fn class_of(w: &[u8]) -> u8
     ensures { result ≡ SIGNS + place_among w.now reserved }
 {
-    SIGNS + place_of(w) as u8
+    match place_of(w) {
+        Some(place) => SIGNS + place as u8,
+        None => NAME,
+    }
 }

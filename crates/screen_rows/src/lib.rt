@@ -53,6 +53,7 @@ fn is_true(v: Scalar) -> bool
 
 // ---- the first pass: the byte of every row says what the conditions round the statements in it do to them
 
+// Stays: they are the bits of an item's byte, which the C interface (`vfr_show`) fixes.
 const HIDDEN: u8 = 1;
 
 const GREY: u8 = 2;
@@ -100,6 +101,7 @@ fn flag_rows(out: &mut [u8], table: &[u64], known: Known)
         (length out.old))
         (length out.old) }
 {
+    // Stays: a row's flags are found from the bytes before it in `out`, which `iter_mut` would hold.
     for row in 0..out.len() {
         out[row] = flags_in(out, row, table, known);
     }

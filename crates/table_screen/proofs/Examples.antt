@@ -17,7 +17,7 @@ use Rattle.saved_answers.specs.Answers.{by_kind}
 use Rattle.saved_answers.specs.Search.{halved, lowest, searched, question_value}
 use Rattle.answers.proofs.Computed.{rows_read}
 use Rattle.evaluate.specs.Machine.{is_binary, pushed, stepped, operand_value, after_rows, evaluated}
-use Rattle.expression_rows.specs.Ends.{end_of}
+use Rattle.laid.specs.Ends.{end_of}
 use Rattle.rule_values.specs.Values.{placed_row, placed_rows, with_rule, with_rules}
 use Rattle.screen.specs.Kinds.{items, hiding, greying, is_item, hides, greys}
 use Rattle.screen_rows.specs.Passes.{flags_in, all_flags, items_only, shown}

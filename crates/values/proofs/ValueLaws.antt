@@ -1,7 +1,7 @@
 -- The value of digits, one digit after the other, against what 64 bits hold.
 -- Assumes nothing.
-use mathlib.Core.Path.{◌≡◌, sym, ap}
-use mathlib.Core.Bool.{true, false}
+use mathlib.Core.Path.{◌≡◌, refl, sym, ap}
+use mathlib.Core.Bool.{Bool, true, false}
 use mathlib.Core.List.{List, [], ◌∷◌}
 use Prim.Native.Nat.{ℕ, zero, suc, ◌+◌, ◌-◌, ◌*◌, ◌^◌, ◌≤◌, ◌<◌}
 use native.Mathlib.Nat.{le_refl, le_trans, le-mul_of_pos_right, mul-le-mul_right}
@@ -11,24 +11,35 @@ use lib.Seq.{get_or-drop}
 use borrow.Author.Tests.{lt-ltb, le-ltb, ne_eqb}
 use Rattle.std.specs.Prelude.{Some, None}
 use Rattle.lexemes.specs.Bytes.{is_digit, is_word_byte}
-use Rattle.lexemes.specs.Words.{run, word}
+use Rattle.lexemes.specs.Words.{run, all, word}
 use Rattle.values.specs.Numbers.{digit_value, value_from, marks_hex, numeral, fitted, value_at}
-use Rattle.lexemes.proofs.Lists.{either_less, from_end, from_next}
+use Rattle.lexemes.proofs.Lists.{either, either_less, from_end, from_next}
 use Rattle.lexemes.proofs.Steps.{digit_word, digit_range}
 use Rattle.lexemes.proofs.WordParts.{word_next, word_empty}
+
+all_each : (p : ℕ → Bool) (s : List ℕ) → ((k : ℕ) → k < length s → p (get_or s k 0) ≡ true) → all p s ≡ true
+unfolding all
+all_each p [] h = refl
+all_each p (b ∷ s) h = rw (h 0 (omega arith)) (all_each p s (λ k l. h (suc k) (omega arith)))
+
+all_some : (p : ℕ → Bool) (s : List ℕ) (k : ℕ) → k < length s → p (get_or s k 0) ≡ false → all p s ≡ false
+unfolding all
+all_some p [] k l h = absurd (omega arith)
+all_some p (b ∷ s) zero l h = rw h
+all_some p (b ∷ s) (suc k) l h = either (p b) (λ e. rw e (all_some p s k (omega arith) h)) (λ e. rw e)
+
+-- what a test of every byte tells: that each passes, or that one does not
+pub all_told : (p : ℕ → Bool) (s : List ℕ) (told : Bool)
+    → (told ≡ true → (k : ℕ) → k < length s → p (get_or s k 0) ≡ true)
+    → (told ≡ false → (k : ℕ) × (k < length s) × (p (get_or s k 0) ≡ false)) → told ≡ all p s
+all_told p s true each some = sym (all_each p s (each refl))
+all_told p s false each some = let one = some refl in sym (all_some p s one.0 one.1 one.2)
 
 pub fitted_fits : (v : ℕ) → v < 2 ^ 64 → fitted v ≡ Some v
 fitted_fits v h = rw (lt-ltb v (2 ^ 64) h)
 
 pub fitted_large : (v : ℕ) → 2 ^ 64 ≤ v → fitted v ≡ None
 fitted_large v h = rw (le-ltb v (2 ^ 64) h)
-
--- `limit` is the largest number whose product with the base fits
-pub product_large : (base limit v : ℕ) → 2 ^ 64 ≤ limit * base + base → limit < v → 2 ^ 64 ≤ v * base
-product_large base limit v top h = omega (arith, mul-le-mul_right base h)
-
-pub product_fits : (base limit v : ℕ) → limit * base < 2 ^ 64 → v ≤ limit → v * base < 2 ^ 64
-product_fits base limit v top h = omega (arith, mul-le-mul_right base h)
 
 -- digits from the place i on, after digits of the value v
 module _ (base v : ℕ) (s : List ℕ) (i : ℕ) where

@@ -3,63 +3,36 @@
 
 pub mod numerals;
 
-ghost use Rattle.std.specs.Prelude.{◌≡◌, ◌<◌, ◌≤◌, ◌+◌, ◌*◌, ◌^◌, false, length, drop};
+ghost use Rattle.std.specs.Prelude.{◌≡◌, ◌<◌, false, length, drop, IfSome};
 ghost use Rattle.values.specs.Numbers.{digit_value, value_from, marks_hex, numeral, fitted, value_at, digits_at};
 ghost use Rattle.lexemes.specs.Words.{word};
 
-use lexemes::bytes::{byte_at, in_word, is_digit};
+use lexemes::bytes::{byte_at, is_digit, is_word_byte};
 use lexemes::words::word_end;
-
-// The largest number of 64 bits, and what is left of it after a division by each base.
-const MAX: u64 = 18446744073709551615;
-
-const MAX_TENTHS: u64 = 1844674407370955161;
-
-const MAX_SIXTEENTHS: u64 = 1152921504606846975;
 
 // The value of a digit of base 10 or 16.
 fn digit_value(b: u8) -> u8
     ensures { result ≡ digit_value b }
 {
-    if b < 48 {
-        return 0;
+    if b <= b'9' {
+        b.saturating_sub(b'0')
+    } else if b <= b'F' {
+        b - (b'A' - 10)
+    } else {
+        b.saturating_sub(b'a' - 10)
     }
-    if b < 58 {
-        return b - 48;
-    }
-    if b < 71 {
-        return b - 55;
-    }
-    if b < 87 {
-        return 0;
-    }
-    b - 87
 }
 
-fn wide(b: u8) -> u64
-    ensures { result ≡ b }
-{
-    b as u64
-}
-
-// The value of digits in a base; `limit` is the largest number whose product with the base fits.
-fn value_in(w: &[u8], base: u64, limit: u64) -> Option<u64>
-    requires { (0 < base) × (limit * base < 2 ^ 64) × (2 ^ 64 ≤ limit * base + base) }
+// The value of digits in a base.
+fn value_in(w: &[u8], base: u64) -> Option<u64>
+    requires { 0 < base }
     ensures { result ≡ fitted (value_from base 0 w.now) }
 {
     let mut value: u64 = 0;
-    let mut i = 0;
-    while i < w.len() {
-        let digit = wide(digit_value(w[i]));
-        if limit < value {
-            return None;
-        }
-        let product = value * base;
-        if MAX - product < digit {
-            return None;
-        }
-        value = product + digit;
-        i += 1;
+    for b in w {
+        value = value
+            .checked_mul(base)?
+            .checked_add(u64::from(digit_value(*b)))?;
     }
     Some(value)
 }
@@ -69,9 +42,10 @@ fn number_value(w: &[u8]) -> Option<u64>
     ensures { result ≡ fitted (numeral w.now) }
 {
     if byte_at(w, 1) == b'x' {
-        return value_in(&w[2..], 16, MAX_SIXTEENTHS);
+        value_in(&w[2..], 16)
+    } else {
+        value_in(w, 10)
     }
-    value_in(w, 10, MAX_TENTHS)
 }
 
 // The value of the number that starts at a place, whatever it is.
@@ -83,29 +57,23 @@ fn any_value_at(src: &[u8], at: usize) -> Option<u64>
     number_value(&src[at..end])
 }
 
-// The value of the decimal number that starts at a place, in one pass; MAX where it is not decimal or may be too large.
-fn decimal_at(src: &[u8], at: usize) -> u64
+// The value of the decimal number that starts at a place, in one pass; none where it is not decimal or too large.
+fn decimal_at(src: &[u8], at: usize) -> Option<u64>
     requires { marks_hex (word (drop at src.now)) ≡ false }
-    ensures { result < 18446744073709551615 → value_at src.now at ≡ fitted result }
+    ensures { IfSome result (λ v. value_at src.now at ≡ fitted v) }
 {
     let mut value: u64 = 0;
-    let mut i = at;
-    while i < src.len() {
+    for i in at..src.len() {
         let b = src[i];
         if is_digit(b) {
-            if MAX_TENTHS <= value {
-                return MAX;
-            }
-            value = value * 10 + wide(b - 48);
-            i += 1;
+            value = value.checked_mul(10)?.checked_add(u64::from(b - b'0'))?;
+        } else if is_word_byte(b) {
+            return None;
         } else {
-            if in_word(b) {
-                return MAX;
-            }
-            return value;
+            return Some(value);
         }
     }
-    value
+    Some(value)
 }
 
 // The value of the number that starts at a place; none where it is 2^64 or more.
@@ -116,8 +84,7 @@ pub fn value_at(src: &[u8], at: usize) -> Option<u64>
         return Some(0);
     }
     if byte_at(src, at + 1) != b'x' {
-        let value = decimal_at(src, at);
-        if value < MAX {
+        if let Some(value) = decimal_at(src, at) {
             return Some(value);
         }
     }
@@ -128,9 +95,5 @@ pub fn value_at(src: &[u8], at: usize) -> Option<u64>
 pub fn digits_at(src: &[u8], at: usize) -> usize
     ensures { result ≡ digits_at src.now at }
 {
-    let end = word_end(src, at);
-    if end - at < 2 {
-        return 0;
-    }
-    end - at - 2
+    (word_end(src, at) - at).saturating_sub(2)
 }

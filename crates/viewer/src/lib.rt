@@ -3,7 +3,7 @@
 #![tactic(auto)]
 
 ghost use Rattle.std.specs.Prelude.{◌≡◌};
-ghost use Rattle.viewer.specs.Viewed.{seen_from, nth_token, positioned, seen_by, moved_on};
+ghost use Rattle.viewer.specs.Viewed.{seen_from, nth_token, positioned, seen_by, moved_to, moved_on};
 
 use lex::Token;
 use lexemes::classes::BAD;
@@ -18,7 +18,7 @@ pub struct Reader<'a> {
 }
 
 // A token with the line and column of its start.
-#[derive(Clone, Copy)]
+#[derive(Clone, Copy, Debug, PartialEq, Eq)]
 pub struct Positioned {
     pub token: Token,
     pub line: usize,
@@ -26,7 +26,7 @@ pub struct Positioned {
 }
 
 // A token, and the place past it with its line and column.
-#[derive(Clone, Copy)]
+#[derive(Clone, Copy, Debug, PartialEq, Eq)]
 pub struct Seen {
     pub token: Positioned,
     pub at: usize,
@@ -75,39 +75,38 @@ pub fn new<'a>(src: &'a [u8]) -> Reader<'a>
     }
 }
 
+// The reader at the place past what was seen.
+fn moved<'a>(r: Reader<'a>, s: Seen) -> Reader<'a>
+    ensures { result ≡ moved_to r.entry s }
+{
+    Reader {
+        at: s.at,
+        line: s.line,
+        column: s.column,
+        ..r
+    }
+}
+
 // The token that the reader stands before.
 pub fn token<'a>(r: Reader<'a>) -> Positioned
     ensures { result ≡ (seen_by r.entry).token }
 {
-    let s = view(r.src, r.at, r.line, r.column);
-    s.token
+    view(r.src, r.at, r.line, r.column).token
 }
 
 // The reader past that token; at a bad token and at the end its place stays.
 pub fn advanced<'a>(r: Reader<'a>) -> Reader<'a>
     ensures { result ≡ moved_on r.entry }
 {
-    let s = view(r.src, r.at, r.line, r.column);
-    Reader {
-        src: r.src,
-        at: s.at,
-        line: s.line,
-        column: s.column,
-    }
+    moved(r, view(r.src, r.at, r.line, r.column))
 }
 
 // The token that the reader stands before; the reader is then past it, and at a bad token and at the end where it was.
 pub fn next<'s, 'a>(r: &'s mut Reader<'a>) -> Positioned
     ensures { (result ≡ (seen_by r.old).token) × (r.new ≡ moved_on r.old) }
 {
-    let src = r.src;
-    let at = r.at;
-    let line = r.line;
-    let column = r.column;
-    let s = view(src, at, line, column);
-    r.at = s.at;
-    r.line = s.line;
-    r.column = s.column;
+    let s = view(r.src, r.at, r.line, r.column);
+    *r = moved(*r, s);
     s.token
 }
 
@@ -115,18 +114,14 @@ pub fn next<'s, 'a>(r: &'s mut Reader<'a>) -> Positioned
 pub fn nth_token(src: &[u8], n: usize) -> Positioned
     ensures { result ≡ positioned src.now (nth_token src.now n) }
 {
-    let mut at: usize = 0;
-    let mut line: usize = 1;
-    let mut column: usize = 1;
-    let mut i: usize = 0;
-    while i < n {
+    let mut at = 0;
+    let mut line = 1;
+    let mut column = 1;
+    for _i in 0..n {
         let s = view(src, at, line, column);
         at = s.at;
         line = s.line;
         column = s.column;
-        i = i + 1;
     }
-    let s = view(src, at, line, column);
-    let t = s.token;
-    t
+    view(src, at, line, column).token
 }

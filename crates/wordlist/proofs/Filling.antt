@@ -3,8 +3,8 @@
 use mathlib.Core.Path.{◌≡◌, refl, sym, ap, ◌∙◌}
 use mathlib.Core.Bool.{Bool, true, false, not, ◌&&◌, true≢false}
 use mathlib.Core.List.{List, [], ◌∷◌}
-use Prim.Native.Nat.{ℕ, zero, suc, ◌-◌, ◌≤◌, ◌<◌}
-use native.Mathlib.Nat.{le_of_suc-le-suc}
+use Prim.Native.Nat.{ℕ, zero, suc, ◌-◌, ◌+◌, ◌≤◌, ◌<◌}
+use native.Mathlib.Nat.{zero-add, suc-add, le_of_suc-le-suc}
 use native.Mathlib.Omega.{arith}
 use lib.Dec.{eqb, leb, ltb}
 use lib.ListN.{length, get_or, take, drop, take-append-drop, length-take, length-drop, get_or-eq_default}
@@ -16,6 +16,15 @@ use Rattle.wordlist.proofs.PackedBytes.{are_bytes, packed_same, take_bytes, drop
 
 -- ---- a text that is filled up
 
+drop_none : (n : ℕ) → drop {A = ℕ} n [] ≡ []
+drop_none zero = refl
+drop_none (suc n) = refl
+
+pub drop_short : (n : ℕ) (w : List ℕ) → length w ≤ n → drop n w ≡ []
+drop_short n [] h = drop_none n
+drop_short zero (b ∷ w) h = absurd (omega arith)
+drop_short (suc n) (b ∷ w) h = drop_short n w (le_of_suc-le-suc h)
+
 -- its bytes, its length, and itself filled up again
 pub fill_at : (n i : ℕ) (w : List ℕ) → i < n → get_or (fill_to n w) i 0 ≡ get_or w i 32
 unfolding fill_to
@@ -24,6 +33,33 @@ fill_at (suc n) zero [] h = refl
 fill_at (suc n) zero (b ∷ w) h = refl
 fill_at (suc n) (suc i) [] h = fill_at n i [] (le_of_suc-le-suc h)
 fill_at (suc n) (suc i) (b ∷ w) h = fill_at n i w (le_of_suc-le-suc h)
+
+-- a part that is filled up is a part of the whole
+pub fill_part : (n m : ℕ) (w : List ℕ) → take n (fill_to (n + m) w) ≡ fill_to n w
+unfolding fill_to
+fill_part zero m w = refl
+fill_part (suc n) m [] = rw suc-add (ap (◌∷◌ 32) (fill_part n m []))
+fill_part (suc n) m (b ∷ w) = rw suc-add (ap (◌∷◌ b) (fill_part n m w))
+
+pub fill_rest : (n m : ℕ) (w : List ℕ) → drop n (fill_to (n + m) w) ≡ fill_to m (drop n w)
+unfolding fill_to
+fill_rest zero m w = rw zero-add refl
+fill_rest (suc n) m [] = rw suc-add (fill_rest n m [] ∙ ap (fill_to m) (drop_none n))
+fill_rest (suc n) m (b ∷ w) = rw suc-add (fill_rest n m w)
+
+-- a text that is long enough gets no blanks
+pub fill_none : (n : ℕ) (w : List ℕ) → n ≤ length w → fill_to n w ≡ take n w
+unfolding fill_to
+fill_none zero w h = refl
+fill_none (suc n) [] h = absurd (omega arith)
+fill_none (suc n) (b ∷ w) h = ap (◌∷◌ b) (fill_none n w (le_of_suc-le-suc h))
+
+-- the two numbers of a text
+pub first_filled : (w : List ℕ) → first_of w ≡ packed (fill_to 8 w)
+first_filled w = ap packed (fill_part 8 8 w)
+
+pub rest_filled : (w : List ℕ) → rest_of w ≡ packed (fill_to 8 (drop 8 w))
+rest_filled w = ap packed (ap (take 8) (fill_rest 8 8 w) ∙ fill_part 8 0 (drop 8 w))
 
 pub fill_length : (n : ℕ) (w : List ℕ) → length (fill_to n w) ≡ n
 unfolding fill_to
@@ -36,6 +72,15 @@ unfolding fill_to
 fill_again zero w = refl
 fill_again (suc n) [] = ap (◌∷◌ 32) (fill_again n [])
 fill_again (suc n) (b ∷ w) = ap (◌∷◌ b) (fill_again n w)
+
+-- n bytes that are those of a text, and blanks after its end, are the text filled up
+pub filled_by : (n : ℕ) (w v : List ℕ) → length v ≡ n → ((i : ℕ) → i < n → get_or v i 32 ≡ get_or w i 32) → v ≡ fill_to n w
+filled_by n w v long each =
+    let size = fill_length n w in
+    ext_get_or 32 v (fill_to n w) (omega arith)
+    (λ i h.
+    let there : i < n = omega arith in
+    each i there ∙ sym (fill_at n i w there) ∙ same_default (fill_to n w) i 0 32 (omega arith))
 
 -- packed, a text is as when it is filled up
 pub pack_again : (w : List ℕ) → pack_of (filled w) ≡ pack_of w

@@ -9,6 +9,7 @@ use native.Mathlib.Omega.{arith}
 use lib.Dec.{eqb, ltb}
 use lib.ListN.{length, get_or}
 use borrow.Author.Tests.{eqb-true, eq-eqb, ltb-true, lt-ltb}
+use Rattle.std.specs.Borrow.{Bor}
 use borrow.Fn.Kinds.{Dens, ended_of}
 use contract.Lifetimes.{Lfts}
 use denote.Triple.Clauses.{AtExit}
@@ -91,6 +92,6 @@ rows_rise = rises_in (map filled reserved) refl
 
 -- the list that is printed in the code, as the contract of `words` gives it
 pub list_rises :
-    (κs : Lfts 0) (a : Dens κs kinds.ps) (r : List (List ℕ)) (e : AtExit (ended_of 0 kinds.ps kinds.r) κs)
-    → promise.Learnt κs a r e → Rises r
+    (κs : Lfts 1) (a : Dens κs kinds.ps) (r : Bor (List (List ℕ))) (e : AtExit (ended_of 1 kinds.ps kinds.r) κs)
+    → promise.Learnt κs a r e → Rises r.now
 list_rises κs a r e p = rw p rows_rise

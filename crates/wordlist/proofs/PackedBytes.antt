@@ -1,15 +1,16 @@
 -- Bytes packed into numbers: the parts of a packed number, and that a length and a number tell a text from all others.
 -- Assumes nothing.
-use mathlib.Core.Path.{◌≡◌, refl, ◌∙◌}
+use mathlib.Core.Path.{◌≡◌, refl, sym, ap, ◌∙◌}
 use mathlib.Core.Bool.{Bool, true, ◌&&◌}
 use mathlib.Core.List.{List, [], ◌∷◌}
 use Prim.Native.Nat.{ℕ, zero, suc, ◌+◌, ◌*◌, ◌^◌, ◌<◌}
-use native.Mathlib.Nat.{add-zero, zero-add, suc-add, mul-zero, mul_assoc, pow-succ'}
+use native.Mathlib.Nat.{add-zero, zero-add, suc-add, mul-zero, mul_assoc, mul_comm, pow-succ'}
 use native.Mathlib.Omega.{arith}
 use lib.Dec.{ltb}
 use lib.ListN.{length, get_or, take, drop}
-use lib.Seq.{get_or-drop, drop-drop}
+use lib.Seq.{get_or-drop, take_all}
 use borrow.Author.Tests.{ltb-true, lt-ltb}
+use Rattle.std.specs.Int.{w64, from_le_bytes, sum_through, byte_worth}
 use Rattle.wordlist.specs.Filled.{packed}
 use Rattle.wordlist.proofs.Lists.{and_true}
 
@@ -27,18 +28,26 @@ split (suc a) b (x ∷ t) =
     let power : 256 ^ suc a * packed (take b (drop a t)) ≡ 256 * (256 ^ a * packed (take b (drop a t))) = rw (pow-succ', mul_assoc) in
     rw suc-add (omega (arith, split a b t))
 
-two : (t : List ℕ) → packed (take 2 t) ≡ get_or t 0 0 + 256 * get_or t 1 0
+one : (t : List ℕ) → packed (take 1 t) ≡ get_or t 0 0
 unfolding packed
-two [] = refl
-two (x ∷ []) = omega arith
-two (x ∷ y ∷ t) = omega arith
+one [] = refl
+one (x ∷ t) = omega arith
 
-module _ (s : List ℕ) (i : ℕ) where
-  pub packed_two : packed (take 2 (drop i s)) ≡ get_or s i 0 + 256 * get_or s (i + 1) 0
-  packed_two = two (drop i s) ∙ simp (get_or-drop, add-zero)
+module _ (s : List ℕ) where
+  packed_split : (a b : ℕ) → packed (take (a + b) s) ≡ packed (take a s) + 256 ^ a * packed (take b (drop a s))
+  packed_split a b = split a b s
 
-  pub packed_split : (a b : ℕ) → packed (take (a + b) (drop i s)) ≡ packed (take a (drop i s)) + 256 ^ a * packed (take b (drop (i + a) s))
-  packed_split a b = split a b (drop i s) ∙ simp drop-drop
+  -- the number of the first bytes is the sum of what each is worth
+  packed_sum : (k : ℕ) → packed (take (suc k) s) ≡ sum_through (λ i. byte_worth i (get_or s i 0)) k
+  packed_sum zero = one s
+  packed_sum (suc k) =
+      let more = split (suc k) 1 s in
+      let last : packed (take 1 (drop (suc k) s)) ≡ get_or s (suc k) 0 = one (drop (suc k) s) ∙ simp (get_or-drop, add-zero) in
+      let steps : suc (suc k) ≡ suc k + 1 = omega arith in
+      ap (λ n. packed (take n s)) steps ∙ more ∙ rw (last, mul_comm (256 ^ suc k) (get_or s (suc k) 0)) (ap (λ n. n + get_or s (suc k) 0 * 256 ^ suc k) (packed_sum k))
+
+  pub packed_eight : length s ≡ 8 → from_le_bytes w64 s ≡ packed s
+  packed_eight h = sym (packed_sum 7) ∙ ap packed (take_all 8 s (omega arith))
 
 -- ---- one length and one number, one text
 

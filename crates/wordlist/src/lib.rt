@@ -3,14 +3,15 @@
 
 mod list;
 mod packing;
-mod table;
 
 ghost use Rattle.std.specs.Prelude.{◌≡◌, [], get_or};
 ghost use Rattle.wordlist.specs.Filled.{pack_of};
 ghost use Rattle.wordlist.specs.Words.{reserved};
 
+use packing::number;
+
 // Sixteen bytes as two numbers, of which the lowest byte comes first.
-#[derive(Clone, Copy)]
+#[derive(Clone, Copy, Debug, PartialEq, Eq)]
 pub struct Packed {
     pub first: u64,
     pub rest: u64,
@@ -23,33 +24,22 @@ pub const COUNT: usize = list::COUNT;
 pub fn listed(place: usize) -> Packed
     ensures { result ≡ pack_of (get_or reserved place []) }
 {
-    let words = list::words();
-    let word = table::constant_word(&words, place);
-    packing::pack(&word, 16)
+    let word = list::words().get(place).copied().unwrap_or(list::BLANKS);
+    pack_word(&word)
 }
 
-// A text of up to sixteen bytes, filled up with blanks, or the first sixteen of a longer one. It has an arm for each length, in which
-// the compiler reads several bytes at once.
+// A text of up to sixteen bytes, filled up with blanks, or the first sixteen of a longer one.
 pub fn pack_word(w: &[u8]) -> Packed
     ensures { result ≡ pack_of w.now }
 {
-    let n = w.len();
-    match n {
-        2 => packing::pack(w, 2),
-        3 => packing::pack(w, 3),
-        4 => packing::pack(w, 4),
-        5 => packing::pack(w, 5),
-        6 => packing::pack(w, 6),
-        7 => packing::pack(w, 7),
-        8 => packing::pack(w, 8),
-        9 => packing::pack(w, 9),
-        10 => packing::pack(w, 10),
-        11 => packing::pack(w, 11),
-        12 => packing::pack(w, 12),
-        13 => packing::pack(w, 13),
-        14 => packing::pack(w, 14),
-        15 => packing::pack(w, 15),
-        16 => packing::pack(w, 16),
-        _ => packing::pack(w, n),
+    match w.split_first_chunk() {
+        Some((first, rest)) => Packed {
+            first: u64::from_le_bytes(*first),
+            rest: number(rest),
+        },
+        None => Packed {
+            first: number(w),
+            rest: number(&[]),
+        },
     }
 }

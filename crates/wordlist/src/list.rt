@@ -8,7 +8,10 @@ ghost use Rattle.wordlist.specs.Words.{reserved};
 // How many there are.
 pub const COUNT: usize = 57;
 
-const WORDS: [[u8; 16]; COUNT] = [
+// What stands past the last one.
+pub const BLANKS: [u8; 16] = [b' '; 16];
+
+static WORDS: [[u8; 16]; COUNT] = [
     *b"AND             ",
     *b"DEFAULT         ",
     *b"DISPLAY_INT_DEC ",
@@ -69,8 +72,8 @@ const WORDS: [[u8; 16]; COUNT] = [
 ];
 
 // All of them.
-pub fn words() -> [[u8; 16]; COUNT]
-    ensures { result ≡ map filled reserved }
+pub fn words() -> &'static [[u8; 16]]
+    ensures { result.now ≡ map filled reserved }
 {
-    WORDS
+    &WORDS
 }

@@ -13,24 +13,24 @@ loop-i-init c = (omega arith, omega (arith, run_yes is_digit c.args.src.now c.ar
 
 pub loop-i-preserved : goal.loop-i-preserved
 loop-i-preserved c =
-    let step = run_yes is_digit c.args.src.now c.loop-i.i (omega arith) (sym c.is_digit.ensures ∙ c.if-is_digit.true) in
+    let step = run_yes is_digit c.args.src.now c.loop-i.i (omega arith) (sym c.is_digit.ensures ∙ c.if-not-is_digit.false) in
     (omega arith, omega (arith, step))
 
 pub any_number-requires : goal.any_number-requires
 any_number-requires c = c.requires
 
-pub returns-then-in_word : goal.returns-then-in_word
-returns-then-in_word c = c.any_number.ensures
+pub returns-then-is_word_byte : goal.returns-then-is_word_byte
+returns-then-is_word_byte c = c.any_number.ensures
 
-pub returns-else-is_digit : goal.returns-else-is_digit
-returns-else-is_digit c =
-    let stop = run_no is_digit c.args.src.now c.loop-i.i (omega arith) (sym c.is_digit.ensures ∙ c.if-is_digit.false) in
-    decimal_token c.args.src.now c.args.at c.loop-i.i c.requires.1 (omega (arith, c.loop-i.invariant.1)) (sym c.in_word.ensures ∙ c.if-in_word.false)
+pub returns-then-not-is_digit : goal.returns-then-not-is_digit
+returns-then-not-is_digit c =
+    let stop = run_no is_digit c.args.src.now c.loop-i.i (omega arith) (sym c.is_digit.ensures ∙ c.if-not-is_digit.true) in
+    decimal_token c.args.src.now c.args.at c.loop-i.i c.requires.1 (omega (arith, c.loop-i.invariant.1)) (sym c.is_word_byte.ensures ∙ c.if-is_word_byte.false)
 
 pub returns : goal.returns
 returns c =
     let s = c.args.src.now in
-    let i = c.loop-i.i in
-    let past : length s ≤ i = omega arith in
-    let stop = run_end is_digit s i past in
-    decimal_token s c.args.at i c.requires.1 (omega (arith, c.loop-i.invariant.1)) (rw (get_or-eq_default s 0 past))
+    let past : length s ≤ c.loop-i.i = omega arith in
+    let stop = run_end is_digit s c.loop-i.i past in
+    let all = c.loop-i.auto.i-end (omega arith) in
+    decimal_token s c.args.at (length s) c.requires.1 (omega (arith, c.loop-i.invariant.1)) (rw (get_or-eq_default s 0 {n = length s} (omega arith)))

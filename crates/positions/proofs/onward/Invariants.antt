@@ -1,5 +1,5 @@
 -- `positions::onward` meets its contract. The loop's invariant: line and column of the end, wrapped, are the same from here as from the start.
-use Rattle.std.proofs.Common.{◌≡◌, ◌-◌, ◌%◌, ◌^◌, ◌<◌}
+use Rattle.std.proofs.Common.{◌≡◌, ◌%◌, ◌^◌, ◌<◌}
 use Rattle.positions.specs.Positions.{line_from, column_from}
 use Rattle.positions.proofs.onward.Given as goal
 
@@ -9,6 +9,3 @@ invariant-loop-i l =
     × (column_from l.column l.src l.i l.end % 2 ^ 64 ≡ column_from l.initial.column l.src l.initial.i l.end % 2 ^ 64)
     × (l.line < 2 ^ 64)
     × (l.column < 2 ^ 64)
-
-abbrev pub decreases-loop-i : goal.decreases-loop-i
-decreases-loop-i l = l.end - l.i

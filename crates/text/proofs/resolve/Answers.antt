@@ -1,6 +1,6 @@
 -- `text::resolve` meets its contract.
 -- Assumes nothing.
-use mathlib.Core.Path.{refl, sym, ap, ◌∙◌}
+use mathlib.Core.Path.{sym, ap, ◌∙◌}
 use Rattle.read.specs.Answers as read
 use Rattle.text.proofs.ResolveLaws.{resolved, unread}
 use borrow.Author.Rules.{rules}

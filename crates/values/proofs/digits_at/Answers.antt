@@ -5,12 +5,6 @@ use Rattle.values.specs.Numbers.{digits_at}
 use Rattle.lexemes.proofs.WordParts.{word_length}
 use Rattle.values.proofs.digits_at.Goals as goal
 
-pub returns-then-end-at-lt2 : goal.returns-then-end-at-lt2
-unfolding digits_at
-returns-then-end-at-lt2 c =
-    let args = c.args in
-    omega (arith, word_length (drop args.at args.src.now))
-
 pub returns : goal.returns
 unfolding digits_at
 returns c =

@@ -25,6 +25,6 @@ returns-then-byte_at-eq120 c =
     let hex = sym c.byte_at.ensures ∙ c.if-byte_at-eq120.true in
     rw (eq-eqb _ 120 hex) (c.value_in.ensures ∙ ap (λ (s : List ℕ). fitted (value_from 16 0 s)) (rest_part args.w.now 2))
 
-pub returns : goal.returns
+pub returns-else-byte_at-eq120 : goal.returns-else-byte_at-eq120
 unfolding numeral
-returns c = rw (ne_eqb _ 120 (λ hex. c.if-byte_at-eq120.false (c.byte_at.ensures ∙ hex))) c.value_in-2.ensures
+returns-else-byte_at-eq120 c = rw (ne_eqb _ 120 (λ hex. c.if-byte_at-eq120.false (c.byte_at.ensures ∙ hex))) c.value_in-else-byte_at-eq120.ensures

@@ -7,8 +7,5 @@ use Rattle.values.proofs.value_at.Goals as goal
 pub returns-then-src-at : goal.returns-then-src-at
 returns-then-src-at c = value_past c.args.src.now c.args.at c.if-src-at.true
 
-pub decimal_at-value-requires : goal.decimal_at-value-requires
-decimal_at-value-requires c = no_hex c.args.src.now c.args.at (λ e. c.if-byte_at-ne120.true (c.byte_at.ensures ∙ e))
-
-pub returns-then-value-lt-MAX : goal.returns-then-value-lt-MAX
-returns-then-value-lt-MAX c = sym (c.decimal_at-value.ensures c.if-value-lt-MAX.true ∙ fitted_fits _ (omega arith))
+pub decimal_at-requires : goal.decimal_at-requires
+decimal_at-requires c = no_hex c.args.src.now c.args.at (λ e. c.if-byte_at-ne120.true (c.byte_at.ensures ∙ e))

@@ -14,13 +14,7 @@ use Rattle.viewer.proofs.nth_token.Goals as goal
 
 pub loop-i-init : goal.loop-i-init
 unfolding place_of_nth line_at column_at line_feeds since_feed
-loop-i-init c = (refl, refl, refl, omega arith)
-
-pub overflow_add-i : goal.overflow_add-i
-overflow_add-i c = omega arith
-
-pub loop-i-smaller : goal.loop-i-smaller
-loop-i-smaller c = omega arith
+loop-i-init c = (refl, refl, refl)
 
 pub loop-i-preserved : goal.loop-i-preserved
 unfolding seen_at
@@ -28,12 +22,11 @@ loop-i-preserved c =
     let src = c.args.src.now in
     let short : length src < 2 ^ 63 = omega (arith, c.well_formed.0.1) in
     let l = c.loop-i in
-    let is = nth_seen src short l.i l.at l.line l.column l.invariant.0 l.invariant.1 l.invariant.2 c.view-s.result c.view-s.ensures in
-    let goes = sym (next_place src l.i) in (
+    let is = nth_seen src short l._i l.at l.line l.column l.invariant.0 l.invariant.1 l.invariant.2 c.view-s.result c.view-s.ensures in
+    let goes = sym (next_place src l._i) in (
       ap (λ (v : Seen). v.at) is ∙ goes,
       ap (λ (v : Seen). v.line) is ∙ ap (line_at src) goes,
       ap (λ (v : Seen). v.column) is ∙ ap (column_at src) goes,
-      omega arith,
     )
 
 pub returns : goal.returns
@@ -43,7 +36,7 @@ returns c =
     let src = args.src.now in
     let short : length src < 2 ^ 63 = omega (arith, c.well_formed.0.1) in
     let l = c.loop-i in
-    let v = c.view-s-2 in
-    let all : l.i ≡ args.n = omega arith in
-    ap (λ (w : Seen). w.token) (nth_seen src short l.i l.at l.line l.column l.invariant.0 l.invariant.1 l.invariant.2 v.result v.ensures)
+    let v = c.view in
+    let all : l._i ≡ args.n = omega arith in
+    ap (λ (w : Seen). w.token) (nth_seen src short l._i l.at l.line l.column l.invariant.0 l.invariant.1 l.invariant.2 v.result v.ensures)
     ∙ ap (λ k. positioned src (nth_token src k)) all

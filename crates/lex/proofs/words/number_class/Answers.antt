@@ -11,6 +11,6 @@ pub returns-then-is_hex : goal.returns-then-is_hex
 unfolding word_class
 returns-then-is_hex c = rw (c.requires, sym c.all_digits.ensures ∙ c.if-all_digits.false, sym c.is_hex.ensures ∙ c.if-is_hex.true)
 
-pub returns : goal.returns
+pub returns-else-is_hex : goal.returns-else-is_hex
 unfolding word_class
-returns c = rw (c.requires, sym c.all_digits.ensures ∙ c.if-all_digits.false, sym c.is_hex.ensures ∙ c.if-is_hex.false)
+returns-else-is_hex c = rw (c.requires, sym c.all_digits.ensures ∙ c.if-all_digits.false, sym c.is_hex.ensures ∙ c.if-is_hex.false)

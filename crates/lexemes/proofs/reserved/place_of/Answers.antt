@@ -10,13 +10,16 @@ use Rattle.wordlist.proofs.PackedBytes.{bytes_all}
 use Rattle.wordlist.proofs.Filling.{Fits}
 use Rattle.lexemes.proofs.Missed.{start_le}
 use Rattle.lexemes.proofs.Searching.{unlisted, at_least_two, at_most_sixteen, no_blank_ends, found_place}
+use Rattle.lexemes.proofs.reserved.place_of.Goals.{then-n-lt2-via-then-n-lt2, then-n-lt2-via-else-n-lt2+then-n-gt16}
 use Rattle.lexemes.proofs.reserved.place_of.Goals as goal
 
 pub returns-then-n-lt2 : goal.returns-then-n-lt2
-returns-then-n-lt2 c = sym (unlisted (λ v. leb 2 (length v)) at_least_two c.args.w.now (lt-leb _ _ c.if-n-lt2.true))
-
-pub returns-then-n-gt16 : goal.returns-then-n-gt16
-returns-then-n-gt16 c = sym (unlisted (λ v. leb (length v) 16) at_most_sixteen c.args.w.now (lt-leb _ _ c.if-n-gt16.true))
+returns-then-n-lt2 c =
+    let w = c.args.w.now in
+    elim c.then-n-lt2.branch [
+      then-n-lt2-via-then-n-lt2 b ↦ sym (unlisted (λ v. leb 2 (length v)) at_least_two w (lt-leb _ _ b.if-n-lt2.true))
+      | then-n-lt2-via-else-n-lt2+then-n-gt16 b ↦ sym (unlisted (λ v. leb (length v) 16) at_most_sixteen w (lt-leb _ _ b.if-n-gt16.true))
+    ]
 
 pub returns-then-w-n-eq32 : goal.returns-then-w-n-eq32
 returns-then-w-n-eq32 c =

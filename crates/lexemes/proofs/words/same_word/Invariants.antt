@@ -8,5 +8,3 @@ use Rattle.lexemes.proofs.words.same_word.Given as goal
 abbrev pub invariant-loop-i : goal.invariant-loop-i
 invariant-loop-i l = same_word l.src l.p l.q ≡ same_word l.src l.i l.j
 
-abbrev pub decreases-loop-i : goal.decreases-loop-i
-decreases-loop-i l = length l.src - l.i

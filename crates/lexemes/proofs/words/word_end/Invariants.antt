@@ -9,5 +9,3 @@ use Rattle.lexemes.proofs.words.word_end.Given as goal
 abbrev pub invariant-loop-i : goal.invariant-loop-i
 invariant-loop-i l = l.at + run is_word_byte (drop l.at l.src) ≡ l.i + run is_word_byte (drop l.i l.src)
 
-abbrev pub decreases-loop-i : goal.decreases-loop-i
-decreases-loop-i l = length l.src - l.i

@@ -2,7 +2,7 @@
 -- level is lower. The loop's invariant: whoever prints the rest from here prints the whole.
 -- Assumes nothing.
 use native.Mathlib.Omega.{arith}
-use mathlib.Core.Path.{◌≡◌, ap, ◌∙◌}
+use mathlib.Core.Path.{ap, ◌∙◌}
 use Rattle.fields.specs.Operators.{level_of, code_class}
 use Rattle.text.proofs.ExpressionLaws.{spine_none, spine_more, none_before, not_before, atom_before, group_before, operator_before}
 use Rattle.text.proofs.expressions.+put_before.Goals as goal

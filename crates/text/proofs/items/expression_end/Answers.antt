@@ -1,6 +1,6 @@
 -- `text::items::expression_end` meets its contract.
 -- Assumes nothing.
-use mathlib.Core.Path.{◌≡◌, ap, ◌∙◌, sym}
+use mathlib.Core.Path.{◌≡◌, ap, ◌∙◌}
 use mathlib.Core.Bool.{true, false}
 use borrow.Author.Rules.{rules}
 use Rattle.std.proofs.lemmas.Iterator.{first_from_Range}
@@ -8,7 +8,6 @@ use Rattle.std.specs.Prelude.{unwrap_or}
 use Rattle.rows.specs.Codes.{is_expression}
 use Rattle.rows.specs.Columns as column
 use Rattle.rows.specs.Table.{cell_at}
-use Rattle.laid.specs.Laid.{Stretch}
 use Rattle.text.proofs.ItemLaws.{stretch_found}
 use Rattle.text.proofs.items.expression_end.Goals as goal
 

@@ -1,24 +1,14 @@
--- `values::numerals::all_digits` meets its contract. The loop's invariant: the answer is the same from here as from the start.
-use mathlib.Core.Path.{sym, ◌∙◌}
-use native.Mathlib.Omega.{arith}
+-- `values::numerals::all_digits` meets its contract.
+use borrow.Author.Rules.{rules}
+use Rattle.std.proofs.Common.{◌≡◌, true, false, ℕ, ◌<◌, get_or, length, arith}
+use Rattle.std.proofs.lemmas.Grind.{common_steps}
 use Rattle.lexemes.specs.Bytes.{is_digit}
-use Rattle.lexemes.proofs.Steps.{all_end, all_no, all_yes}
+use Rattle.values.proofs.ValueLaws.{all_told}
 use Rattle.values.proofs.numerals.all_digits.Goals as goal
-
-pub loop-i-preserved : goal.loop-i-preserved
-loop-i-preserved c =
-    let args = c.args in
-    let loop = c.loop-i in
-    loop.invariant ∙ all_yes is_digit args.w.now loop.i (omega arith) (sym c.is_digit.ensures ∙ c.if-is_digit.true)
-
-pub returns-else-is_digit : goal.returns-else-is_digit
-returns-else-is_digit c =
-    let args = c.args in
-    let loop = c.loop-i in
-    sym (loop.invariant ∙ all_no is_digit args.w.now loop.i (omega arith) (sym c.is_digit.ensures ∙ c.if-is_digit.false))
 
 pub returns : goal.returns
 returns c =
-    let args = c.args in
-    let loop = c.loop-i in
-    sym (loop.invariant ∙ all_end is_digit args.w.now loop.i (omega arith))
+    let w = c.args.w.now in
+    let each : c.all.result ≡ true → (k : ℕ) → k < length w → is_digit (get_or w k 0) ≡ true = λ h k l. search rules in
+    let some : c.all.result ≡ false → (k : ℕ) × (k < length w) × (is_digit (get_or w k 0) ≡ false) = λ h. search rules in
+    all_told is_digit w c.all.result each some

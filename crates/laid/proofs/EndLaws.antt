@@ -1,20 +1,16 @@
--- Where the rows of an expression end, by the code's tests; and the value of what follows a row.
+-- Where the rows of an expression end, by the code's tests; and of rows that are those of an expression.
 use Prim.Native.Nat.{ℕ, zero, suc, max, ◌+◌, ◌-◌, ◌≤◌, ◌<◌}
-use native.Mathlib.Decide.{dec_lt}
-use Rattle.std.specs.Prelude.{Option, Some, None, MatchOption, unwrap_or}
-use mathlib.Core.Path.{◌≡◌, sym, ap, ◌∙◌}
+use mathlib.Core.Path.{◌≡◌, sym, ◌∙◌}
 use mathlib.Core.Bool.{true, false}
 use mathlib.Core.List.{List}
-use native.Mathlib.Numerals.{add-one}
+use native.Mathlib.Decide.{dec_lt}
 use native.Mathlib.Omega.{arith}
+use Rattle.std.specs.Prelude.{Option, Some, None, MatchOption, unwrap_or}
 use Rattle.rows.specs.Codes.{is_expression}
 use Rattle.rows.specs.Columns as column
 use Rattle.rows.specs.Table.{cell_at}
-use Rattle.operators.specs.declared.Scalar.{Scalar}
-use Rattle.operators.specs.declared.Scalar.TheVariants.{Undefined}
-use Rattle.evaluate.specs.Machine.{after_rows, evaluated}
-use Rattle.evaluate.specs.Lent.{value_in}
-use Rattle.expression_rows.specs.Ends.{end_of, end_from, value_after}
+use Rattle.laid.specs.Ends.{end_of, end_from}
+use Rattle.laid.specs.Laid.{Stretch}
 
 module _ (t : List ℕ) (count i : ℕ) where
   pub end_none : count ≤ i → end_from t count i ≡ i
@@ -60,23 +56,19 @@ module _ (t : List ℕ) (count : ℕ) where
             last ∙ sym (end_none t count from (omega arith))
       ]
 
-module _ (answers gotos checkboxes : List ℕ) (rules : List Scalar) (t : List ℕ) where
-  -- no rows have no value
-  pub value_empty : (i : ℕ) → value_in answers gotos checkboxes rules t i i ≡ Undefined
-  unfolding evaluated after_rows
-  value_empty i = let z : i - i ≡ 0 = omega arith in rw z
+  -- and that the rows up to there are parts of expressions
+  pub stretch_found :
+      (from : ℕ) (r : Option ℕ)
+      → MatchOption r ((k : ℕ) → from ≤ k → k < count → is_expression (cell_at t k column.CODE) ≡ true)
+      (λ i. (from ≤ i) × (i < count) × (is_expression (cell_at t i column.CODE) ≡ false)
+      × ((k : ℕ) → from ≤ k → k < i → is_expression (cell_at t k column.CODE) ≡ true))
+      → Stretch t count from (unwrap_or r (max from count))
+  stretch_found from (Some i) (up, inside, ends, parts) = record { up = up; within = parts; ends = λ h. ends; below = λ h. omega arith }
+  stretch_found from None parts =
+      record { up = omega arith; within = λ k a b. parts k a (omega arith); ends = λ h. absurd (omega arith); below = λ h. omega arith }
 
-  module _ (count row : ℕ) where
-    -- a row past the first `count`
-    pub after_past : count ≤ row → Undefined ≡ value_after answers gotos checkboxes rules t count row
-    after_past h =
-        sym (ap (value_in answers gotos checkboxes rules t (suc row)) (end_none t count (suc row) (omega arith)) ∙ value_empty (suc row))
-
-    -- one of them, by what the code's calls give
-    pub after_row_lem :
-        {end : ℕ} {v : Scalar} → end ≡ end_from t count (row + 1) → v ≡ value_in answers gotos checkboxes rules t (row + 1) end
-        → v ≡ value_after answers gotos checkboxes rules t count row
-    after_row_lem e f =
-        f
-        ∙ ap (value_in answers gotos checkboxes rules t (row + 1)) e
-        ∙ ap (λ (i : ℕ). value_in answers gotos checkboxes rules t i (end_from t count i)) (add-one row)
+  -- a stretch of rows that are parts of expressions ends there
+  pub end_stretch : (i j : ℕ) → i ≤ count → Stretch t count i j → end_from t count i ≡ j
+  end_stretch i j h s =
+      let up : i ≤ j = s.up in
+      end_parts (j - i) i j (omega arith) (s.below h) s.within s.ends

@@ -24,6 +24,7 @@ use lexemes::classes::*;
 pub const CONDITIONS: usize = 16;
 
 // One or more options of the oneof in row `parent`.
+// Stays: its like is forms::form_list; one function with a closure `one_or_more(word, s, |s| flat(..))` would need a contract of the closure.
 fn option_list(src: &[u8], table: &mut [u64], s: State, parent: usize) -> Result<State, Halt>
     requires { Room src.now (going s) }
     ensures { ReadsUnder src.now (r <option> ∷ r <option>* ∷ []) parent (going s) (standing result) table.old table.new }

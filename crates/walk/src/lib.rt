@@ -1,5 +1,6 @@
 // One walk over a source by the grammar, stages 3, 4, 16 and 5: it writes draft rows as far as whole rows fit, counts all,
 // notes the first fault of 16 and of 5, and stops at the first token that the grammar or a depth refuses.
+// Stays: src, table and parent are parameters; in a struct behind &mut self each contract would say `self.new.src ≡ self.old.src` too.
 #![tactic(auto)]
 
 mod expressions;

@@ -1,9 +1,9 @@
--- `print_sources` is safe and ends: each source ends within the input, and the next starts after a separator.
-use Rattle.std.proofs.Common.{◌-◌, ◌≤◌, length}
+-- `print_sources` ends: what is left after a separator is shorter.
+use Rattle.std.proofs.Common.{◌≤◌, length}
 use Rattle.tokens.proofs.print_sources.Given as goal
 
-abbrev pub invariant-loop-at : goal.invariant-loop-at
-invariant-loop-at g l = l.at ≤ length l.src
+abbrev pub invariant-loop-end : goal.invariant-loop-end
+invariant-loop-end g l = length l.rest ≤ length l.src
 
-abbrev pub decreases-loop-at : goal.decreases-loop-at
-decreases-loop-at g l = length l.src - l.at
+abbrev pub decreases-loop-end : goal.decreases-loop-end
+decreases-loop-end g l = length l.rest

@@ -2,8 +2,5 @@
 use Rattle.std.proofs.Common.{◌-◌, length}
 use Rattle.tokens.proofs.print_tokens.Given as goal
 
-abbrev pub invariant-loop-at : goal.invariant-loop-at
-invariant-loop-at g l = Unit
-
-abbrev pub decreases-loop-at : goal.decreases-loop-at
-decreases-loop-at g l = length l.src - l.at
+abbrev pub decreases-loop : goal.decreases-loop
+decreases-loop g l = length l.reader.src.now - l.reader.at

@@ -43,15 +43,19 @@ fn likely_length(b: u8) -> usize
 }
 
 // A guess where the word at a place ends, to be tried first: no letter, digit or `_` stands there.
-pub fn likely_end(src: &[u8], at: usize) -> Option<usize>
+pub fn likely_end(src: &[u8], at: usize) -> usize
     requires { at < length src.now }
-    ensures { IfSome result (LikelyEnd src.now at) }
+    ensures { LikelyEnd src.now at result }
 {
-    let end = at + likely_length(src[at]);
-    match src.get(end) {
-        Some(b) if !is_word_byte(*b) => Some(end),
-        _ => None,
+    let size = likely_length(src[at]);
+    if size < src.len() - at {
+        return if is_word_byte(src[at + size]) {
+            src.len()
+        } else {
+            at + size
+        };
     }
+    src.len()
 }
 
 // The class of a run of letters, digits and `_` that starts with a digit.

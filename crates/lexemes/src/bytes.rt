@@ -20,11 +20,14 @@ pub fn is_hex_digit(b: u8) -> bool
     b.is_ascii_hexdigit()
 }
 
-// A letter, a digit or `_`; most are letters.
+// A letter, a digit or `_`; most are small letters, which one test tells.
 pub fn is_word_byte(b: u8) -> bool
     ensures { result ≡ is_word_byte b }
 {
-    b.is_ascii_alphabetic() || b.is_ascii_digit() || b == b'_'
+    if b.is_ascii_lowercase() {
+        return true;
+    }
+    b.is_ascii_digit() || b.is_ascii_uppercase() || b == b'_'
 }
 
 // The byte at an index, or 0 past the end.

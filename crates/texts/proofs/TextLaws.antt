@@ -1,6 +1,6 @@
 -- An output that is a text with zeros behind it.
 -- Assumes nothing.
-use Rattle.std.proofs.Common.{◌≡◌, ℕ, zero, suc, ◌-◌, ◌<◌, ◌≤◌, List, [], ◌∷◌, ◌++◌, length, get_or, take, drop, replicate, sym, refl, ◌∙◌, ap, ap₂, arith, length-drop}
+use Rattle.std.proofs.Common.{◌≡◌, ℕ, zero, suc, ◌-◌, ◌<◌, List, [], ◌∷◌, ◌++◌, length, get_or, take, drop, replicate, sym, refl, ◌∙◌, ap, ap₂, arith, length-drop}
 use lib.ListN.{take-append-drop}
 use Rattle.trials.specs.Differences.{padded}
 use Rattle.texts.specs.Agreement.{Text}

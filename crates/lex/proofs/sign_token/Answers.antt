@@ -1,8 +1,6 @@
 -- `lex::sign_token` meets its contract.
 use mathlib.Core.Path.{ap, ◌∙◌}
 use native.Mathlib.Omega.{arith}
-use Prim.Native.Nat.{◌+◌, ◌≤◌, ◌<◌}
-use Rattle.lexemes.specs.Classes.{SIGNS}
 use Rattle.lex.proofs.Cases.{two_class, sign_two, sign_one, sign_bad}
 use Rattle.lex.proofs.sign_token.Goals as goal
 

@@ -1,5 +1,5 @@
 -- `lexemes::reserved::find` meets its contract. The loop's invariant: the search from `i` on ends as the search from the start does.
-use mathlib.Core.Path.{refl, sym, ◌∙◌}
+use mathlib.Core.Path.{sym, ◌∙◌}
 use native.Mathlib.Omega.{arith}
 use Rattle.lexemes.proofs.Searching.{step_found, step_stops, step_on, at_end}
 use Rattle.lexemes.proofs.reserved.find.Goals as goal

@@ -1,7 +1,5 @@
 -- `lexemes::words::same_word` meets its contract. The loop's invariant: the answer is the same from here as from the start.
 use mathlib.Core.Path.{◌≡◌}
-use Prim.Native.Nat.{◌-◌}
-use lib.ListN.{length}
 use Rattle.lexemes.specs.Words.{same_word}
 use Rattle.lexemes.proofs.words.same_word.Given as goal
 

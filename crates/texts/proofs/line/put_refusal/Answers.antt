@@ -1,7 +1,6 @@
 -- `line::put_refusal` meets its contract: in 64 bytes there is room for each part.
 -- Assumes nothing.
-use Rattle.std.proofs.Common.{arith, rules}
-use Rattle.trials.specs.Puts.{place_or_zero}
+use Rattle.std.proofs.Common.{rules}
 use Rattle.texts.proofs.LineLaws.{line_put}
 use Rattle.texts.proofs.line.put_refusal.Goals as goal
 

@@ -6,10 +6,10 @@ use mathlib.Core.List.{List, [], ◌∷◌}
 use Prim.Native.Nat.{ℕ, zero, suc, ◌+◌, ◌-◌, ◌≤◌, ◌<◌}
 use native.Mathlib.Nat.{add-zero, le_of_suc-le-suc}
 use native.Mathlib.Omega.{arith}
-use lib.Dec.{eqb, ltb}
+use lib.Dec.{ltb}
 use lib.ListN.{length, get_or, take, drop, length-drop}
 use lib.Seq.{drop-drop, get_or-drop}
-use borrow.Author.Tests.{eqb-true, eqb-false, eq-eqb, ne_eqb, lt-ltb, le-ltb}
+use borrow.Author.Tests.{eq-eqb, ne_eqb, lt-ltb, le-ltb}
 use Rattle.lex.specs.declared.Token.{Token}
 use Rattle.lexemes.specs.Bytes.{is_digit, is_word_byte}
 use Rattle.lexemes.specs.Classes.{SIGNS, NAME, DECIMAL, BAD, END}
@@ -17,7 +17,7 @@ use Rattle.lexemes.specs.Lexemes.{signs, reserved}
 use Rattle.lex.specs.Likely.{LikelyEnd}
 use Rattle.lexemes.specs.Words.{run, all, same, place_among, word}
 use Rattle.lex.specs.Tokens.{gap, empty, word_class, word_token, sign_class, sign_token, token_from, token_after_gap, token_at}
-use Rattle.lexemes.proofs.Lists.{either, either_less, and_true, from_end, from_next}
+use Rattle.lexemes.proofs.Lists.{either_less, and_true, from_end, from_next}
 use Rattle.lex.proofs.Comments.{gap_le}
 use Rattle.lexemes.proofs.Missed.{byte_missed}
 use Rattle.lexemes.proofs.Equality.{place_at_lem, place_le}
@@ -101,16 +101,24 @@ pub no_second : (b next : ℕ) → (next ≡ 61 → ⊥) → (next ≡ 60 → �
 unfolding signs same
 no_second b next e l g = byte_missed b (next ∷ []) signs (rw (ne_eqb next 61 e, ne_eqb next 60 l, ne_eqb next 62 g) tt)
 
--- no sign of two bytes has another first byte
-pub no_pair : (b next : ℕ) → (((Unit {0} × (b ≡ 61 → ⊥)) × (b ≡ 33 → ⊥)) × (b ≡ 60 → ⊥)) × (b ≡ 62 → ⊥) → place_among (b ∷ next ∷ []) signs ≡ SIGNS
-unfolding signs same
-no_pair b next h =
-    either (eqb next 61) (λ e. rw (eqb-true next 61 e) (byte_missed b (61 ∷ []) signs h))
-    (λ e.
-    either (eqb next 60) (λ f. rw (eqb-true next 60 f) (byte_missed b (60 ∷ []) signs (tt, h.0.1)))
-    (λ f.
-    either (eqb next 62) (λ g. rw (eqb-true next 62 g) (byte_missed b (62 ∷ []) signs (tt, h.1)))
-    (λ g. no_second b next (eqb-false next 61 e) (eqb-false next 60 f) (eqb-false next 62 g))))
+-- no sign of two bytes starts with one of `{`, `}`, `(`, `)`, `,`, `;`, which are the first six signs
+by_class : (k b next : ℕ) → k ≤ 5 → b ≡ get_or (get_or signs k []) 0 0 → place_among (b ∷ next ∷ []) signs ≡ SIGNS
+unfolding signs same place_among
+by_class zero b next h e = rw e
+by_class (suc zero) b next h e = rw e
+by_class (suc (suc zero)) b next h e = rw e
+by_class (suc (suc (suc zero))) b next h e = rw e
+by_class (suc (suc (suc (suc zero)))) b next h e = rw e
+by_class (suc (suc (suc (suc (suc zero))))) b next h e = rw e
+by_class (suc (suc (suc (suc (suc (suc k)))))) b next h e = absurd (omega arith)
+
+pub no_first : (b next one : ℕ) → one ≡ place_among (b ∷ []) signs → one ≤ 5 → place_among (b ∷ next ∷ []) signs ≡ SIGNS
+unfolding signs
+no_first b next one is_one h =
+    by_class one b next h (rw is_one (sym (ap (λ (v : List ℕ). get_or v 0 0) (place_at_lem (b ∷ []) signs (some one is_one h)))))
+  where
+    some : (k : ℕ) → k ≡ place_among (b ∷ []) signs → k ≤ 5 → place_among (b ∷ []) signs < length signs
+    some k is_k h = omega arith
 
 sign_size : (w : List ℕ) (k : ℕ) → k ≡ place_among w signs → k < SIGNS → length (get_or signs k []) ≡ length w
 unfolding signs

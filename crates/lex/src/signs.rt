@@ -1,16 +1,15 @@
 // Signs of one and of two bytes.
-ghost use Rattle.std.specs.Prelude.{◌≡◌, ◌<◌, [], ◌∷◌, unwrap_or, IfSome};
+ghost use Rattle.std.specs.Prelude.{◌≡◌, [], ◌∷◌};
 ghost use Rattle.lexemes.specs.Lexemes.{signs};
 ghost use Rattle.lexemes.specs.Words.{place_among};
 
 use lexemes::classes::*;
 
-// The class of the sign of one byte.
-pub fn one_byte(b: u8) -> Option<u8>
-    ensures place { unwrap_or result SIGNS ≡ place_among (b ∷ []) signs }
-    ensures known { IfSome result (λ class. class < SIGNS) }
+// The class of the sign of one byte, or SIGNS.
+pub fn one_byte(b: u8) -> u8
+    ensures { result ≡ place_among (b ∷ []) signs }
 {
-    let class = match b {
+    match b {
         b'{' => OPEN_BRACE,
         b'}' => CLOSE_BRACE,
         b'(' => OPEN_PAREN,
@@ -27,23 +26,38 @@ pub fn one_byte(b: u8) -> Option<u8>
         b'*' => STAR,
         b'/' => SLASH,
         b'%' => PERCENT,
-        _ => return None,
-    };
-    Some(class)
+        _ => SIGNS,
+    }
 }
 
-// The class of the sign of two bytes.
-pub fn two_bytes(b: u8, next: u8) -> Option<u8>
-    ensures place { unwrap_or result SIGNS ≡ place_among (b ∷ next ∷ []) signs }
-    ensures known { IfSome result (λ class. class < SIGNS) }
+// The class of the sign of two bytes of which `=` is the second, or SIGNS.
+fn before_equals(b: u8) -> u8
+    ensures { result ≡ place_among (b ∷ 61 ∷ []) signs }
 {
-    match (b, next) {
-        (b'=', b'=') => Some(EQUAL),
-        (b'!', b'=') => Some(NOT_EQUAL),
-        (b'<', b'=') => Some(LESS_EQUAL),
-        (b'>', b'=') => Some(GREATER_EQUAL),
-        (b'<', b'<') => Some(SHIFT_LEFT),
-        (b'>', b'>') => Some(SHIFT_RIGHT),
-        _ => None,
+    match b {
+        b'=' => EQUAL,
+        b'!' => NOT_EQUAL,
+        b'<' => LESS_EQUAL,
+        b'>' => GREATER_EQUAL,
+        _ => SIGNS,
     }
+}
+
+// The class of the sign of two bytes, or SIGNS.
+pub fn two_bytes(b: u8, next: u8) -> u8
+    ensures { result ≡ place_among (b ∷ next ∷ []) signs }
+{
+    if next < b'<' {
+        return SIGNS;
+    }
+    if next == b'=' {
+        return before_equals(b);
+    }
+    if next == b'<' {
+        return if b == b'<' { SHIFT_LEFT } else { SIGNS };
+    }
+    if next == b'>' {
+        return if b == b'>' { SHIFT_RIGHT } else { SIGNS };
+    }
+    SIGNS
 }

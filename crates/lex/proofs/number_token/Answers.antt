@@ -19,13 +19,13 @@ loop-i-preserved c =
 pub any_number-requires : goal.any_number-requires
 any_number-requires c = c.requires
 
-pub returns-then-is_word_byte : goal.returns-then-is_word_byte
-returns-then-is_word_byte c = c.any_number.ensures
+pub returns-then-in_word : goal.returns-then-in_word
+returns-then-in_word c = c.any_number.ensures
 
 pub returns-then-not-is_digit : goal.returns-then-not-is_digit
 returns-then-not-is_digit c =
     let stop = run_no is_digit c.args.src.now c.loop-i.i (omega arith) (sym c.is_digit.ensures ∙ c.if-not-is_digit.true) in
-    decimal_token c.args.src.now c.args.at c.loop-i.i c.requires.1 (omega (arith, c.loop-i.invariant.1)) (sym c.is_word_byte.ensures ∙ c.if-is_word_byte.false)
+    decimal_token c.args.src.now c.args.at c.loop-i.i c.requires.1 (omega (arith, c.loop-i.invariant.1)) (sym c.in_word.ensures ∙ c.if-in_word.false)
 
 pub returns : goal.returns
 returns c =

@@ -1,50 +1,34 @@
--- `lex::signs::two_bytes` meets its contract: each arm by computation.
+-- `lex::signs::two_bytes` meets its contract.
 use mathlib.Core.Path.{sym}
-use borrow.Author.Tests.{ne_eqb}
+use mathlib.Core.List.{[], ◌∷◌}
+use native.Mathlib.Omega.{arith}
 use Rattle.lexemes.specs.Lexemes.{signs}
 use Rattle.lexemes.specs.Words.{same, place_among}
-use Rattle.lex.proofs.Cases.{no_pair}
+use Rattle.lexemes.proofs.Missed.{byte_missed}
+use Rattle.lex.proofs.Cases.{no_second}
 use Rattle.lex.proofs.signs.two_bytes.Goals as goal
 
-pub returns-in-61-eq61-clause-place : goal.returns-in-61-eq61-clause-place
-unfolding signs same place_among
-returns-in-61-eq61-clause-place c = rw (c.in-61-eq61.is-0, c.in-61-eq61.is-1)
+pub returns-then-next-lt60 : goal.returns-then-next-lt60
+returns-then-next-lt60 c = sym (no_second c.args.b c.args.next (λ e. omega arith) (λ e. omega arith) (λ e. omega arith))
 
-pub returns-in-33-eq61-clause-place : goal.returns-in-33-eq61-clause-place
-unfolding signs same place_among
-returns-in-33-eq61-clause-place c = rw (c.in-33-eq61.is-0, c.in-33-eq61.is-1)
+pub returns-then-next-eq61 : goal.returns-then-next-eq61
+returns-then-next-eq61 c = rw c.if-next-eq61.true c.before_equals.ensures
 
-pub returns-in-60-eq61-clause-place : goal.returns-in-60-eq61-clause-place
+pub returns-then-b-eq60 : goal.returns-then-b-eq60
 unfolding signs same place_among
-returns-in-60-eq61-clause-place c = rw (c.in-60-eq61.is-0, c.in-60-eq61.is-1)
+returns-then-b-eq60 c = rw (c.if-next-eq60.true, c.if-b-eq60.true)
 
-pub returns-in-60-eq60-clause-place : goal.returns-in-60-eq60-clause-place
+pub returns-else-b-eq60 : goal.returns-else-b-eq60
+unfolding signs same
+returns-else-b-eq60 c = rw c.if-next-eq60.true (sym (byte_missed c.args.b (60 ∷ []) signs (tt, c.if-b-eq60.false)))
+
+pub returns-then-b-eq62 : goal.returns-then-b-eq62
 unfolding signs same place_among
-returns-in-60-eq60-clause-place c = rw (c.in-60-eq60.is-0, c.in-60-eq60.is-1)
+returns-then-b-eq62 c = rw (c.if-next-eq62.true, c.if-b-eq62.true)
 
-pub returns-in-62-eq61-clause-place : goal.returns-in-62-eq61-clause-place
-unfolding signs same place_among
-returns-in-62-eq61-clause-place c = rw (c.in-62-eq61.is-0, c.in-62-eq61.is-1)
+pub returns-else-b-eq62 : goal.returns-else-b-eq62
+unfolding signs same
+returns-else-b-eq62 c = rw c.if-next-eq62.true (sym (byte_missed c.args.b (62 ∷ []) signs (tt, c.if-b-eq62.false)))
 
-pub returns-in-62-eq62-clause-place : goal.returns-in-62-eq62-clause-place
-unfolding signs same place_among
-returns-in-62-eq62-clause-place c = rw (c.in-62-eq62.is-0, c.in-62-eq62.is-1)
-
-pub returns-in_default-clause-place : goal.returns-in_default-clause-place
-unfolding signs same place_among
-returns-in_default-clause-place c = rw (c.in_default.is-0, ne_eqb _ 61 c.in_default.is-1.1)
-
-pub returns-in_default-2-clause-place : goal.returns-in_default-2-clause-place
-unfolding signs same place_among
-returns-in_default-2-clause-place c = rw (c.in_default.is-0, ne_eqb _ 61 c.in_default.is-1.1)
-
-pub returns-in_default-3-clause-place : goal.returns-in_default-3-clause-place
-unfolding signs same place_among
-returns-in_default-3-clause-place c = rw (c.in_default.is-0, ne_eqb _ 61 c.in_default.is-1.0.1, ne_eqb _ 60 c.in_default.is-1.1)
-
-pub returns-in_default-4-clause-place : goal.returns-in_default-4-clause-place
-unfolding signs same place_among
-returns-in_default-4-clause-place c = rw (c.in_default.is-0, ne_eqb _ 61 c.in_default.is-1.0.1, ne_eqb _ 62 c.in_default.is-1.1)
-
-pub returns-in_default-5-clause-place : goal.returns-in_default-5-clause-place
-returns-in_default-5-clause-place c = sym (no_pair c.args.b c.args.next c.in_default.is-0)
+pub returns : goal.returns
+returns c = sym (no_second c.args.b c.args.next c.if-next-eq61.false c.if-next-eq60.false c.if-next-eq62.false)

@@ -1,8 +1,11 @@
 /* Checks the C interface of the library, and the header's constants against what the calls leave: a line for each
  * check, some under a heading, then the total. The exit status is 0 if all agree. */
 
+#define _POSIX_C_SOURCE 200809L
+
 #include "../../include/drnkavec.h"
 
+#include <pthread.h>
 #include <stdarg.h>
 #include <stdbool.h>
 #include <stdio.h>
@@ -83,6 +86,7 @@ static void fill_all(void)
     " form formid=1,title=STRING_TOKEN(4);\n\r\t"
 #define SECOND_FORM "endform;form formid=2,title=STRING_TOKEN(4);"
 #define FRAME_END "endform;endformset;"
+#define LEVELS "1 OR 1 AND 1|1&1==1<1<<1+1"
 #define FRAME_ROWS 2
 
 static const char EXAMPLE[] =
@@ -233,6 +237,22 @@ static void make_conditions(size_t count)
     add_times("suppressif 1;", VFR_MAX_CONDITIONS);
     add_times("^suppressif 1;", count - VFR_MAX_CONDITIONS);
     add_times("endif;", count);
+    add(FRAME_END);
+}
+
+/* The deepest source: as many conditions as may be open, and in the innermost one as many groups, each entered from the
+ * tightest of the nine levels of expressions, with all nine in the innermost. */
+static void make_deepest(void)
+{
+    length = 0;
+    add(FRAME_START);
+    add_times("suppressif 1;", VFR_MAX_CONDITIONS - 1);
+    add("suppressif ");
+    add_times(LEVELS "*(", VFR_MAX_GROUPS);
+    add(LEVELS "*1");
+    add_times(")", VFR_MAX_GROUPS);
+    add(";label 1;");
+    add_times("endif;", VFR_MAX_CONDITIONS);
     add(FRAME_END);
 }
 
@@ -1656,6 +1676,63 @@ static void check_token_lengths(void)
     check("no token is lent, and the call returns", true);
 }
 
+/* ---- The stack that the header asks for; a call that wants more ends the program ---- */
+
+static void *quick_deepest(void *unused)
+{
+    quick(source, length);
+    return unused;
+}
+
+static void *read_deepest(void *unused)
+{
+    read_source(source, length, NUMBERS);
+    return unused;
+}
+
+static void *read_deepest_family(void *unused)
+{
+    const uint64_t ends[] = {length};
+
+    vfr_read_family((const uint8_t *)source, length, ends, 1, table, NUMBERS, family, VFR_FAMILY_ANSWER, answer,
+                    VFR_ANSWER);
+    return unused;
+}
+
+static void *resolve_deepest(void *unused)
+{
+    resolve_source(source, length, NUMBERS, VFR_MAX_TEXT);
+    return unused;
+}
+
+static void *show_deepest(void *unused)
+{
+    show_source(source, length, NO_ANSWERS, NUMBERS, VFR_MAX_TEXT);
+    return unused;
+}
+
+/* Runs a call in a thread with so many bytes of stack, with all that was checked before printed. */
+static bool ran(void *(*call)(void *), size_t stack)
+{
+    pthread_attr_t attributes;
+    pthread_t thread;
+    bool good = fflush(stdout) == 0 && pthread_attr_init(&attributes) == 0;
+
+    good = good && pthread_attr_setstacksize(&attributes, stack) == 0;
+    good = good && pthread_create(&thread, &attributes, call, NULL) == 0;
+    return good && pthread_join(thread, NULL) == 0 && pthread_attr_destroy(&attributes) == 0;
+}
+
+static void check_stack(void)
+{
+    make_deepest();
+    check("the quick check of the deepest source in a thread of 190 KB", ran(quick_deepest, 190 * 1024));
+    check("reading it in a thread of 320 KB", ran(read_deepest, 320 * 1024) && answer[0] == VFR_ACCEPTED);
+    check("reading it as a family there", ran(read_deepest_family, 320 * 1024) && answer[0] == VFR_ACCEPTED);
+    check("resolving it there", ran(resolve_deepest, 320 * 1024) && answer[0] == VFR_ACCEPTED);
+    check("showing it in a thread of 370 KB", ran(show_deepest, 370 * 1024) && answer[0] == VFR_ACCEPTED);
+}
+
 static void check_source_untouched(void)
 {
     char copy[sizeof EXAMPLE];
@@ -1704,6 +1781,7 @@ int main(void)
     check_shown_rules();
     check_show_null();
     check_families();
+    check_stack();
     check_source_untouched();
     printf("%d checks passed, %d failed\n", passed, failed);
     return failed != 0;

@@ -31,6 +31,11 @@ abbrev pub standing : Result State Halt → Standing
 standing (Ok s) = going s
 standing (Err e) = halted e
 
+-- what a reader that changes its state in place gives, and that state
+abbrev pub standing_in : Result (Unit {0}) Halt → State → Standing
+standing_in (Ok _) s = going s
+standing_in (Err e) s = halted e
+
 -- refused at the token, which opens a depth too many
 abbrev pub refused_deep : State → Halt
 refused_deep s = record { reason = TooDeep; token = s.token }

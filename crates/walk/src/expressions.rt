@@ -6,11 +6,11 @@ ghost use Rattle.grammar.specs.Rules.{level_rule, <atom>, <or>};
 ghost use Rattle.grammar.specs.Derivation.{max_groups};
 ghost use Rattle.fields.specs.Operators.{LEVELS};
 ghost use Rattle.walk.specs.Meanings.{Counted, OperandRows};
-ghost use Rattle.walk.specs.Standing.{going, standing};
+ghost use Rattle.walk.specs.Standing.{going, standing, standing_in};
 ghost use Rattle.walk.specs.Walked.{Room, Reads, ReadsOperand};
 
 use crate::starts::is_constant;
-use crate::steps::{close, flat, past, too_deep, with_row, word};
+use crate::steps::{close, flat, pass, put_word_row, too_deep, word};
 use crate::{Halt, State};
 use elements::phrase;
 use fields::operators::{LEVELS, level_of};
@@ -32,23 +32,37 @@ fn leaf(src: &[u8], table: &mut [u64], s: State, parent: usize) -> Result<State,
     }
 }
 
-// An atom, with `left` groups left to open.
+// An atom, with `left` groups left to open. It and `level` change the state in place, so that a deep source takes little stack.
 #[cycle(atom_level)]
-fn atom(src: &[u8], table: &mut [u64], s: State, parent: usize, left: usize) -> Result<State, Halt>
-    requires { Room src.now (going s) × (left ≤ max_groups) }
-    ensures { ReadsOperand src.now left <atom> parent (going s) (standing result) table.old table.new }
+fn atom(
+    src: &[u8],
+    table: &mut [u64],
+    s: &mut State,
+    parent: usize,
+    left: usize,
+) -> Result<(), Halt>
+    requires { Room src.now (going s.old) × (left ≤ max_groups) }
+    ensures { ReadsOperand src.now left <atom> parent (going s.old) (standing_in result s.new) table.old table.new }
 {
     match s.token.class {
-        NOT | OPEN_PAREN if left == 0 => too_deep(s),
+        NOT | OPEN_PAREN if left == 0 => Err(too_deep(*s)),
         NOT => {
-            let operand = atom(src, table, past(src, s), parent, left - 1)?;
-            Ok(with_row(table, operand, parent, s.token))
+            let word = s.token;
+            pass(src, s);
+            atom(src, table, s, parent, left - 1)?;
+            put_word_row(table, s, parent, word);
+            Ok(())
         }
         OPEN_PAREN => {
-            let inner = level(src, table, past(src, s), parent, left - 1, 0)?;
-            close(src, inner, phrase::GROUP_CLOSE)
+            pass(src, s);
+            level(src, table, s, parent, left - 1, 0)?;
+            *s = close(src, *s, phrase::GROUP_CLOSE)?;
+            Ok(())
         }
-        _ => leaf(src, table, s, parent),
+        _ => {
+            *s = leaf(src, table, *s, parent)?;
+            Ok(())
+        }
     }
 }
 
@@ -58,24 +72,25 @@ fn atom(src: &[u8], table: &mut [u64], s: State, parent: usize, left: usize) -> 
 fn level(
     src: &[u8],
     table: &mut [u64],
-    s: State,
+    s: &mut State,
     parent: usize,
     left: usize,
     at: u8,
-) -> Result<State, Halt>
-    requires { Room src.now (going s) × (left ≤ max_groups) × (at ≤ LEVELS) }
-    ensures { ReadsOperand src.now left (level_rule at) parent (going s) (standing result) table.old table.new }
+) -> Result<(), Halt>
+    requires { Room src.now (going s.old) × (left ≤ max_groups) × (at ≤ LEVELS) }
+    ensures { ReadsOperand src.now left (level_rule at) parent (going s.old) (standing_in result s.new) table.old table.new }
 {
-    let mut s = atom(src, table, s, parent, left)?;
+    atom(src, table, s, parent, left)?;
     let mut bound = LEVELS;
     loop {
         let operator = s.token;
         let own = level_of(operator.class);
         if own < at || bound <= own {
-            return Ok(s);
+            return Ok(());
         }
-        let right = level(src, table, past(src, s), parent, left, own + 1)?;
-        s = with_row(table, right, parent, operator);
+        pass(src, s);
+        level(src, table, s, parent, left, own + 1)?;
+        put_word_row(table, s, parent, operator);
         bound = own + 1;
     }
 }
@@ -85,5 +100,7 @@ pub fn expression(src: &[u8], table: &mut [u64], s: State, parent: usize) -> Res
     requires { Room src.now (going s) }
     ensures { ReadsOperand src.now max_groups <or> parent (going s) (standing result) table.old table.new }
 {
-    level(src, table, s, parent, GROUPS, 0)
+    let mut s = s;
+    level(src, table, &mut s, parent, GROUPS, 0)?;
+    Ok(s)
 }

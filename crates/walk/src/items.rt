@@ -132,7 +132,7 @@ pub fn items(
         let class = s.token.class;
         if is_condition(class) {
             if left == 0 {
-                return too_deep(s);
+                return Err(too_deep(s));
             }
             let open = open_condition(src, table, s, parent)?;
             let inner = items(src, table, open, s.rows, left - 1)?;

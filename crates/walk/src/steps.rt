@@ -1,5 +1,5 @@
 // The smallest steps of a walk.
-ghost use Rattle.std.specs.Prelude.{◌≡◌, [], ◌∷◌, ◌+◌, ◌<◌, ◌≤◌, ◌^◌, Err};
+ghost use Rattle.std.specs.Prelude.{◌≡◌, [], ◌∷◌, ◌+◌, ◌<◌, ◌≤◌, ◌^◌};
 ghost use Rattle.lexemes.specs.Classes.{BAD};
 ghost use Rattle.grammar.specs.Notation.{t};
 ghost use Rattle.grammar.specs.Source.{number_at};
@@ -19,23 +19,20 @@ use lex::Token;
 use refusals::Reason;
 
 // The walk is refused at its token, which opens a depth too many.
-pub fn too_deep(s: State) -> Result<State, Halt>
-    ensures { result ≡ Err (refused_deep s) }
+pub fn too_deep(s: State) -> Halt
+    ensures { result ≡ refused_deep s }
 {
-    Err(Halt {
+    Halt {
         reason: Reason::TooDeep,
         token: s.token,
-    })
+    }
 }
 
-// Past the token.
-pub fn past(src: &[u8], s: State) -> State
-    ensures { going result ≡ passed src.now (going s) }
+// Goes past the token.
+pub fn pass(src: &[u8], s: &mut State)
+    ensures { going s.new ≡ passed src.now (going s.old) }
 {
-    State {
-        token: lex::token_at(src, s.token.end),
-        ..s
-    }
+    s.token = lex::token_at(src, s.token.end);
 }
 
 // A phrase, whose entries are kept.
@@ -95,16 +92,13 @@ pub fn flat(
     })
 }
 
-// The row of a word, after what was read.
-pub fn with_row(table: &mut [u64], s: State, parent: usize, word: Token) -> State
-    requires { s.rows + 1 < 2 ^ 64 }
-    ensures { WithRow parent word (going s) (going result) table.old table.new }
+// Writes the row of a word, after what was read.
+pub fn put_word_row(table: &mut [u64], s: &mut State, parent: usize, word: Token)
+    requires { s.old.rows + 1 < 2 ^ 64 }
+    ensures { WithRow parent word (going s.old) (going s.new) table.old table.new }
 {
     rows::put_row(table, s.rows, word_row(word, parent));
-    State {
-        rows: s.rows + 1,
-        ..s
-    }
+    s.rows += 1;
 }
 
 // A word, and its row.
@@ -112,5 +106,8 @@ pub fn word(src: &[u8], table: &mut [u64], s: State, parent: usize) -> State
     requires { Room src.now (going s) × (s.token.class < BAD) }
     ensures { Reads src.now (t s.token.class ∷ []) (Counted (Worded src.now parent)) (going s) (going result) table.old table.new }
 {
-    with_row(table, past(src, s), parent, s.token)
+    let mut end = s;
+    pass(src, &mut end);
+    put_word_row(table, &mut end, parent, s.token);
+    end
 }

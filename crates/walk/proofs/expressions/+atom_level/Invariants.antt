@@ -8,10 +8,10 @@ use Rattle.walk.proofs.ExpressionSteps.{OperatorLoop}
 use Rattle.walk.proofs.expressions.+atom_level.Given as goal
 
 abbrev pub decreases-level : goal.decreases-level
-decreases-level l = ahead l.src.now (going l.s) * 2 + 1
+decreases-level l = ahead l.src.now (going l.s.now) * 2 + 1
 
 abbrev pub decreases-atom : goal.decreases-atom
-decreases-atom l = ahead l.src.now (going l.s) * 2
+decreases-atom l = ahead l.src.now (going l.s.now) * 2
 
 abbrev pub invariant-level-loop-operator : goal.invariant-level-loop-operator
 invariant-level-loop-operator l = OperatorLoop l.src l.left l.at l.parent l.initial.table (going l.initial.s) l.table (going l.s) l.bound

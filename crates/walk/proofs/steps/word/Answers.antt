@@ -5,4 +5,4 @@ use Rattle.walk.proofs.ExpressionSteps.{word_reads}
 use Rattle.walk.proofs.steps.word.Goals as goal
 
 pub returns : goal.returns
-returns c = word_reads refl c.requires.1 c.past.ensures c.with_row.ensures
+returns c = word_reads refl c.requires.1 c.pass.ensures c.put_word_row.ensures

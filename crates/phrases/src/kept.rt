@@ -52,11 +52,11 @@ impl Findings<'_> {
         }
     }
 
-    // The token, which suits the element, may be a number out of its range.
+    // The token, which suits the element, may be a number out of its range. Past the first such number none is looked at.
     pub fn note_range(&mut self, src: &[u8], want: u8, token: Token)
         ensures { Notes self.old (map outside (out_of src.now (element_range want token.class) (token.start ∷ []))) self.new }
     {
-        if !in_range(src, token, want) {
+        if self.noted.outside.is_none() && !in_range(src, token, want) {
             self.noted = with_outside(self.noted, Some(token.start));
         }
     }

@@ -21,12 +21,23 @@ is_rule_lem n h l = rw (lt-ltb 0 n h, lt-ltb n 256 l)
 pub rule_range : (n : ℕ) → is_rule n ≡ true → (0 < n) × (n < 256)
 rule_range n e = let z = and_yes (ltb 0 n) (ltb n 256) e in (ltb-true 0 n z.0, ltb-true n 256 z.1)
 
+pub rules_low : (a b : ℕ) → (is_rule a && is_rule b) ≡ true → (a < 256) × (b < 256)
+rules_low a b e = let z = and_yes (is_rule a) (is_rule b) e in ((rule_range a z.0).1, (rule_range b z.1).1)
+
 -- ---- adding a step
 
 module _ (ws : List ℕ) (a b : ℕ) where
+  pub added_rules : {now : List ℕ} → (is_rule a && is_rule b) ≡ true → now ≡ with_used ws (a * 256 + b) → now ≡ added ws a b
+  unfolding added
+  added_rules e f = rw e f
+
   pub added_none : (is_rule a && is_rule b) ≡ false → ws ≡ added ws a b
   unfolding added
   added_none e = rw e
+
+  pub circular_rules : {r : Bool} → (is_rule a && is_rule b) ≡ true → r ≡ used ws (b * 256 + a) → (eqb a b || r) ≡ circular_in ws a b
+  unfolding circular_in has_step
+  circular_rules e f = rw (e, f)
 
   pub circular_none : (is_rule a && is_rule b) ≡ false → false ≡ circular_in ws a b
   unfolding circular_in

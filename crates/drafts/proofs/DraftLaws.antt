@@ -11,7 +11,7 @@ use lib.Dec.{ltb}
 use lib.ListN.{get_or, set}
 use lib.Seq.{get_or-set_other}
 use Rattle.rows.specs.Columns as column
-use Rattle.rows.specs.Draft.{low_of}
+use Rattle.rows.specs.Draft.{low_of, mark_of}
 use Rattle.rows.specs.Marks.{marked}
 use Rattle.rows.specs.Table.{cell_at}
 use Rattle.std.specs.Prelude.{Option, Some, None}
@@ -48,6 +48,19 @@ module _ (t : List ℕ) (i : ℕ) where
   -- what code reads in an unmarked column
   pub cell_read : (c : ℕ) → unmarked c ≡ true → {v : ℕ} → v ≡ cell_at t i c → v ≡ cell c (draft_at t i)
   cell_read c e r = r ∙ cell_decoded _ c e
+
+  -- the marks
+  pub own_read : mark_of (cell_at t i column.FIRST) ≡ (draft_at t i).own_at
+  unfolding decoded
+  own_read = refl
+
+  pub limit_read : mark_of (cell_at t i column.SECOND) ≡ (draft_at t i).limit_at
+  unfolding decoded
+  limit_read = refl
+
+  pub default_read : mark_of (cell_at t i column.FLAGS) ≡ (draft_at t i).default_at
+  unfolding decoded
+  default_read = refl
 
 -- a mark that is there
 pub marked_some : (place : Option ℕ) → is_some place ≡ ltb 0 (marked place)

@@ -126,6 +126,9 @@ module _ {F : Type 0} {g : Mut F (ℕ × Unit {0}) (Option ℕ)} {f : F} (fault 
 pub record Looking (p : Draft → Bool) (t : List ℕ) (f n i : ℕ) : Type 0 where
   pub same : any p (drafts_from t f (n - f)) ≡ any p (drafts_from t i (n - i))
 
+pub looking_start : (p : Draft → Bool) (t : List ℕ) (f n : ℕ) → Looking p t f n f
+looking_start p t f n = record { same = refl }
+
 module _ {p : Draft → Bool} {t : List ℕ} {f n i : ℕ} (v : Looking p t f n i) where
   at_row : i < n → any p (drafts_from t f (n - f)) ≡ (p (draft_at t i) || any p (drafts_from t (i + 1) (n - (i + 1))))
   at_row h = v.same ∙ ap (any p) (drafts_next t i n h) ∙ any_cons p (draft_at t i) (drafts_from t (i + 1) (n - (i + 1)))

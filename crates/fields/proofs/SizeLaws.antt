@@ -8,7 +8,7 @@ use mathlib.Core.Bool.{Bool, true, false, not}
 use mathlib.Core.List.{List, [], ◌∷◌}
 use native.Mathlib.Omega.{arith}
 use lib.ListN.{get_or}
-use borrow.Author.Tests.{ne_eqb}
+use borrow.Author.Tests.{eq-eqb, ne_eqb}
 use Rattle.std.specs.Prelude.{Option}
 use Rattle.values.specs.Numbers.{value_at}
 use Rattle.sizes.specs.Sizes.{width}
@@ -16,6 +16,10 @@ use Rattle.grammar.specs.Ranges.{fits_bytes, keeps}
 use Rattle.fields.specs.Sizes.{size_entry, oversized, first_oversized}
 
 -- ---- the size
+
+pub entry_absent : (entry : ℕ) → entry / 256 ≡ 0 → 33 ≡ size_entry entry
+unfolding size_entry
+entry_absent entry e = rw (eq-eqb (entry / 256) 0 e)
 
 pub entry_there : (entry : ℕ) → entry / 256 ≢ 0 → entry / 256 ≡ size_entry entry
 unfolding size_entry

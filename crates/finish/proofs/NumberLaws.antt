@@ -64,6 +64,9 @@ pub record Numbering (ws₀ t₀ : List ℕ) (n : ℕ) (ws t : List ℕ) (at i :
   pub table : put t₀ 0 (with_owns (given ws₀ 1 (owns_in (rows_from t₀ 0 n))) (rows_from t₀ 0 n)) ≡ put t i (with_owns (given ws at (owns_in (rows_from t i (n - i)))) (rows_from t i (n - i)))
   pub map : given_map ws₀ 1 (owns_in (rows_from t₀ 0 n)) ≡ given_map ws at (owns_in (rows_from t i (n - i)))
 
+pub numbering_start : (ws t : List ℕ) (n : ℕ) → Numbering ws t n ws t 1 0
+numbering_start ws t n = let e : n - 0 ≡ n = omega arith in record { inside = omega arith; long = refl; table = rw e; map = rw e }
+
 module _ {ws₀ t₀ ws t : List ℕ} {n at i : ℕ} (v : Numbering ws₀ t₀ n ws t at i) where
   -- the final table and map
   abbrev Answer : Type 0

@@ -1,6 +1,6 @@
 -- Writing the numbers that references find, as the code does it.
 use Prim.Native.Nat.{ℕ, ◌+◌, ◌-◌, ◌≤◌, ◌<◌}
-use mathlib.Core.Path.{◌≡◌, sym, ap, ◌∙◌}
+use mathlib.Core.Path.{◌≡◌, refl, sym, ap, ◌∙◌}
 use mathlib.Core.Bool.{Bool, true, false, cond, ◌||◌}
 use mathlib.Core.List.{List, map}
 use native.Mathlib.Omega.{arith}
@@ -16,7 +16,7 @@ use Rattle.rows.proofs.CellLaws.{cell_beside}
 use Rattle.answers.specs.Drafts.{decoded}
 use Rattle.names.specs.Names.{find_in}
 use Rattle.finish.specs.Finish.{is_reference_row, number_found, resolved, table_numbered, table_resolved, table_settled}
-use Rattle.finish.proofs.RowLoops.{Mapping, mapping_next, mapping_end}
+use Rattle.finish.proofs.RowLoops.{Mapping, mapping_start, mapping_next, mapping_end}
 
 -- ---- the number that a row finds
 
@@ -52,6 +52,9 @@ length_resolved s es t r l = go (is_reference_row r)
 pub record Resolving (s es t₀ : List ℕ) (n : ℕ) (t : List ℕ) (i : ℕ) : Type 0 where
   pub rows : Mapping (resolved s es t₀) t₀ n t i
   pub owns : (k : ℕ) → cell_at t k column.OWN ≡ cell_at t₀ k column.OWN
+
+pub resolving_start : (s es t : List ℕ) (n : ℕ) → Resolving s es t n t 0
+resolving_start s es t n = record { rows = mapping_start (resolved s es t) t n; owns = λ k. refl }
 
 module _ {s es t₀ t : List ℕ} {n i : ℕ} (v : Resolving s es t₀ n t i) where
   pub resolving_end : n ≤ i → t ≡ put t₀ 0 (map (resolved s es t₀) (rows_from t₀ 0 n))

@@ -36,6 +36,9 @@ pub record Mapping (f : List ℕ → List ℕ) (t₀ : List ℕ) (n : ℕ) (t : 
   pub long : length t ≡ length t₀
   pub same : put t₀ 0 (map f (rows_from t₀ 0 n)) ≡ put t i (map f (rows_from t i (n - i)))
 
+pub mapping_start : (f : List ℕ → List ℕ) (t : List ℕ) (n : ℕ) → Mapping f t n t 0
+mapping_start f t n = let e : n - 0 ≡ n = omega arith in record { inside = omega arith; long = refl; same = rw e }
+
 module _ {f : List ℕ → List ℕ} {t₀ t : List ℕ} {n i : ℕ} (v : Mapping f t₀ n t i) where
   pub mapping_next : ((r : List ℕ) → length r ≡ column.ROW → length (f r) ≡ column.ROW) → i < n → {t' : List ℕ} → t' ≡ with_row t i (f (row_at t i)) → Mapping f t₀ n t' (i + 1)
   unfolding map

@@ -1,13 +1,14 @@
 -- The chains of the index of names.
 use Prim.Native.Nat.{ℕ, suc, ◌+◌, ◌-◌, ◌≤◌, ◌<◌}
 use mathlib.Core.Path.{◌≡◌, refl, sym, ap, ◌∙◌}
-use mathlib.Core.Bool.{Bool, true, false, cond}
+use mathlib.Core.Bool.{Bool, true, false, cond, ◌&&◌}
 use mathlib.Core.List.{List, [], ◌∷◌}
 use native.Mathlib.Decide.{ℕ_discrete}
 use native.Mathlib.Omega.{arith}
-use borrow.Author.Tests.{lt-ltb, le-ltb, eq-eqb, ne_eqb, ltb-true, ltb-false}
-use lib.Dec.{ltb}
+use borrow.Author.Tests.{lt-ltb, le-ltb, eq-eqb, ne_eqb, ltb-true, ltb-false, leb-true}
+use lib.Dec.{ltb, leb}
 use lib.ListN.{length, get_or, set, length-set}
+use Rattle.numbers.proofs.Ranges.{and_yes}
 use Rattle.names.specs.Names.{link_in, row_in, follow}
 
 module _ (p : ℕ → Bool) where
@@ -92,6 +93,13 @@ module _ (p : ℕ → Bool) where
 
 pub record Following (p : ℕ → Bool) (es : List ℕ) (first j : ℕ) : Type 0 where
   pub same : follow p es first ≡ follow p es j
+
+pub following_start : (p : ℕ → Bool) (es : List ℕ) (first : ℕ) → Following p es first first
+following_start p es first = record { same = refl }
+
+-- the test of the loop
+pub inside : (j n : ℕ) → (ltb 0 j && leb j n) ≡ true → (0 < j) × (j ≤ n)
+inside j n e = let both = and_yes (ltb 0 j) (leb j n) e in (ltb-true 0 j both.0, leb-true j n both.1)
 
 module _ {p : ℕ → Bool} {es : List ℕ} {first j : ℕ} (v : Following p es first j) where
   pub following_end : (0 < j → length es < j) → 0 ≡ follow p es first

@@ -40,6 +40,9 @@ pub record Hashing (s : List ℕ) (at h i : ℕ) : Type 0 where
   pub small : h < HASHES
   pub same : hash_of 0 (word (drop at s)) ≡ hash_of h (word (drop i s))
 
+pub hashing_start : (s : List ℕ) (at : ℕ) → Hashing s at 0 at
+hashing_start s at = record { small = omega arith; same = refl }
+
 module _ {s : List ℕ} {at h i : ℕ} (v : Hashing s at h i) where
   pub hashing_next : {b : ℕ} → b ≡ first s i → (b ≡ 0 → ⊥) → Hashing s at ((h * BASE + b) % HASHES) (i + 1)
   hashing_next {b} e z =
@@ -254,12 +257,15 @@ module _ (s xs : List ℕ) where
         go false f g = refl
 
 -- row i and those after it have the same first repeated name as all rows
-record Scanning (s xs t : List ℕ) (c i : ℕ) : Type 0 where
-  inside : i ≤ c
-  same : repeated_from s xs 0 (drafts_from t 0 c) ≡ repeated_from s xs i (drafts_from t i (c - i))
+pub record Scanning (s xs t : List ℕ) (c i : ℕ) : Type 0 where
+  pub inside : i ≤ c
+  pub same : repeated_from s xs 0 (drafts_from t 0 c) ≡ repeated_from s xs i (drafts_from t i (c - i))
+
+pub scanning_start : (s xs t : List ℕ) (c : ℕ) → Scanning s xs t c 0
+scanning_start s xs t c = record { inside = omega arith; same = ap (repeated_from s xs 0) (drafts_start t c) }
 
 module _ {s xs t : List ℕ} {c i : ℕ} (v : Scanning s xs t c i) where
-  scanning_end : c ≤ i → 0 ≡ repeated_from s xs 0 (drafts_from t 0 c)
+  pub scanning_end : c ≤ i → 0 ≡ repeated_from s xs 0 (drafts_from t 0 c)
   scanning_end h = sym (v.same ∙ rw (drafts_end t i c h) (repeated_none s xs i))
 
   module _ (h : i < c) where
@@ -267,17 +273,17 @@ module _ {s xs t : List ℕ} {c i : ℕ} (v : Scanning s xs t c i) where
         ≡ cond (repeats s xs i (draft_at t i)) (cell column.NAME (draft_at t i)) (repeated_from s xs (i + 1) (drafts_from t (i + 1) (c - (i + 1))))
     by_row = v.same ∙ rw (drafts_next t i c h) (repeated_cons s xs i (draft_at t i) (drafts_from t (i + 1) (c - (i + 1))))
 
-    scanning_here : {m : ℕ} → m ≡ repeated_at s xs i (draft_at t i) → 0 < m → m ≡ repeated_from s xs 0 (drafts_from t 0 c)
+    pub scanning_here : {m : ℕ} → m ≡ repeated_at s xs i (draft_at t i) → 0 < m → m ≡ repeated_from s xs 0 (drafts_from t 0 c)
     scanning_here e l = let r = repeats_yes s xs i (draft_at t i) e l in r.1 ∙ sym (by_row ∙ rw r.0)
 
-    scanning_next : 0 ≡ repeated_at s xs i (draft_at t i) → Scanning s xs t c (i + 1)
+    pub scanning_next : 0 ≡ repeated_at s xs i (draft_at t i) → Scanning s xs t c (i + 1)
     scanning_next e = record { inside = omega arith; same = by_row ∙ rw (repeats_no s xs i (draft_at t i) e) }
 
 -- where a closure answers it of each row, its first answer is that of the first row which repeats a name
 module _ {F : Type 0} {g : Mut F (ℕ × Unit {0}) (Option ℕ)} {f : F} (s xs t : List ℕ) (c : ℕ)
     (told : (row : ℕ) (m : Option ℕ) → row < c → Answers g f row m → marked m ≡ repeated_at s xs row (draft_at t row)) where
   passed : (i : ℕ) → i ≤ c → ((row : ℕ) → row < i → Answers g f row None) → Scanning s xs t c i
-  passed zero l h = record { inside = omega arith; same = ap (repeated_from s xs 0) (drafts_start t c) }
+  passed zero l h = scanning_start s xs t c
   passed (suc i) l h =
       let before = passed i (omega arith) (λ k q. h k (omega arith)) in
       rw (← add-one) (scanning_next before (omega arith) (told i None (omega arith) (h i (omega arith))))

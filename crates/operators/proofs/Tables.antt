@@ -1,8 +1,11 @@
 -- A code that stands in a table, and one that is none of a list of codes.
-use Rattle.std.proofs.Common.{◌≡◌, ℕ, Bool, true, false, cond, ◌&&◌, ◌||◌, eqb, List, [], ◌∷◌, sym, refl, ap, ◌∙◌, eqb-true}
+use Rattle.std.proofs.Common.{◌≡◌, ℕ, Bool, true, false, cond, ◌&&◌, ◌||◌, eqb, List, [], ◌∷◌, sym, refl, ap, ◌∙◌, ap₂, ne_eqb, eqb-true}
 use mathlib.Core.Bool.{false≢true}
 use Rattle.rows.specs.Codes.{member}
-use Rattle.operators.specs.Values.{operation_of, found}
+use Rattle.rows.specs.Codes.{OR, AND, BITWISE_OR, BITWISE_AND, EQUAL, NOT_EQUAL, GREATER_THAN, GREATER_EQUAL, LESS_THAN, LESS_EQUAL}
+use Rattle.rows.specs.Codes.{SHIFT_LEFT, SHIFT_RIGHT, ADD, SUBTRACT, MULTIPLY, DIVIDE, MODULO}
+use Rattle.rows.specs.Codes.{TRUE, FALSE, ZERO, ONE, ONES}
+use Rattle.operators.specs.Values.{no_operation, operations, operation_of, combined, found, constants, constant_of}
 use Rattle.operators.specs.declared.Scalar.{Scalar}
 use Rattle.operators.specs.declared.Scalar.TheVariants.{Boolean, Number, Undefined}
 
@@ -38,7 +41,22 @@ undefined_at_lem f (k ∷ ks) u c m = go (undefined_at_lem f ks (both (is_undefi
     go ih true e m = ap f (eqb-true c k e) ∙ is_undefined_lem (f k) (both (is_undefined (f k)) (undefined_at f ks) u).0
     go ih false e m = ih m
 
--- ---- a table beside a list of codes
+-- ---- a code that is none of a list
+
+-- c is none of these, and N: what the last arm of a `match` knows
+abbrev pub Others : Type 0 → ℕ → List ℕ → Type 0
+Others N c [] = N
+Others N c (k ∷ ks) = Others (N × (c ≡ k → ⊥)) c ks
+
+earlier : (N : Type 0) (c : ℕ) (ks : List ℕ) → Others N c ks → N
+earlier N c [] h = h
+earlier N c (k ∷ ks) h = (earlier (N × (c ≡ k → ⊥)) c ks h).0
+
+no_member : (N : Type 0) (c : ℕ) (ks : List ℕ) → Others N c ks → member c ks ≡ false
+unfolding member
+no_member N c [] h = refl
+no_member N c (k ∷ ks) h =
+    ap₂ ◌||◌ (ne_eqb c k (earlier (N × (c ≡ k → ⊥)) c ks h).1) (no_member (N × (c ≡ k → ⊥)) c ks h)
 
 -- each entry of a table has a code of ks, or p takes undefined from it
 abbrev pub undefined_but : {A : Type 0} → List ℕ → (A → Scalar) → List (ℕ × A) → Bool
@@ -66,5 +84,38 @@ found_undefined {A} ks p other (e ∷ es) c o u m =
 -- ---- the operators
 
 -- equal codes, and equal operands
+pub booleans_at : {c k : ℕ} → c ≡ k → (a b : Bool) → (operation_of k).booleans a b ≡ (operation_of c).booleans a b
+booleans_at e a b = ap (λ (n : ℕ). (operation_of n).booleans a b) (sym e)
+
 pub numbers_at : {c k : ℕ} → c ≡ k → (a b : ℕ) → (operation_of k).numbers a b ≡ (operation_of c).numbers a b
 numbers_at e a b = ap (λ (n : ℕ). (operation_of n).numbers a b) (sym e)
+
+pub combined_of : (c : ℕ) {l r x y : Scalar} → l ≡ x → r ≡ y → combined c x y ≡ combined c l r
+combined_of c e f = sym (ap₂ (combined c) e f)
+
+-- the codes of the operators that make something of booleans, and of numbers
+abbrev pub of_booleans : List ℕ
+of_booleans = OR ∷ AND ∷ EQUAL ∷ NOT_EQUAL ∷ []
+
+abbrev pub of_numbers : List ℕ
+of_numbers =
+    BITWISE_OR ∷ BITWISE_AND ∷ EQUAL ∷ NOT_EQUAL ∷ GREATER_THAN ∷ GREATER_EQUAL ∷ LESS_THAN ∷ LESS_EQUAL ∷ SHIFT_LEFT ∷ SHIFT_RIGHT
+    ∷ ADD ∷ SUBTRACT ∷ MULTIPLY ∷ DIVIDE ∷ MODULO ∷ []
+
+pub no_booleans : (c : ℕ) (a b : Bool) → Others Unit c of_booleans → (operation_of c).booleans a b ≡ Undefined
+unfolding operations member
+no_booleans c a b h = found_undefined of_booleans (λ o. o.booleans a b) no_operation operations c refl refl (no_member Unit c of_booleans h)
+
+pub no_numbers : (c a b : ℕ) → Others Unit c of_numbers → (operation_of c).numbers a b ≡ Undefined
+unfolding operations member
+no_numbers c a b h = found_undefined of_numbers (λ o. o.numbers a b) no_operation operations c refl refl (no_member Unit c of_numbers h)
+
+-- ---- the constants
+
+-- the codes of the constants that are defined
+abbrev pub defined_constants : List ℕ
+defined_constants = TRUE ∷ FALSE ∷ ZERO ∷ ONE ∷ ONES ∷ []
+
+pub no_constant : (c : ℕ) → Others Unit c defined_constants → constant_of c ≡ Undefined
+unfolding constants member
+no_constant c h = found_undefined defined_constants (λ w. w) Undefined constants c refl refl (no_member Unit c defined_constants h)

@@ -4,7 +4,7 @@ use Prim.Native.Nat.{ℕ, zero, suc, ◌+◌, ◌≤◌, ◌<◌}
 use native.Mathlib.Omega.{arith}
 use native.Mathlib.Numerals.{add-one}
 use mathlib.Core.Path.{◌≡◌, refl, sym, ap, ◌∙◌}
-use mathlib.Core.Bool.{Bool, true, false, cond, ◌||◌}
+use mathlib.Core.Bool.{Bool, true, false, cond, ◌||◌, or-false, or_assoc}
 use mathlib.Core.List.{List, [], ◌∷◌, ◌++◌, append_assoc}
 use lib.ListN.{length, get_or, drop, drop_of_length-le}
 use lib.Seq.{drop-cons}
@@ -70,6 +70,13 @@ module _ (set : ℕ) where
     unfolding text_of
     flags_end true i h = rw (drop_of_length-le ws h)
     flags_end false i h = rw (drop_of_length-le ws h)
+
+pub any_flag_lem : (set : ℕ) → (flag.is_set flag.READ_ONLY set || flag.is_set flag.INTERACTIVE set) || flag.is_set flag.RESET_REQUIRED set ≡ any_flag set
+any_flag_lem set =
+    let a = flag.is_set flag.READ_ONLY set in
+    let b = flag.is_set flag.INTERACTIVE set in
+    let c = flag.is_set flag.RESET_REQUIRED set in
+    or_assoc a b c ∙ ap (λ (x : Bool). a || (b || x)) (sym (or-false c)) ∙ any_set_lem set flag_words
 
 -- some word from a place of a table on is set
 module _ (set : ℕ) (ws : List FlagWord) where

@@ -1,15 +1,15 @@
 -- The loops of `all_ranks`, `put_rank` and `order`: places filled with a list, one after another.
 use mathlib.Core.Path.{◌≡◌, refl, sym, ap, ◌∙◌}
-use mathlib.Core.Bool.{Bool, true, false, cond}
+use mathlib.Core.Bool.{Bool, true, false, not, cond}
 use mathlib.Core.List.{List, [], ◌∷◌, ◌++◌, append-nil, append_assoc}
 use Prim.Native.Nat.{ℕ, zero, suc, ◌+◌, ◌-◌, ◌≤◌, ◌<◌}
 use native.Mathlib.Omega.{arith}
 use native.Mathlib.Numerals.{add-one}
-use borrow.Author.Tests.{ltb-true, ltb-false}
+use borrow.Author.Tests.{eqb-true, eqb-false, ltb-true, ltb-false, not-true, not-false}
 use lib.Dec.{ltb, eqb}
-use lib.ListN.{length, get_or, replicate, length-append, length-take, length-replicate}
+use lib.ListN.{length, get_or, set, replicate, length-append, length-take, length-set, length-replicate}
 use lib.ListN.{get_or-replicate, get_or-append, get_or-eq_default}
-use lib.Seq.{get_or-append-add, get_or-take, ext_get_or}
+use lib.Seq.{get_or-append_seam, get_or-append-add, get_or-set_same, get_or-set_other, get_or-take, ext_get_or}
 use Rattle.numbers.specs.Numbers.{picked}
 use Rattle.numbers.proofs.Ranges.{pick_same}
 use Rattle.circles.specs.Circles.{last}
@@ -56,6 +56,58 @@ appends_both : {before mid after more more' : List ℕ} {i j k : ℕ}
 appends_both {more = more} {more' = more'} p q =
     record { behind = λ l v. rw (append_assoc l more more') at (q.behind (l ++ more) (p.behind l v)) }
 
+module _ (before : List ℕ) (i a : ℕ) where
+  -- there is no place left
+  full : 256 ≤ i → Appends before i (a ∷ []) before i
+  full h =
+      record {
+        behind = λ l v. let far : 256 ≤ length l = omega (arith, v.next) in
+            record {
+              size = v.size;
+              next = omega (arith, v.next, length-append l (a ∷ []));
+              same = λ j g. v.same j g ∙ sym (get_or-append l (a ∷ []) 0 j (omega arith));
+            };
+      }
+
+  -- there is one
+  stored : i < 256 → Appends before i (a ∷ []) (set before i a) (i + 1)
+  stored h = record { behind = behind }
+    where
+      behind : (l : List ℕ) → Filled l before i → Filled (l ++ a ∷ []) (set before i a) (i + 1)
+      behind l v =
+          record {
+            size = length-set before i a ∙ v.size;
+            next = omega (arith, v.next, length-append l (a ∷ []));
+            same = λ j g. same j g (eqb j i) refl (ltb j i) refl;
+          }
+        where
+          end : i ≡ length l
+          end = omega (arith, v.next)
+
+          same : (j : ℕ) → j < 256 → (s : Bool) → eqb j i ≡ s → (t : Bool) → ltb j i ≡ t → get_or (set before i a) j 0 ≡ get_or (l ++ a ∷ []) j 0
+          same j g true s t u = rw (eqb-true j i s) (get_or-set_same before i a 0 (omega (arith, v.size)) ∙ sym (rw end (get_or-append_seam l a [] 0)))
+          same j g false s true u =
+              get_or-set_other before i j a 0 (eqb-false j i s)
+              ∙ v.same j g
+              ∙ sym (get_or-append l (a ∷ []) 0 j (omega (arith, ltb-true j i u)))
+          same j g false s false u =
+              let far : i < j = omega (arith, ltb-false j i u, eqb-false j i s) in
+              get_or-set_other before i j a 0 (eqb-false j i s)
+              ∙ v.same j g
+              ∙ get_or-eq_default l 0 (omega arith)
+              ∙ sym (get_or-eq_default (l ++ a ∷ []) 0 (omega (arith, length-append l (a ∷ []))))
+
+  -- the tests of `put_if`
+  module _ (wanted : Bool) where
+    pub put_unwanted : not wanted ≡ true → Appends before i (cond wanted (a ∷ []) []) before i
+    put_unwanted e = rw (not-true wanted e) (appends_none before i)
+
+    pub put_full : not wanted ≡ false → 256 ≤ i → Appends before i (cond wanted (a ∷ []) []) before i
+    put_full e h = rw (not-false wanted e) (full h)
+
+    pub put_stored : not wanted ≡ false → i < 256 → Appends before i (cond wanted (a ∷ []) []) (set before i a) (i + 1)
+    put_stored e h = rw (not-false wanted e) (stored h)
+
 -- ---- the loop of `put_rank`: the rules below a of one rank are put
 
 pub record Putting (p : ℕ → Bool) (n : ℕ) (before : List ℕ) (i a : ℕ) (places : List ℕ) (next : ℕ) : Type 0 where
@@ -84,6 +136,20 @@ pub record Knowing (ws : List ℕ) (a : ℕ) (all : List ℕ) : Type 0 where
   pub few : a ≤ 256
   pub size : length all ≡ 256
   pub same : (i : ℕ) → i < a → get_or all i 0 ≡ rank_in ws i
+
+pub knowing_start : (ws : List ℕ) {all : List ℕ} → all ≡ replicate 256 0 → Knowing ws 0 all
+knowing_start ws e = record { few = omega arith; size = ap length e ∙ length-replicate {A = ℕ} 256 0; same = λ i h. absurd (omega arith) }
+
+module _ {ws : List ℕ} {a : ℕ} {all : List ℕ} (v : Knowing ws a all) where
+  pub knowing_next : {own : ℕ} → a < 256 → own ≡ rank_in ws a → Knowing ws (a + 1) (set all a own)
+  knowing_next {own} h e = record { few = omega arith; size = length-set all a own ∙ v.size; same = λ i l. go i l (eqb i a) refl }
+    where
+      go : (i : ℕ) → i < a + 1 → (b : Bool) → eqb i a ≡ b → get_or (set all a own) i 0 ≡ rank_in ws i
+      go i l true b = rw (eqb-true i a b) (get_or-set_same all a own 0 (omega (arith, v.size)) ∙ e)
+      go i l false b = get_or-set_other all a i own 0 (eqb-false i a b) ∙ v.same i (omega (arith, eqb-false i a b))
+
+  pub knowing_end : 256 ≤ a → RanksOf ws all
+  knowing_end h = record { size = v.size; same = λ i l. v.same i (omega arith) }
 
 -- ---- the loop of `order`: the rules of rank below r are put
 

@@ -38,6 +38,11 @@ pub record Ranking (ws : List ℕ) (a sum j : ℕ) : Type 0 where
   pub low : sum ≤ j * 64
   pub same : sum + length (picked (used ws) 0 (a * 256)) ≡ length (picked (used ws) 0 ((a * 4 + j) * 64))
 
+pub ranking_start : (ws : List ℕ) (a : ℕ) → Ranking ws a 0 0
+ranking_start ws a =
+    let e : (a * 4 + 0) * 64 ≡ a * 256 = omega arith in
+    record { few = omega arith; low = omega arith; same = rw e (omega arith) }
+
 module _ {ws : List ℕ} {a sum j : ℕ} (v : Ranking ws a sum j) where
   pub ranking_next : j < 4 → get_or ws (a * 4 + j) 0 < 2 ^ 64 → Ranking ws a (sum + ones (get_or ws (a * 4 + j) 0)) (j + 1)
   ranking_next h l =

@@ -1,17 +1,18 @@
 -- The rows of an accepted source, told by its answer.
 -- Assumes nothing.
-use Prim.Native.Nat.{ℕ, ◌/◌, ◌≤◌}
+use Prim.Native.Nat.{ℕ, ◌/◌, ◌≤◌, ◌<◌}
 use native.Mathlib.Omega.{arith}
 use mathlib.Core.Path.{◌≡◌, ap, sym, ◌∙◌}
 use mathlib.Core.Logic.{◌≢◌}
-use mathlib.Core.List.{List}
+use mathlib.Core.List.{List, [], ◌∷◌}
 use lib.ListN.{length}
 use Rattle.std.specs.Prelude.{Err}
 use Rattle.refusals.specs.Numbers.{number_of}
 use Rattle.refusals.proofs.Bounds.{number_bounds}
 use Rattle.rows.specs.Columns.{ROW}
 use Rattle.rows.specs.Rows.{AreRows}
-use Rattle.ll1.specs.Trees.{Trees}
+use Rattle.ll1.specs.Trees.{Trees, nonterminal, Fits, fits_nil, fits_node}
+use Rattle.grammar.specs.Grammar.{rules}
 use Rattle.grammar.specs.Derivation.{Derives}
 use Rattle.grammar.specs.Source.{source_tokens}
 use Rattle.answers.specs.Stages.{finished}
@@ -56,7 +57,27 @@ accepted_rows s n accepted =
       room = rw many (passes_room f.1);
     }
 
--- ---- a refusal has a number
+-- ---- a refusal has a number: an accepted source has a row
+
+some_row : (s : List ℕ) {tree : Trees} → Fits rules (nonterminal 0 ∷ []) tree → 0 < length (drafts s tree)
+unfolding drafts
+some_row s (fits_node e r₁ fits_nil) = omega arith
+
+module _ (s : List ℕ) (n : ℕ) {r : Reply} (e : r ≡ read_reply s n) where
+  -- an answer without rows refuses
+  pub no_rows_refused : r.rows ≡ 0 → (read_answer s n).number ≢ 0
+  no_rows_refused none z =
+      let found = (accepts_passing s n).0 z in
+      let derives = (passes_grammatical found.1).derives in
+      let many : (read_answer s n).rows ≡ length (drafts s found.0) = ap (λ (a : Answer). a.rows) (counts_exactly s n z found.0 derives) in
+      let rows : (read_answer s n).rows ≡ 0 = sym (ap (λ (x : Reply). x.rows) e) ∙ none in
+      omega (arith, some_row s derives.fits)
+
+  -- so does 6
+  pub short_refused : r.number ≡ 6 → (read_answer s n).number ≢ 0
+  short_refused six z = let never : ◌≡◌ {A = ℕ} 6 0 = sym six ∙ ap (λ (x : Reply). x.number) e ∙ z in omega arith
+
+-- an answer that refuses
 
 pub refusal_refused : (s : List ℕ) (n : ℕ) (d : Refusal) → refusal_told d ≡ read_reply s n → (read_answer s n).number ≢ 0
 refusal_refused s n (At reason place line column) e z =

@@ -9,4 +9,5 @@ pub mod LaidLaws
 pub mod MarkLaws
 pub mod SizeLaws
 pub mod ListedCodes
+mod CodeLaws
 mod Examples

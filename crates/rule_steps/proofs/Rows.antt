@@ -1,10 +1,10 @@
 -- What the code tells of one row: the rule that it stands in, and its step.
 use Prim.Native.Nat.{ℕ, zero, suc, ◌+◌, ◌≤◌, ◌<◌, max}
-use mathlib.Core.Path.{◌≡◌, refl, ◌∙◌}
-use mathlib.Core.Bool.{true, false, ◌&&◌}
+use mathlib.Core.Path.{◌≡◌, refl, sym, ◌∙◌}
+use mathlib.Core.Bool.{Bool, true, false, cond, not, ◌&&◌}
 use mathlib.Core.List.{List, [], ◌∷◌}
 use native.Mathlib.Omega.{arith}
-use borrow.Author.Tests.{ne_eqb}
+use borrow.Author.Tests.{ne_eqb, not-true, not-false}
 use lib.ListN.{get_or}
 use Rattle.rows.specs.Codes as code
 use Rattle.rows.specs.Columns as column
@@ -86,3 +86,28 @@ module _ {l : List Step} {a b : ℕ} (e : l ≡ record { from = a; to = b } ∷ 
   pub greatest_one : {m : ℕ} → m ≡ max a b → m ≡ greatest l
   unfolding greatest
   greatest_one h = rw e (omega (arith, h))
+
+-- the greater of two rule numbers, by the test of the code
+module _ (a b : ℕ) {t : Bool} (e : t ≡ (is_rule a && is_rule b)) where
+  pub greater_none : not t ≡ true → 0 ≡ cond (is_rule a && is_rule b) (max a b) 0
+  greater_none h = rw (← e, not-true t h)
+
+  pub greater_both : not t ≡ false → max a b ≡ cond (is_rule a && is_rule b) (max a b) 0
+  greater_both h = rw (← e, not-false t h)
+
+module _ (rows : List (List ℕ)) (r : List ℕ) {a b : ℕ} (e : a ≡ rule_round rows r) (f : b ≡ rule_found rows r) where
+  pub step_added : (words : List ℕ) {now : List ℕ} → now ≡ added words a b → now ≡ all_added words (step_in rows r)
+  unfolding step_in all_added added
+  step_added words {now} g = rw (← e, ← f) (go (is_rule a && is_rule b) refl g)
+    where
+      go : (t : Bool) → (is_rule a && is_rule b) ≡ t → now ≡ added words a b → now ≡ all_added words (cond t (record { from = a; to = b } ∷ []) [])
+      go true i h = h
+      go false i h = h ∙ rw i
+
+  pub step_greatest : {m : ℕ} → m ≡ cond (is_rule a && is_rule b) (max a b) 0 → m ≡ greatest (step_in rows r)
+  unfolding step_in greatest
+  step_greatest {m} g = g ∙ rw (← e, ← f) (go (is_rule a && is_rule b))
+    where
+      go : (t : Bool) → cond t (max a b) 0 ≡ greatest (cond t (record { from = a; to = b } ∷ []) [])
+      go true = let z : max (max a b) 0 ≡ max a b = omega arith in sym z
+      go false = refl

@@ -8,6 +8,7 @@ use lib.ListN.{length, get_or, drop}
 use lib.Seq.{drop-cons, drop-length}
 use Rattle.operators.specs.declared.Scalar.{Scalar}
 use Rattle.stored.specs.Stored.{with_value}
+use Rattle.stored.proofs.StoredLaws.{length_with}
 use Rattle.expression_rows.specs.Ends.{value_after}
 use Rattle.rule_values.specs.Values.{with_rule, with_rules}
 
@@ -24,6 +25,10 @@ module _ (answers gotos checkboxes t : List ℕ) (count : ℕ) (places : List �
       → now ≡ rule values k
   unfolding with_rule
   rule_found_lem values k e f g = g ∙ ap (with_value values k) (f ∙ ap (value_after answers gotos checkboxes values t count) e)
+
+  pub length_rule : (values : List Scalar) (k : ℕ) → length (rule values k) ≡ length values
+  unfolding with_rule
+  length_rule values k = length_with values k (value_after answers gotos checkboxes values t count (get_or places k 0))
 
   -- ---- the loop: finding the values from place i of the order on comes to the same
 

@@ -21,6 +21,7 @@ use Rattle.answers.proofs.Answers.{passes_sound, passes_derived, passes_rows}
 use Rattle.answers.proofs.Demand3.{accepts_passing}
 use Rattle.replies.specs.Replies.{Reply, position_of, accepting, read_replied, read_reply}
 use Rattle.replies.proofs.Laws.{accepting_only}
+use Rattle.read.proofs.AcceptedRows.{no_rows_refused, short_refused}
 use Rattle.saved_answers.specs.Good.{good_answers}
 use Rattle.saved_answers.proofs.GoodTheorems.{all_ascend}
 use Rattle.question_kinds.proofs.Marks.{kinds_held}
@@ -151,3 +152,10 @@ module _ (s answers : List ℕ) (n : ℕ) (o : List ℕ) {t o' : List ℕ} {r : 
       shown_only answers (good_for s answers) (length o) (read_answer s n) (reading_refuses h) in
       let no = ne_eqb (read_answer s n).number 0 h in
       (e ∙ sym (ap (read_replied s) answer), (f ∙ rw (answer, no), g ∙ cleared_whole o ∙ rw (answer, no)))
+
+  -- a refusal has no rows, as no accepted source has
+  pub unshown_refused : r.rows ≡ 0 → Shows s answers n (length o) r t o'
+  unshown_refused none = unshown (no_rows_refused s n e none)
+
+  pub unshown_short : r.number ≡ 6 → Shows s answers n (length o) r t o'
+  unshown_short six = unshown (short_refused s n e six)

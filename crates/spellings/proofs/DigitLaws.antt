@@ -39,6 +39,34 @@ digits_next : (m n : ℕ) (later : List ℕ) → 10 ≤ n → decimal_digits (su
 unfolding decimal_digits
 digits_next m n later h = rw (le-ltb n 10 h)
 
+-- the first number is only asked to be enough
+digits_enough : (m k n : ℕ) (later : List ℕ) → n < m → n < k → decimal_digits m n later ≡ decimal_digits k n later
+digits_enough zero k n later h l = absurd (omega arith)
+digits_enough (suc m) zero n later h l = absurd (omega arith)
+digits_enough (suc m) (suc k) n later h l =
+    either_less n 10 (λ d. digits_last m n later d ∙ sym (digits_last k n later d))
+    (λ d. digits_next m n later d ∙ digits_enough m k (n / 10) ((48 + n % 10) ∷ later) (omega arith) (omega arith) ∙ sym (digits_next k n later d))
+
+-- a digit less
+digits_step : (n : ℕ) (later : List ℕ) → 10 ≤ n → decimal_digits (suc n) n later ≡ decimal_digits (suc (n / 10)) (n / 10) ((48 + n % 10) ∷ later)
+digits_step n later h = digits_next n n later h ∙ digits_enough n (suc (n / 10)) (n / 10) ((48 + n % 10) ∷ later) (omega arith) (omega arith)
+
+-- of a number below 10, 100, 1000, 10000
+more_digits : (n c : ℕ) (later : List ℕ) → 10 ≤ n → ((l : List ℕ) → length (decimal_digits (suc (n / 10)) (n / 10) l) ≡ c + length l) → length (decimal_digits (suc n) n later) ≡ suc c + length later
+more_digits n c later h f = let q = f ((48 + n % 10) ∷ later) in rw (digits_step n later h) (omega (arith, q))
+
+pub one_digit : (n : ℕ) (later : List ℕ) → n < 10 → length (decimal_digits (suc n) n later) ≡ 1 + length later
+one_digit n later h = rw (digits_last n n later h) (omega arith)
+
+pub two_digits : (n : ℕ) (later : List ℕ) → 10 ≤ n → n < 100 → length (decimal_digits (suc n) n later) ≡ 2 + length later
+two_digits n later h g = more_digits n 1 later h (λ l. one_digit (n / 10) l (omega arith))
+
+pub three_digits : (n : ℕ) (later : List ℕ) → 100 ≤ n → n < 1000 → length (decimal_digits (suc n) n later) ≡ 3 + length later
+three_digits n later h g = more_digits n 2 later (omega arith) (λ l. two_digits (n / 10) l (omega arith) (omega arith))
+
+pub four_digits : (n : ℕ) (later : List ℕ) → 1000 ≤ n → n < 10000 → length (decimal_digits (suc n) n later) ≡ 4 + length later
+four_digits n later h g = more_digits n 3 later (omega arith) (λ l. three_digits (n / 10) l (omega arith) (omega arith))
+
 -- std's digits are the same ones
 pub digits_are : (m n : ℕ) (later : List ℕ) → n < m → n < 2 ^ 64 → decimal_digits m n later ≡ decimal n ++ later
 digits_are zero n later h w = absurd (omega arith)
@@ -95,6 +123,9 @@ shift_is (suc k) = let e : 4 * suc k ≡ 4 * k + 4 = omega arith in rw e (pow-ad
 
 pub hex_shifted : (n k : ℕ) → get_or glyphs (n / 2 ^ (4 * k) % 16) 0 ≡ hex_at n k
 hex_shifted n k = rw (shift_is k) (glyph_at (n / 16 ^ k % 16) (omega arith))
+
+pub hex_at_lem : (n k : ℕ) {p d b : ℕ} → p ≡ 16 ^ k → d ≡ n / p % 16 → b ≡ cond (ltb d 10) (48 + d) (87 + d) → b ≡ hex_at n k
+hex_at_lem n k e f g = rw (g, f, e)
 
 -- a number has at most sixteen
 pub hex_past : (n k : ℕ) → n < 2 ^ 64 → 16 ≤ k → 48 ≡ hex_at n k

@@ -1,11 +1,12 @@
 -- Bytes and words written one after another, forward and from the end.
 -- Assumes nothing.
 use Prim.Native.Nat.{ℕ, zero, suc, ◌+◌, ◌-◌, ◌≤◌, ◌<◌, min}
+use native.Mathlib.Numerals.{add-one}
 use native.Mathlib.Omega.{arith}
 use mathlib.Core.Path.{◌≡◌, refl, sym, ap, ◌∙◌}
 use mathlib.Core.List.{List, [], ◌∷◌, ◌++◌, append_assoc, append-nil}
-use lib.ListN.{length, set, take, drop, length-set, length-take, length-append, drop_of_length-le, take-append-drop}
-use lib.Seq.{sets, sets-eq, set_comm, set_out, take_all, take-nil, length-sets, length-take-le}
+use lib.ListN.{length, get_or, set, take, drop, length-set, length-take, length-append, drop_of_length-le, take-append-drop}
+use lib.Seq.{sets, sets-eq, set_comm, set_out, take_all, take-nil, drop-cons, get_or-take, length-sets, length-take-le}
 use borrow.Rule.Slice.PartMut.{put_mid}
 use Rattle.std.proofs.lemmas.List.{drop-drop}
 use Rattle.lexemes.proofs.Lists.{either_less}
@@ -74,6 +75,13 @@ copied o bs at a k h e f =
 
 -- ---- bytes after bytes
 
+pub next_in : (o : List ℕ) (at b : ℕ) → at + 2 ≤ length o → at + 1 < length (set o at b)
+next_in o at b h = rw (length-set o at b) (omega arith)
+
+-- bytes past the end
+pub puts_past : {o bs : List ℕ} {at r : ℕ} → length o ≤ at → r ≡ end_of at (length bs) → at ≤ MOST → Puts o at bs o r
+puts_past {o} {bs} {at} h e l = record { stored = sym (all_bytes o at bs (omega arith) ∙ sets_out o at bs h); end = e }
+
 pub puts_none : (o : List ℕ) (at : ℕ) → Puts o at [] o at
 puts_none o at = record { stored = rw (take-nil (MOST - at)); end = omega arith }
 
@@ -133,6 +141,9 @@ print_before {a = a} {b = b} p q = record { puts = rw text_append (then_before p
 pub put_one : {o o' : List ℕ} {at b r : ℕ} → o' ≡ set o at b → r ≡ end_of at 1 → length o ≤ MOST → Puts o at (b ∷ []) o' r
 put_one {o} {at = at} {b = b} e f h = record { stored = e ∙ sym (all_bytes o at (b ∷ []) h); end = f }
 
+pub one_before : {o o' : List ℕ} {end at b : ℕ} → at ≡ end - 1 → o' ≡ set o at b → PutsBefore o end (b ∷ []) o' at
+one_before f e = record { fit = λ h l. (omega arith, e) }
+
 -- bytes written before the end of as many, where they are counted or far past the output
 pub before_end : {o o' : List ℕ} {at end r : ℕ} {bs : List ℕ} → end ≡ end_of at (length bs) → PutsBefore o end bs o' r → (MOST < at + length bs → (at ≤ MOST) × (length o + length bs ≤ MOST)) → Puts o at bs o' end
 before_end {o} {at = at} {r = r} {bs = bs} e p far =
@@ -160,3 +171,14 @@ count_after h p = omega (arith, p.end)
 pub print_word : {o o₁ o₂ : List ℕ} {at r₁ r₂ gap : ℕ} {w : Word} → Puts o at w o₁ r₁ → Puts o₁ r₁ (gap ∷ []) o₂ r₂ → gap_after w ≡ gap → Prints o at (w ∷ []) o₂ r₂
 unfolding text_of
 print_word p q e = record { puts = rw e (puts_then p q) }
+
+-- ---- the first bytes of a list, one by one
+
+module _ (l : List ℕ) (count k : ℕ) (h : count ≤ length l) where
+  pub part_next : k < count → drop k (take count l) ≡ (get_or l k 0 ∷ []) ++ drop (k + 1) (take count l)
+  part_next n =
+      let all = length-take-le count l h in
+      rw (add-one k) (drop-cons (take count l) k 0 (omega (arith, all)) ∙ ap (λ (b : ℕ). b ∷ drop (suc k) (take count l)) (get_or-take count l k 0 n))
+
+  pub part_end : count ≤ k → drop k (take count l) ≡ []
+  part_end n = let all = length-take-le count l h in let past : length (take count l) ≤ k = omega (arith, all) in drop_of_length-le (take count l) past

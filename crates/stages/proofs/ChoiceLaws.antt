@@ -4,7 +4,7 @@ use mathlib.Core.Path.{◌≡◌, refl, sym, ap, ◌∙◌}
 use mathlib.Core.Bool.{Bool, true, false, cond, ◌&&◌, ◌||◌}
 use mathlib.Core.List.{List, [], ◌∷◌}
 use native.Mathlib.Omega.{arith}
-use borrow.Author.Tests.{eq-eqb, ne_eqb}
+use borrow.Author.Tests.{lt-ltb, le-ltb, eq-eqb, ne_eqb}
 use lib.Dec.{eqb}
 use lib.ListN.{length}
 use Rattle.rows.specs.Codes as code
@@ -57,6 +57,9 @@ pub record Passing (t : List ℕ) (first n i : ℕ) : Type 0 where
   pub on : first ≤ i
   pub same : first + length (leading (drafts_from t first (n - first))) ≡ i + length (leading (drafts_from t i (n - i)))
 
+pub passing_start : (t : List ℕ) (first n : ℕ) → Passing t first n first
+passing_start t first n = record { on = omega arith; same = refl }
+
 module _ {t : List ℕ} {first n i : ℕ} (v : Passing t first n i) where
   stop : leading (drafts_from t i (n - i)) ≡ [] → i ≡ first + length (leading (drafts_from t first (n - first)))
   stop e = sym (v.same ∙ rw e (omega arith))
@@ -91,6 +94,15 @@ pub options_run : (t : List ℕ) (first n e : ℕ) → e ≡ first + length (lea
 options_run t first n e h =
     let f : e - first ≡ length (leading (drafts_from t first (n - first))) = omega arith in
     rw f (leading_run t (n - first) first)
+
+-- ---- an option marked DEFAULT, by its mark m
+
+module _ (d : Draft) {m : ℕ} (e : m ≡ d.default_at) where
+  pub is_default_lem : (m ≡ 0 → ⊥) → is_default d ≡ true
+  is_default_lem h = lt-ltb 0 d.default_at (omega (arith, h))
+
+  pub no_default : m ≡ 0 → is_default d ≡ false
+  no_default h = le-ltb 0 d.default_at (omega arith)
 
 -- ---- a fault of an option
 

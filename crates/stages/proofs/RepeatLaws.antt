@@ -14,7 +14,7 @@ use Rattle.answers.specs.Stages.{cell}
 use Rattle.answers.specs.Drafts.{drafts_from}
 use Rattle.drafts.specs.Faults.{draft_at}
 use Rattle.stages.specs.Repeats.{form_number, written_number, repeated_mark, map_after}
-use Rattle.drafts.proofs.DraftLaws.{drafts_next, drafts_end}
+use Rattle.drafts.proofs.DraftLaws.{drafts_start, drafts_next, drafts_end}
 
 -- ---- the number of a row, by its code k
 
@@ -66,6 +66,10 @@ pub record Repeating (number : Draft → ℕ) (ws₀ t : List ℕ) (n : ℕ) (ws
   pub inside : i ≤ n
   pub mark : repeated_mark number ws₀ (drafts_from t 0 n) ≡ repeated_mark number ws (drafts_from t i (n - i))
   pub map : map_after number ws₀ (drafts_from t 0 n) ≡ map_after number ws (drafts_from t i (n - i))
+
+pub repeating_start : (number : Draft → ℕ) (ws t : List ℕ) (n : ℕ) → Repeating number ws t n ws 0
+repeating_start number ws t n =
+    record { inside = omega arith; mark = ap (repeated_mark number ws) (drafts_start t n); map = ap (map_after number ws) (drafts_start t n) }
 
 module _ {number : Draft → ℕ} {ws₀ t ws : List ℕ} {n i : ℕ} (v : Repeating number ws₀ t n ws i) where
   abbrev Answer : ℕ → List ℕ → Type 0

@@ -3,8 +3,8 @@ use Prim.Native.Nat.{ℕ, zero, suc, ◌≤◌, ◌<◌}
 use mathlib.Core.Path.{◌≡◌, refl}
 use mathlib.Core.Logic.{◌≢◌}
 use mathlib.Core.List.{List}
-use lib.ListN.{replicate, length-set, get_or-eq_default}
-use lib.Seq.{get_or-set_same, get_or-set_other}
+use lib.ListN.{length, replicate, length-set, get_or-eq_default}
+use lib.Seq.{get_or-set_same, get_or-set_other, set_out}
 use Rattle.operators.specs.declared.Scalar.{Scalar}
 use Rattle.operators.specs.declared.Scalar.TheVariants.{Undefined}
 use Rattle.stored.specs.Stored.{room, value_at, with_value}
@@ -20,6 +20,13 @@ module _ (s : List Scalar) (k : ℕ) where
   value_outside h = get_or-eq_default s Undefined h
 
   module _ (v : Scalar) where
+    -- past the end nothing is put
+    pub with_outside_lem : room s ≤ k → with_value s k v ≡ s
+    with_outside_lem h = set_out s k v h
+
+    pub length_with : length (with_value s k v) ≡ length s
+    length_with = length-set s k v
+
     pub room_with : room (with_value s k v) ≡ room s
     room_with = length-set s k v
 

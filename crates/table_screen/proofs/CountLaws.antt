@@ -33,7 +33,7 @@ module _ (t : List ℕ) where
   unfolding own_in
   one_other i {k} e h = rw (← e, ne_eqb k RULE h)
 
-  one_most : (i : ℕ) {m : ℕ} → m ≡ one i → m ≤ 1
+  pub one_most : (i : ℕ) {m : ℕ} → m ≡ one i → m ≤ 1
   unfolding own_in
   one_most i e = rw e (go (is_rule_row (cell_at t i column.CODE)))
     where
@@ -68,7 +68,7 @@ module _ (t : List ℕ) where
     counting_start = record { few = omega arith; same = omega (arith, left_all) }
 
     module _ {rules i : ℕ} (v : Counting rules i) where
-      counting_next : {m : ℕ} → i < count → m ≡ one i → Counting (rules + m) (i + 1)
+      pub counting_next : {m : ℕ} → i < count → m ≡ one i → Counting (rules + m) (i + 1)
       counting_next h e = record { few = omega (arith, one_most i e, v.few); same = omega (arith, left_next i h, v.same) }
 
       -- a row that is a rule's, and one that is not

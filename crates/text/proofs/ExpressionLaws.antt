@@ -97,6 +97,10 @@ module _ (found : ℕ → List ℕ) (t : List ℕ) where
   is_atom (spans_negation s c) n h = absurd (n c)
   is_atom (spans_binary {k = k} o s r c) n h = absurd (let q : code_level (cell_at t k column.CODE) ≡ level o = rw c (operator_level o) in omega (arith, level_low o))
 
+-- the same words
+pub as_words_before : {o o' : List ℕ} {end r : ℕ} {a b : List Word} → a ≡ b → PrintsBefore o end a o' r → PrintsBefore o end b o' r
+as_words_before e p = rw (← e) p
+
 -- ---- what is printed by the last row's code
 
 -- nothing where there is no row

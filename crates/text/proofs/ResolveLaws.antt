@@ -18,7 +18,7 @@ use Rattle.replies.specs.Replies.{Reply, accepting, read_reply, resolve_replied,
 use Rattle.replies.proofs.Laws.{accepting_only}
 use Rattle.read.specs.declared.Refusal as read
 use Rattle.read.specs.Answers as read_answers
-use Rattle.read.proofs.AcceptedRows.{refusal_refused}
+use Rattle.read.proofs.AcceptedRows.{no_rows_refused, short_refused, refusal_refused}
 use Rattle.std.specs.Prelude.{Result, Err}
 use Rattle.text.specs.declared.Resolved.{Resolved}
 use Rattle.text.specs.declared.Refusal.{Refusal}
@@ -86,6 +86,18 @@ unresolved s n o e h f g =
       e ∙ sym (ap (resolve_replied s) answer),
       (f ∙ ap (table_for s n) number, g ∙ cleared_whole o ∙ rw (answer, ne_eqb (read_answer s n).number 0 h)),
     )
+
+-- a refusal has no rows, as no accepted source has
+pub unresolved_refused :
+    (s : List ℕ) (n : ℕ) (o : List ℕ) {t o' : List ℕ} {r : Reply}
+    → r ≡ read_reply s n → r.rows ≡ 0 → t ≡ read_table s n → o' ≡ cleared o 0 → Resolves s n (length o) r t o'
+unresolved_refused s n o e none f g = unresolved s n o e (no_rows_refused s n e none) f g
+
+pub unresolved_short :
+    (s : List ℕ) (n : ℕ) (o : List ℕ) {t o' : List ℕ} {r : Reply}
+    → r ≡ read_reply s n → r.number ≡ 6 → t ≡ read_table s n → o' ≡ cleared o 0 → Resolves s n (length o) r t o'
+unresolved_short s n o e six f g =
+    unresolved s n o e (short_refused s n e six) f g
 
 -- a refusal of reading
 pub unread :

@@ -10,7 +10,7 @@ const NUMBER: usize = 4;
 
 // The number behind the last case, and where the input ends or stops within a number.
 // Stays: it stands in the packed inputs, so it is a number; `read_count` tells of it by an Option.
-const END: u64 = 0xFFFFFFFF;
+pub const END: u64 = 0xFFFFFFFF;
 
 // 2^56: a number below it has room for one more byte.
 const TOP: u64 = 72057594037927936;

@@ -41,6 +41,13 @@ fitted_fits v h = rw (lt-ltb v (2 ^ 64) h)
 pub fitted_large : (v : ℕ) → 2 ^ 64 ≤ v → fitted v ≡ None
 fitted_large v h = rw (le-ltb v (2 ^ 64) h)
 
+-- `limit` is the largest number whose product with the base fits
+pub product_large : (base limit v : ℕ) → 2 ^ 64 ≤ limit * base + base → limit < v → 2 ^ 64 ≤ v * base
+product_large base limit v top h = omega (arith, mul-le-mul_right base h)
+
+pub product_fits : (base limit v : ℕ) → limit * base < 2 ^ 64 → v ≤ limit → v * base < 2 ^ 64
+product_fits base limit v top h = omega (arith, mul-le-mul_right base h)
+
 -- digits from the place i on, after digits of the value v
 module _ (base v : ℕ) (s : List ℕ) (i : ℕ) where
   pub value_end : length s ≤ i → value_from base v (drop i s) ≡ v

@@ -8,7 +8,7 @@ use native.Mathlib.Nat.{add-zero, zero-add, suc-add, mul-zero, mul_assoc, mul_co
 use native.Mathlib.Omega.{arith}
 use lib.Dec.{ltb}
 use lib.ListN.{length, get_or, take, drop}
-use lib.Seq.{get_or-drop, take_all}
+use lib.Seq.{get_or-drop, drop-drop, take_all}
 use borrow.Author.Tests.{ltb-true, lt-ltb}
 use Rattle.std.specs.Int.{w64, from_le_bytes, sum_through, byte_worth}
 use Rattle.wordlist.specs.Filled.{packed}
@@ -33,10 +33,20 @@ unfolding packed
 one [] = refl
 one (x ∷ t) = omega arith
 
-module _ (s : List ℕ) where
-  packed_split : (a b : ℕ) → packed (take (a + b) s) ≡ packed (take a s) + 256 ^ a * packed (take b (drop a s))
-  packed_split a b = split a b s
+two : (t : List ℕ) → packed (take 2 t) ≡ get_or t 0 0 + 256 * get_or t 1 0
+unfolding packed
+two [] = refl
+two (x ∷ []) = omega arith
+two (x ∷ y ∷ t) = omega arith
 
+module _ (s : List ℕ) (i : ℕ) where
+  pub packed_two : packed (take 2 (drop i s)) ≡ get_or s i 0 + 256 * get_or s (i + 1) 0
+  packed_two = two (drop i s) ∙ simp (get_or-drop, add-zero)
+
+  pub packed_split : (a b : ℕ) → packed (take (a + b) (drop i s)) ≡ packed (take a (drop i s)) + 256 ^ a * packed (take b (drop (i + a) s))
+  packed_split a b = split a b (drop i s) ∙ simp drop-drop
+
+module _ (s : List ℕ) where
   -- the number of the first bytes is the sum of what each is worth
   packed_sum : (k : ℕ) → packed (take (suc k) s) ≡ sum_through (λ i. byte_worth i (get_or s i 0)) k
   packed_sum zero = one s

@@ -7,12 +7,13 @@ ghost use Rattle.operators.specs.Values.{shifted_left, shifted_right, operation_
 
 use rows::codes;
 
-// TRUE or FALSE, an unsigned 64-bit number, or undefined.
+// TRUE or FALSE, an unsigned 64-bit number, or undefined. `Undefined` stands first, so that its bytes are zeros: arrays of
+// it are then filled by one memset, as `evaluate` does for each expression.
 #[derive(Clone, Copy, Debug, PartialEq, Eq)]
 pub enum Scalar {
+    Undefined,
     Boolean(bool),
     Number(u64),
-    Undefined,
 }
 
 // 2^32: a number of 64 bits has a lower and an upper half below it.

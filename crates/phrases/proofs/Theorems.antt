@@ -67,7 +67,7 @@ module _ (s : List ℕ) (n : ℕ) (t : Token) (was : Noted) (k : ℕ) (l : List 
 
   -- ---- the branches of a phrase by its number
 
-  read_refused : n ≢ 0 → phrase_read s n t was k l ≡ unread n t was l
+  pub read_refused : n ≢ 0 → phrase_read s n t was k l ≡ unread n t was l
   unfolding phrase_read
   read_refused h = rw (ne_eqb n 0 h)
 

@@ -127,11 +127,11 @@ groups_halt w = record { walked = λ c l. deep_halts (w.walked c l) }
 module _ {s : List ℕ} {left parent : ℕ} where
   -- ---- NOT atom, and ( expression )
 
-  not_deep : {st : Standing} {t : List ℕ} → left ≡ 0 → st.no ≡ 0 → st.token.class ≡ class.«NOT» → ReadsOperand s left <atom> parent st (deep st) t t
+  pub not_deep : {st : Standing} {t : List ℕ} → left ≡ 0 → st.no ≡ 0 → st.token.class ≡ class.«NOT» → ReadsOperand s left <atom> parent st (deep st) t t
   unfolding rules lookahead
   not_deep n z c = record { walked = λ b l. rw n (deep_walked {i = 0} {k = class.«NOT»} {a = group (t class.«NOT» ∷ r <atom> ∷ [])} refl refl refl (rw (le-ltb 16 b l)) z c (omega arith)) }
 
-  group_deep : {st : Standing} {t : List ℕ} → left ≡ 0 → st.no ≡ 0 → st.token.class ≡ open_paren → ReadsOperand s left <atom> parent st (deep st) t t
+  pub group_deep : {st : Standing} {t : List ℕ} → left ≡ 0 → st.no ≡ 0 → st.token.class ≡ open_paren → ReadsOperand s left <atom> parent st (deep st) t t
   unfolding rules lookahead symbols_of phrase_symbols
   group_deep n z c = record { walked = λ b l. rw n (deep_walked {i = 1} {k = open_paren} {a = group (t open_paren ∷ r <or> ∷ symbols_of GROUP_CLOSE)} refl refl refl (rw (le-ltb 16 b l)) z c (omega arith)) }
 

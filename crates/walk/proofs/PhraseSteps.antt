@@ -247,7 +247,7 @@ module _ (s : List ℕ) (parent : ℕ) (st : Standing) {l : List ℕ} {c : Curso
   abbrev rule : Draft
   rule = rule_draft parent st.token.start (st.rules + 1) (kept l 0)
 
-  rule_on :
+  pub rule_on :
       {cells t t' : List ℕ}
       → c.no ≡ 0 → cells ≡ encoded rule → t' ≡ with_row t st.rows cells
       → Reads s (symbols_of RULE_OPEN) (Counted (RuleRow s parent)) st (ruled st c) t t'

@@ -21,7 +21,7 @@ impl Output<'_> {
         self.at = self.at.saturating_add(1);
     }
 
-    // The bytes of a text.
+    // The bytes of a text. They are copied one by one, so that the archive for C needs no `memmove` from outside.
     pub fn write(&mut self, text: &[u8])
         ensures { Written self.old text.now self.new }
     {
@@ -29,7 +29,10 @@ impl Output<'_> {
         let next = self.at.saturating_add(text.len());
         let start = self.at.min(room);
         let end = next.min(room);
-        self.bytes[start..end].copy_from_slice(&text[..end - start]);
+        let space = &mut self.bytes[start..end];
+        for (k, slot) in space.iter_mut().enumerate() {
+            *slot = text[k];
+        }
         self.at = next;
     }
 

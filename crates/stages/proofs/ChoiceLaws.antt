@@ -9,12 +9,16 @@ use lib.Dec.{eqb}
 use lib.ListN.{length}
 use Rattle.rows.specs.Codes as code
 use Rattle.rows.specs.Columns as column
+use Rattle.rows.specs.Draft.{mark_of}
+use Rattle.rows.specs.Table.{whole_rows}
 use Rattle.answers.specs.Rows.{Draft}
 use Rattle.answers.specs.Stages.{cell, is, any, below}
 use Rattle.answers.specs.Drafts.{drafts_from}
 use Rattle.drafts.specs.Faults.{draft_at}
 use Rattle.stages.specs.Choices.{limits_fault, leading, is_default, option_fault, choice_fault}
-use Rattle.drafts.proofs.DraftLaws.{drafts_next, drafts_end, drafts_last}
+use Rattle.rows.proofs.RowLaws.{inside_or_not}
+use Rattle.rows.proofs.CellLaws.{cell_outside}
+use Rattle.drafts.proofs.DraftLaws.{limit_read, default_read, drafts_next, drafts_end, drafts_last}
 use Rattle.drafts.proofs.RowTests.{any_cons, any_snoc}
 
 -- ---- a numeric's limits
@@ -110,6 +114,14 @@ pub option_none : (before : List Draft) → option_fault before [] ≡ 0
 unfolding option_fault
 option_none before = refl
 
+-- a row past the whole ones has no marks
+module _ (t : List ℕ) (i : ℕ) (h : whole_rows t ≤ i) where
+  limit_past : (draft_at t i).limit_at ≡ 0
+  limit_past = sym (limit_read t i) ∙ ap mark_of (cell_outside t i column.SECOND h)
+
+  default_past : (draft_at t i).default_at ≡ 0
+  default_past = sym (default_read t i) ∙ ap mark_of (cell_outside t i column.FLAGS h)
+
 abbrev pub same_value : Draft → Draft → Bool
 same_value d e = eqb (cell column.A e) (cell column.A d)
 
@@ -134,6 +146,22 @@ module _ (before : List Draft) (d : Draft) (ds : List Draft) where
     unfolding option_fault
     option_good f = rw (e, f)
 
+  -- an option without marks
+  option_unmarked : d.limit_at ≡ 0 → d.default_at ≡ 0 → option_fault (d ∷ before) ds ≡ 0 → option_fault before (d ∷ ds) ≡ 0
+  option_unmarked l m later = go (any (same_value d) before) refl
+    where
+      go : (b : Bool) → any (same_value d) before ≡ b → option_fault before (d ∷ ds) ≡ 0
+      go true e = option_value_lem e ∙ l
+      go false e = option_good e (rw (no_default d (sym m) refl) refl) ∙ later
+
+-- past the whole rows none is at fault
+option_past : (t : List ℕ) (m i : ℕ) (before : List Draft) → whole_rows t ≤ i → option_fault before (drafts_from t i m) ≡ 0
+unfolding drafts_from
+option_past t zero i before h = option_none before
+option_past t (suc m) i before h =
+    let d = draft_at t i in
+    option_unmarked before d (drafts_from t (i + 1) m) (limit_past t i h) (default_past t i h) (option_past t m (i + 1) (d ∷ before) (omega (arith, h)))
+
 -- the outer loop of `bad_option`: the options before row i are without fault, and the others have the same first fault as all
 pub record Choosing (t : List ℕ) (first n i : ℕ) : Type 0 where
   pub on : first ≤ i
@@ -147,6 +175,10 @@ choosing_start t first n = record { on = omega arith; before = []; seen = λ p. 
 module _ {t : List ℕ} {first n i : ℕ} (v : Choosing t first n i) where
   pub choosing_end : n ≤ i → 0 ≡ option_fault [] (drafts_from t first (n - first))
   choosing_end h = sym (v.same ∙ rw (drafts_end t i n h) (option_none v.before))
+
+  -- at the end, or past the whole rows
+  pub choosing_stop : (i < whole_rows t → n ≤ i) → 0 ≡ option_fault [] (drafts_from t first (n - first))
+  choosing_stop f = inside_or_not t i (λ h. choosing_end (f h)) (λ h. sym (v.same ∙ option_past t (n - i) i v.before h))
 
   module _ (h : i < n) where
     at_row : option_fault [] (drafts_from t first (n - first)) ≡ option_fault v.before (draft_at t i ∷ drafts_from t (i + 1) (n - (i + 1)))

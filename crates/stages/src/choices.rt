@@ -2,14 +2,16 @@
 ghost use Rattle.std.specs.Prelude.{◌≡◌, ◌&&◌, [], ◌+◌, ◌-◌, ◌<◌, ◌≤◌, length};
 ghost use Rattle.answers.specs.Stages.{any, below};
 ghost use Rattle.answers.specs.Drafts.{drafts_from};
+ghost use Rattle.rows.specs.Columns as column;
 ghost use Rattle.rows.specs.Marks.{marked};
+ghost use Rattle.rows.specs.Table.{whole_rows, cell_at};
 ghost use Rattle.drafts.specs.Faults.{draft_at, first_fault};
 ghost use Rattle.stages.specs.Choices.{limits_fault, leading, is_default, option_fault, choice_fault};
 
 use drafts::{default_mark, limit_mark};
-use rows::columns::{A, B, CODE, D, SIZE};
+use rows::columns::{A, B, CODE, D, ROW, SIZE};
 use rows::displays::INT_DEC;
-use rows::{cell, codes};
+use rows::{cell, codes, whole_rows};
 
 // x is below y, as two numbers of the numeric in this row: in the order of its size and display.
 fn below(table: &[u64], row: usize, x: u64, y: u64) -> bool
@@ -62,16 +64,26 @@ fn repeats_default(table: &[u64], first: usize, row: usize) -> bool
     has_default(table, row) && (first..row).any(|earlier| has_default(table, earlier))
 }
 
+// The value of the option in a whole row.
+fn option_value(table: &[u64], row: usize) -> u64
+    requires { row < whole_rows table.now }
+    ensures { result ≡ cell_at table.now row column.A }
+{
+    table[row * ROW + A]
+}
+
 // The first fault of the options in rows `first` to `end`: a value or a DEFAULT that an earlier one has.
 fn bad_option(table: &[u64], first: usize, end: usize) -> Option<usize>
     ensures { marked result ≡ option_fault [] (drafts_from table.now first (end - first)) }
 {
     // Stays: nested loops left by a label; what the project names for the search for a repeated value (a rule of the project).
     let mut fault = None;
-    'search: for row in first..end {
-        let value = cell(table, row, A);
+    // Rows past the whole ones are at no fault, so a value is read without asking whether its row is whole.
+    let stop = end.min(whole_rows(table));
+    'search: for row in first..stop {
+        let value = option_value(table, row);
         for earlier in first..row {
-            if cell(table, earlier, A) == value {
+            if option_value(table, earlier) == value {
                 fault = limit_mark(table, row);
                 break 'search;
             }
